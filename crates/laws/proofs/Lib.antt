@@ -1,0 +1,5 @@
+pub mod Powers
+pub mod Integer
+pub mod Signed
+pub mod Walk
+pub mod Lists
