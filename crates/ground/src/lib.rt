@@ -21,6 +21,12 @@ pub enum Ground {
     ValueRange,
 }
 
+// The answer of a check: nothing found, or the first ground that applies and the block that it was found in.
+pub enum Verdict {
+    Accepted,
+    Refused(Ground, u64),
+}
+
 // The ground's number in document 01.
 pub fn number(g: Ground) -> u64
     ensures { λ r. ⌜ r ≡ numberOf g ⌝ }
