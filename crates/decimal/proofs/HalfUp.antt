@@ -1,6 +1,6 @@
 -- Laws of rounding half up: a multiple of the divisor comes out whole, and so does the quotient of a factor.
 -- Assumes nothing.
-use mathlib.Core.Path.{_≡_, refl, ap, sym, _∙_}
+use mathlib.Core.Path.{_≡_, ap, sym, _∙_}
 use Prim.Native.Nat.{ℕ, _+_, _*_, _/_, _%_, _≤_, _<_}
 use native.Mathlib.Nat.{add-comm, add-mul-div-right, div-le-of-le-mul, div-lt-iff-lt-mul, div-eq-of-lt, div-eq-of-lt-le, div-add-mod', mul-le-mul-right}
 use native.Mathlib.Omega.{arith}

@@ -1,6 +1,6 @@
 -- A present value and the exact value are at most the tolerance apart. Assumes nothing.
 use Prim.Native.Nat.{ℕ, suc, _+_, _-_, _*_, _^_, _≤_, _<_}
-use native.Mathlib.Nat.{le-trans, mul-sub, mul-le-mul-left, mul-le-mul-right, le-of-mul-le-mul-right, lt-of-mul-lt-mul-right, lt-div-mul-add, pow-le-pow-left, one-le-pow}
+use native.Mathlib.Nat.{mul-sub, mul-le-mul-left, mul-le-mul-right, le-of-mul-le-mul-right, lt-of-mul-lt-mul-right, lt-div-mul-add, pow-le-pow-left, one-le-pow}
 use native.Mathlib.Omega.{arith}
 use Rattle.laws.proofs.Powers.{mul-pow, sub-mul, le-of-pow-le}
 use Rattle.decimal.specs.Product.{unit}

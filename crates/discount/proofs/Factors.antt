@@ -1,5 +1,5 @@
 -- The factor of a rate and a day: its bounds, and its distance from the root of (million / (million + rate)) ^ days. Assumes nothing.
-use mathlib.Core.Path.{_≡_, sym, ap, _∙_}
+use mathlib.Core.Path.{_≡_, ap, _∙_}
 use Prim.Native.Nat.{ℕ, suc, _+_, _-_, _*_, _/_, _%_, _^_, _≤_}
 use native.Mathlib.Nat.{le-refl, le-trans, mul-le-mul-right, div-add-mod', zero-mul, zero-add, add-zero, sub-zero}
 use native.Mathlib.Omega.{arith}

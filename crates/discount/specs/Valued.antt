@@ -2,7 +2,6 @@
 use Prim.Native.Nat.{ℕ}
 use mathlib.Core.Bool.{Bool, _||_, cond}
 use lib.Dec.{ltb}
-use Rattle.ground.specs.declared.Ground.{Ground}
 use Rattle.ground.specs.declared.Ground.the-variants.{ValueRange}
 use Rattle.decimal.specs.Product.{unit}
 use Rattle.discount.specs.Discount.{million, presentValue, tolerance}

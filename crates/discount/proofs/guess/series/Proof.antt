@@ -1,6 +1,6 @@
 -- `discount::guess::series` meets its contract. The invariant: s is at most one, and i at most 9. The measure is i.
 -- Assumes nothing.
-use Prim.Native.Nat.{ℕ, _+_, _*_, _≤_}
+use Prim.Native.Nat.{_+_, _*_, _≤_}
 use native.Mathlib.Nat.{div-le-self}
 use native.Mathlib.Omega.{arith}
 use borrow.Author.Needs.{needs}

@@ -1,7 +1,6 @@
 -- `discount::factor::Factor::compound` meets its contract. The invariant: after i turns r is the product taken i times. Assumes nothing.
 use mathlib.Core.Path.{_≡_, sym, ap, _∙_}
 use Prim.Native.Nat.{ℕ, _-_, _≤_}
-use native.Mathlib.Nat.{le-trans}
 use native.Mathlib.Omega.{arith}
 use Rattle.decimal.specs.Product.{product}
 use Rattle.discount.specs.Discount.{compound}
