@@ -22,10 +22,10 @@ pub record Limits (n : Node) : Type 0 where
   pub second : natAbs (n .second) ≤ 1000000
   pub third : natAbs (n .third) ≤ 1000000
 
--- every node of a list
-abbrev pub AllLimits : List Node → Type 0
-AllLimits [] = Unit {0}
-AllLimits (n ∷ ns) = Limits n × AllLimits ns
+-- every node of a list is such
+abbrev pub Each : (Node → Type 0) → List Node → Type 0
+Each P [] = Unit {0}
+Each P (n ∷ ns) = P n × Each P ns
 
 -- what a lookup past the end of a list of nodes answers
 abbrev pub zeroNode : Node

@@ -1,5 +1,5 @@
 -- The rate of a curve on a day (document 01, "Rates and scenarios"). Assumes nothing.
-use Prim.Native.Nat.{ℕ}
+use Prim.Native.Nat.{ℕ, _≤_, _<_}
 use mathlib.Core.Bool.{cond}
 use mathlib.Core.List.{List, [], _∷_}
 use lib.Dec.{ltb}
@@ -18,6 +18,11 @@ unfoldable pub interpolated : Node → Node → ℕ → ℤ
 interpolated a b t =
     pos (a .rate)
     +ℤ quotZ ((pos (b .rate) -ℤ pos (a .rate)) *ℤ (pos t -ℤ pos (a .day))) (pos (b .day) -ℤ pos (a .day))
+
+-- day t lies from node a's day to before node b's
+pub record Between (a b : Node) (t : ℕ) : Type 0 where
+  pub from : a .day ≤ t
+  pub before : t < b .day
 
 -- on a day not before node a's, with the nodes that follow a: after the last node the rate is its own.
 -- An interpolated rate is never negative (`interpolated-is` of proofs/Interpolation.antt), so natAbs only turns ℤ into ℕ

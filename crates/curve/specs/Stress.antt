@@ -1,7 +1,7 @@
 -- Nodes and curves under a scenario (document 01, "Rates and scenarios"). Assumes nothing.
 use Prim.Native.Nat.{ℕ, min}
-use mathlib.Core.List.{List, map, _++_}
-use lib.ListN.{take, drop}
+use mathlib.Core.List.{map, _++_}
+use lib.ListN.{drop}
 use lib.IntN.{ℤ, pos, negsuc, _+ℤ_, _*ℤ_}
 use lib.Signed.{quotZ}
 use Rattle.curve.specs.declared.Node.{Node}
