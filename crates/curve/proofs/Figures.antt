@@ -1,13 +1,14 @@
 -- The checked figures of rates and coefficients (document 01, "Checked figures"), and stresses about zero, computed from the definitions.
 -- Assumes nothing.
 use mathlib.Core.Path.{_≡_, refl}
-use mathlib.Core.List.{List, [], _∷_, map}
+use mathlib.Core.List.{List, [], _∷_, map, flatMap}
 use Prim.Native.Nat.{ℕ}
 use lib.IntN.{ℤ, pos, negℤ}
 use Rattle.laws.specs.Walk.{table}
 use Rattle.curve.specs.declared.Node.{Node}
+use Rattle.curve.specs.declared.Component.{Component}
 use Rattle.curve.specs.Rates.{interpolated, rateFrom, rateAt}
-use Rattle.curve.specs.Scenarios.{coefficient, coefficients, scenario}
+use Rattle.curve.specs.Scenarios.{coefficient, coefficients, scenario, scenarios}
 use Rattle.curve.specs.Stress.{shifted, stressed}
 
 -- a node with no components
@@ -30,6 +31,25 @@ figures-coefficients = refl
 no-steps : coefficients (record { steps = 0; range = 100 }) ≡ pos 0 ∷ []
 unfolding table coefficient coefficients
 no-steps = refl
+
+-- the first component slowest, the third fastest
+abbrev one-step : ℕ → Component
+one-step g = record { steps = 1; range = g }
+
+order
+    : scenarios (record { first = one-step 1; second = record { steps = 0; range = 0 }; third = one-step 3 })
+    ≡ scenario (negℤ (pos 1)) (pos 0) (negℤ (pos 3))
+    ∷ scenario (negℤ (pos 1)) (pos 0) (pos 0)
+    ∷ scenario (negℤ (pos 1)) (pos 0) (pos 3)
+    ∷ scenario (pos 0) (pos 0) (negℤ (pos 3))
+    ∷ scenario (pos 0) (pos 0) (pos 0)
+    ∷ scenario (pos 0) (pos 0) (pos 3)
+    ∷ scenario (pos 1) (pos 0) (negℤ (pos 3))
+    ∷ scenario (pos 1) (pos 0) (pos 0)
+    ∷ scenario (pos 1) (pos 0) (pos 3)
+    ∷ []
+unfolding table coefficient coefficients scenarios flatMap
+order = refl
 
 -- ---- about zero: a node at 5 millionths whose first component is 1
 

@@ -1,3 +1,4 @@
+pub mod Figures
 pub mod Line
 pub mod Interpolation
 pub mod Search
@@ -6,4 +7,3 @@ pub mod Coefficients
 pub mod Scenarios
 pub mod Shifting
 pub mod Stress
-pub mod Figures

@@ -120,10 +120,13 @@ impl Components {
         let c = self.third;
         let fast = c.coefficient_count();
         let slow = b.coefficient_count() * fast;
+        let high = s / slow;
         let rest = s % slow;
-        let first = a.coefficient(s / slow);
-        let second = b.coefficient(rest / fast);
-        let third = c.coefficient(rest % fast);
+        let middle = rest / fast;
+        let low = rest % fast;
+        let first = a.coefficient(high);
+        let second = b.coefficient(middle);
+        let third = c.coefficient(low);
         Scenario {
             first: first,
             second: second,

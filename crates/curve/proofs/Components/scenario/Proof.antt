@@ -20,29 +20,29 @@ mul-slow : tie.Need-mul-slow
 mul-slow c =
     rw (c .coefficient-count2 .ensures, c .before .coefficient-count .ensures) (record { fits = omega (arith, slow-most _ (c .before .before .before .before .before .pre .0)) })
 
+div-high : tie.Need-div-high
+div-high c =
+    rw (c .coefficient-count2 .ensures, c .before .coefficient-count .ensures) (slow-some (c .before .before .before .before .before .args .self))
+
 rem-rest : tie.Need-rem-rest
 rem-rest c =
     rw (c .coefficient-count2 .ensures, c .before .coefficient-count .ensures) (slow-some (c .before .before .before .before .before .args .self))
 
-div-coefficient : tie.Need-div-coefficient
-div-coefficient c =
-    rw (c .coefficient-count2 .ensures, c .before .coefficient-count .ensures) (slow-some (c .before .before .before .before .before .args .self))
+div-middle : tie.Need-div-middle
+div-middle c = search needs
+
+rem-low : tie.Need-rem-low
+rem-low c = search needs
 
 coefficient-requires : tie.Need-coefficient-requires
 coefficient-requires c κs =
     let s = c .before .before .before .before .before in
     rw (c .coefficient-count2 .ensures, c .before .coefficient-count .ensures) (s .pre .0 .first, first-in (s .args .self) _ (s .pre .1))
 
-div-coefficient-2 : tie.Need-div-coefficient-2
-div-coefficient-2 c = search needs
-
 coefficient-requires-2 : tie.Need-coefficient-requires-2
 coefficient-requires-2 c κs =
     let s = c .before .before .before .before .before .before in
     rw (c .before .coefficient-count2 .ensures, c .before .before .coefficient-count .ensures) (s .pre .0 .second, second-in (s .args .self) _ (s .pre .1))
-
-rem-coefficient : tie.Need-rem-coefficient
-rem-coefficient c = search needs
 
 coefficient-requires-3 : tie.Need-coefficient-requires-3
 coefficient-requires-3 c κs =
@@ -72,11 +72,11 @@ scenario-spec =
     coefficient-count-requires
     coefficient-count-requires-2
     mul-slow
+    div-high
     rem-rest
-    div-coefficient
+    div-middle
+    rem-low
     coefficient-requires
-    div-coefficient-2
     coefficient-requires-2
-    rem-coefficient
     coefficient-requires-3
     returns)
