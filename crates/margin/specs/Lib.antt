@@ -1,0 +1,5 @@
+pub mod Exposure
+pub mod Ladder
+pub mod Losses
+pub mod Margins
+pub mod Demand
