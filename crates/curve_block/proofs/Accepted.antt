@@ -78,7 +78,7 @@ module _ (b : List ℕ) (h : breaksNode b ≡ false) where
 -- ---- the block
 
 -- the node in place i of the curve's array
-place : (b : List ℕ) (i : ℕ) → i < 24 → getD (table (nodeAt b) 0 24) i zeroNode ≡ nodeAt b i
+pub place : (b : List ℕ) (i : ℕ) → i < 24 → getD (table (nodeAt b) 0 24) i zeroNode ≡ nodeAt b i
 place b i l = getD-table (nodeAt b) 0 24 i zeroNode l ∙ ap (nodeAt b) (zero-add i)
 
 pub proper-curve : (b : List ℕ) (k : ℕ) → numbersSound b k ≡ true → breaksNode b ≡ false → Proper (curveOf b)
