@@ -11,7 +11,8 @@ use lib.IntN.{ℤ, pos, negsuc, natAbs}
 use lib.ListN.{getD}
 use Rattle.laws.specs.Every.{every}
 use Rattle.laws.specs.Walk.{table}
-use Rattle.laws.proofs.Tests.{both, all-at}
+use Rattle.laws.proofs.Bools.{both}
+use Rattle.laws.proofs.Tests.{all-at}
 use Rattle.laws.proofs.Every.{every-at}
 use Rattle.laws.proofs.Walk.{length-table, getD-table}
 use Rattle.ground.specs.declared.Verdict.the-variants.{Accepted}

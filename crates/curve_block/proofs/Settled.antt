@@ -8,7 +8,8 @@ use native.Mathlib.Omega.{arith}
 use borrow.Author.Tests.{eqb-true, not-false}
 use lib.ListN.{length, getD}
 use lib.Seq.{ext-getD}
-use Rattle.laws.proofs.Tests.{both, all-at}
+use Rattle.laws.proofs.Bools.{both}
+use Rattle.laws.proofs.Tests.{all-at}
 use Rattle.laws.proofs.Every.{every-at}
 use Rattle.ground.specs.declared.Verdict.the-variants.{Accepted}
 use Rattle.layout.specs.Bytes.{byteAt, AreBytes, zeros}

@@ -6,7 +6,7 @@ use native.Mathlib.Decide.{ℕ-discrete}
 use native.Mathlib.Omega.{arith}
 use Rattle.laws.specs.Walk.{over}
 use Rattle.laws.specs.Every.{every}
-use Rattle.laws.proofs.Tests.{both}
+use Rattle.laws.proofs.Bools.{both}
 use Rattle.laws.proofs.Walk.{over-step, over-end}
 
 module _ (f : ℕ → Bool) where

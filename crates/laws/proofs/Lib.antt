@@ -3,5 +3,6 @@ pub mod Integer
 pub mod Signed
 pub mod Walk
 pub mod Lists
+pub mod Bools
 pub mod Every
 pub mod Tests

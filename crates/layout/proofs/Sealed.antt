@@ -9,7 +9,7 @@ use native.Mathlib.Omega.{arith}
 use borrow.Author.Tests.{eq-eqb, eqb-true, not-false}
 use lib.Dec.{eqb}
 use lib.ListN.{length}
-use Rattle.laws.proofs.Tests.{both}
+use Rattle.laws.proofs.Bools.{both}
 use Rattle.layout.specs.Bytes.{byteAt, part, put, AreBytes}
 use Rattle.layout.specs.Field.{numberAt, u16At, u32At, bytesOf}
 use Rattle.layout.specs.Check.{words, checkOf, sealed, breaksCheck, breaksPlace}
