@@ -3,3 +3,4 @@ pub mod Integer
 pub mod Signed
 pub mod Walk
 pub mod Lists
+pub mod Bools
