@@ -4,3 +4,4 @@ pub mod Signed
 pub mod Walk
 pub mod Lists
 pub mod Bools
+pub mod Every

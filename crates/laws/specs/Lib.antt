@@ -1,3 +1,4 @@
 pub mod Greatest
 pub mod Distance
 pub mod Walk
+pub mod Every

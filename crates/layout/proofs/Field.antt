@@ -1,0 +1,142 @@
+-- The laws of fields, over the width. Assumes nothing.
+use mathlib.Core.Path.{_≡_, refl, sym, _∙_, ap}
+use mathlib.Core.Logic.{_⊎_, inl, inr}
+use mathlib.Core.List.{List, [], _∷_, _++_}
+use Prim.Native.Nat.{ℕ, zero, suc, _+_, _-_, _*_, _/_, _%_, _^_, _≤_, _<_}
+use native.Mathlib.Nat.{zero-add, add-zero, one-mul, pow-zero, pow-suc}
+use native.Mathlib.Omega.{arith}
+use borrow.Author.Tests.{lt-ltb, le-ltb}
+use lib.IntN.{ℤ, pos, negsuc}
+use lib.Signed.{mag}
+use lib.ListN.{length, set, drop, List·getD-append}
+use lib.Seq.{getD-drop, getD-append-add, drop-cons}
+use Rattle.laws.proofs.Signed.{sub-down}
+use Rattle.layout.specs.Bytes.{byteAt, part, put, AreBytes}
+use Rattle.layout.specs.Field.{numberAt, bytesOf, signedOf, twos, i64At}
+use Rattle.layout.proofs.Bytes.{byte-apart, byte-put, byte-part, put-part}
+
+-- ---- a field is its bytes
+
+pub field-same : (n : ℕ) (s : List ℕ) (at : ℕ) (t : List ℕ) (place : ℕ)
+    → ((k : ℕ) → k < n → byteAt s (at + k) ≡ byteAt t (place + k)) → numberAt n s at ≡ numberAt n t place
+unfolding numberAt
+field-same zero s at t place same = refl
+field-same (suc n) s at t place same =
+    let low : byteAt s at ≡ byteAt t place = simp add-zero at (same 0 (omega arith)) in
+    let high = field-same n s (suc at) t (suc place) (λ k l. ap (byteAt s) (omega arith) ∙ same (suc k) (omega arith) ∙ ap (byteAt t) (omega arith)) in
+    rw (low, high)
+
+-- a field of m + n bytes: the low m, and the n behind them
+pub field-add : (m n : ℕ) (s : List ℕ) (at : ℕ) → numberAt (m + n) s at ≡ numberAt m s at + 256 ^ m * numberAt n s (at + m)
+unfolding numberAt
+field-add zero n s at = simp (zero-add, pow-zero, add-zero, one-mul)
+field-add (suc m) n s at =
+    let e : suc m + n ≡ suc (m + n) = omega arith in
+    let f : at + suc m ≡ suc at + m = omega arith in
+    rw (e, f, pow-suc, field-add m n s (suc at)) (omega arith)
+
+pub field-byte : (s : List ℕ) (at : ℕ) → numberAt 1 s at ≡ byteAt s at
+unfolding numberAt
+field-byte s at = omega arith
+
+pub field-bound : (n : ℕ) (s : List ℕ) (at : ℕ) → AreBytes s → numberAt n s at < 256 ^ n
+unfolding numberAt
+field-bound zero s at h = rw pow-zero (omega arith)
+field-bound (suc n) s at h = rw pow-suc (omega (arith, h at, field-bound n s (suc at) h))
+
+pub field-drop : (n : ℕ) (s : List ℕ) (m k : ℕ) → numberAt n (drop m s) k ≡ numberAt n s (m + k)
+field-drop n s m k = field-same n (drop m s) k s (m + k) (λ j b. getD-drop m s (k + j) 0 ∙ ap (byteAt s) (omega arith))
+
+pub field-part : (n : ℕ) (s : List ℕ) (at m k : ℕ) → k + n ≤ m → numberAt n (part s at m) k ≡ numberAt n s (at + k)
+field-part n s at m k h =
+    field-same n (part s at m) k s (at + k) (λ j b. byte-part s at m (k + j) (omega arith) ∙ ap (byteAt s) (omega arith))
+
+pub field-front : (n : ℕ) (s t : List ℕ) (k : ℕ) → k + n ≤ length s → numberAt n (s ++ t) k ≡ numberAt n s k
+field-front n s t k h = field-same n (s ++ t) k s k (λ j b. List·getD-append s t 0 (k + j) (omega arith))
+
+pub field-behind : (n : ℕ) (s t : List ℕ) (k : ℕ) → numberAt n (s ++ t) (length s + k) ≡ numberAt n t k
+field-behind n s t k =
+    field-same n (s ++ t) (length s + k) t k (λ j b. ap (byteAt (s ++ t)) (omega arith) ∙ getD-append-add s t (k + j) 0)
+
+-- ---- a number's bytes
+
+pub length-bytes : (n v : ℕ) → length (bytesOf n v) ≡ n
+unfolding bytesOf
+length-bytes zero v = refl
+length-bytes (suc n) v = ap suc (length-bytes n (v / 256))
+
+pub bytes-bytes : (n v : ℕ) → AreBytes (bytesOf n v)
+unfolding bytesOf
+bytes-bytes zero v k = omega arith
+bytes-bytes (suc n) v zero = omega arith
+bytes-bytes (suc n) v (suc k) = bytes-bytes n (v / 256) k
+
+-- the number of its bytes is the number
+pub number-bytes : (n v : ℕ) → v < 256 ^ n → numberAt n (bytesOf n v) 0 ≡ v
+unfolding numberAt bytesOf
+number-bytes zero v h = let e = pow-zero 256 in omega arith
+number-bytes (suc n) v h =
+    let e = pow-suc 256 n in
+    let rest = number-bytes n (v / 256) (omega arith) in
+    rw (field-behind n (v % 256 ∷ []) (bytesOf n (v / 256)) 0, rest) (omega arith)
+
+-- and the bytes of a field's number are the field's bytes
+pub bytes-number : (n : ℕ) (s : List ℕ) (at : ℕ) → AreBytes s → at + n ≤ length s → bytesOf n (numberAt n s at) ≡ part s at n
+unfolding numberAt bytesOf
+bytes-number zero s at h l = refl
+bytes-number (suc n) s at h l =
+    let in-list : at < length s = omega arith in
+    let low : (byteAt s at + 256 * numberAt n s (suc at)) % 256 ≡ byteAt s at = omega (arith, h at) in
+    let high : (byteAt s at + 256 * numberAt n s (suc at)) / 256 ≡ numberAt n s (suc at) = omega (arith, h at) in
+    rw (low, high, drop-cons s at 0 in-list) (ap (λ (r : List ℕ). byteAt s at ∷ r) (bytes-number n s (suc at) h (omega arith)))
+
+-- ---- a field written
+
+-- a field of what was written
+pub field-of-put : (n : ℕ) (s : List ℕ) (at : ℕ) (bs : List ℕ) (k : ℕ) → at + length bs ≤ length s → k + n ≤ length bs → numberAt n (put s at bs) (at + k) ≡ numberAt n bs k
+field-of-put n s at bs k h l =
+    field-same n (put s at bs) (at + k) bs k (λ j b. ap (byteAt (put s at bs)) (omega arith) ∙ byte-put s at bs (k + j) h (omega arith))
+
+-- a field that was written is read back
+pub field-put : (n : ℕ) (s : List ℕ) (at v : ℕ) → at + n ≤ length s → v < 256 ^ n → numberAt n (put s at (bytesOf n v)) at ≡ v
+field-put n s at v h b =
+    let e = length-bytes n v in
+    ap (numberAt n (put s at (bytesOf n v))) (sym (add-zero at))
+    ∙ field-of-put n s at (bytesOf n v) 0 (omega arith) (omega arith)
+    ∙ number-bytes n v b
+
+-- a field apart from what was written is as it was
+pub field-apart : (n : ℕ) (s : List ℕ) (at : ℕ) (bs : List ℕ) (k : ℕ) → (k + n ≤ at) ⊎ (at + length bs ≤ k) → numberAt n (put s at bs) k ≡ numberAt n s k
+field-apart n s at bs k (inl h) = field-same n (put s at bs) k s k (λ j b. byte-apart s at bs (k + j) (inl (omega arith)))
+field-apart n s at bs k (inr h) = field-same n (put s at bs) k s k (λ j b. byte-apart s at bs (k + j) (inr (omega arith)))
+
+-- a field written as it stands changes nothing
+pub put-field : (n : ℕ) (s : List ℕ) (at : ℕ) → AreBytes s → at + n ≤ length s → put s at (bytesOf n (numberAt n s at)) ≡ s
+put-field n s at h l = rw (bytes-number n s at h l) (put-part s at n l)
+
+-- what is left to write after a byte, and after the last
+pub put-next : (s : List ℕ) (at n v : ℕ) → 0 < n → put s at (bytesOf n v) ≡ put (set s at (v % 256)) (suc at) (bytesOf (n - 1) (v / 256))
+unfolding put bytesOf
+put-next s at zero v h = absurd (omega arith)
+put-next s at (suc n) v h = let e : suc n - 1 ≡ n = omega arith in rw e refl
+
+pub put-last : (s : List ℕ) (at n v : ℕ) → n ≡ 0 → put s at (bytesOf n v) ≡ s
+unfolding put bytesOf
+put-last s at n v h = rw h refl
+
+-- ---- signed fields
+
+pub twos-bound : (z : ℤ) → mag z < 2 ^ 63 → twos z < 2 ^ 64
+unfolding twos
+twos-bound (pos n) h = omega arith
+twos-bound (negsuc n) h = omega arith
+
+pub signed-twos : (z : ℤ) → mag z < 2 ^ 63 → signedOf 64 (twos z) ≡ z
+unfolding twos signedOf
+signed-twos (pos n) h = rw (lt-ltb n (2 ^ 63) h)
+signed-twos (negsuc n) h =
+    let back : 2 ^ 64 - (2 ^ 64 - suc n) ≡ suc n = omega arith in
+    rw (le-ltb (2 ^ 64 - suc n) (2 ^ 63) (omega arith)) (sub-down (2 ^ 64 - suc n) (2 ^ 64) (omega arith) ∙ rw back)
+
+pub i64-put : (s : List ℕ) (at : ℕ) (z : ℤ) → at + 8 ≤ length s → mag z < 2 ^ 63 → i64At (put s at (bytesOf 8 (twos z))) at ≡ z
+i64-put s at z h b = rw (field-put 8 s at (twos z) h (twos-bound z b)) (signed-twos z b)
