@@ -2,7 +2,6 @@
 use Prim.Native.Nat.{ℕ}
 use mathlib.Core.Bool.{Bool, _&&_, _||_, not, cond}
 use lib.Dec.{eqb, leb}
-use Rattle.record.specs.declared.Form.{Form}
 
 abbrev pub within : ℕ → ℕ → ℕ → Bool
 within least x most = leb least x && leb x most

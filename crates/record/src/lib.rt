@@ -1,4 +1,5 @@
 // A trade record: its fields as numbers, and the rules on them.
+pub mod bytes;
 pub mod rules;
 
 // What kind of trade it is, and the curves that it stands on; `blank` is bytes 6-7.
