@@ -1,16 +1,13 @@
 -- The laws of `every`: those that a loop with an index i and a bound n cites, and what it says of each number. Assumes nothing.
-use mathlib.Core.Path.{_≡_, refl, sym, _∙_}
-use mathlib.Core.Bool.{Bool, true, false, _&&_, true≢false}
+use mathlib.Core.Path.{_≡_, refl, _∙_}
+use mathlib.Core.Bool.{Bool, true, false, _&&_}
 use Prim.Native.Nat.{ℕ, zero, suc, _+_, _-_, _≤_, _<_}
 use native.Mathlib.Decide.{ℕ-discrete}
 use native.Mathlib.Omega.{arith}
 use Rattle.laws.specs.Walk.{over}
 use Rattle.laws.specs.Every.{every}
+use Rattle.laws.proofs.Bools.{both}
 use Rattle.laws.proofs.Walk.{over-step, over-end}
-
-both : (a b : Bool) → a && b ≡ true → (a ≡ true) × (b ≡ true)
-both true b h = (refl, h)
-both false b h = absurd (true≢false (sym h))
 
 module _ (f : ℕ → Bool) where
   -- ---- a loop's: its invariant is `whole ≡ every f i (n - i)`

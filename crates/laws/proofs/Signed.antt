@@ -113,3 +113,7 @@ abs-mul-le a b p q = rw (abs-mul a b) (mul-le-mul p q)
 -- what a call returned, read back from its bits: the bound is the call's `.ok`
 pub back : (z : ℤ) → mag z < 2 ^ 63 → read z ≡ z
 back z h = toZ-ofZ {w = w64} {z = z} (record { sfits = h })
+
+-- what a cast to u64 asks, of a number that is not negative
+pub to-u64 : (z : ℤ) → z ≡ pos (natAbs z) → natAbs z < 2 ^ 63 → T (nonNeg (read z)) × Fits w64 (natAbs (read z))
+to-u64 z e h = rw (read-is z h) (rw e tt, record { fits = omega arith })

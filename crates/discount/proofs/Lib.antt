@@ -1,0 +1,10 @@
+pub mod Compounding
+pub mod Steps
+pub mod Years
+pub mod Roots
+pub mod RootBounds
+pub mod Factors
+pub mod Exactness
+pub mod Bound
+pub mod FlowBounds
+pub mod Figures

@@ -1,0 +1,4 @@
+pub mod Discount
+pub mod Exact
+pub mod Flows
+pub mod Valued
