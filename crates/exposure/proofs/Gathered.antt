@@ -1,0 +1,122 @@
+-- The flows of a ladder with a leg more: those that it had, and then the leg's, as far as they stand on the curve. Assumes nothing.
+use mathlib.Core.Path.{_≡_, refl, sym, ap, _∙_}
+use mathlib.Core.Bool.{Bool, true, false, not, cond}
+use mathlib.Core.Logic.{inl}
+use mathlib.Core.List.{List, [], _∷_, _++_, flatMap, append-assoc, append-nil}
+use Prim.Native.Nat.{ℕ, zero, suc, _+_, _*_, _≤_, _<_}
+use native.Mathlib.Nat.{add-zero, zero-add}
+use native.Mathlib.Numerals.{add-one}
+use native.Mathlib.Omega.{arith}
+use lib.Dec.{eqb}
+use lib.ListN.{length, getD}
+use borrow.Author.Tests.{eqb-true}
+use Rattle.laws.specs.Walk.{table}
+use Rattle.laws.proofs.Tables.{table-same, table-add}
+use Rattle.laws.proofs.Bools.{both}
+use Rattle.layout.specs.Bytes.{byteAt, put}
+use Rattle.layout.proofs.Bytes.{byte-put, byte-apart}
+use Rattle.discount.specs.declared.Flow.{Flow}
+use Rattle.flows.specs.declared.Leg.{Leg}
+use Rattle.flows.specs.Legs.{flowOf, legFlows}
+use Rattle.margin.specs.Exposure.{flowsOn}
+use Rattle.margin.specs.Ladder.{payments, payment, scheduleFlows, ladderFlows}
+use Rattle.exposure.specs.Schedules.{scheduleOf, standsOn, withLeg, countWithLeg}
+
+-- ---- `flatMap` over the numbers from i on
+
+module _ {A : Type 0} where
+  flat-same : (f g : ℕ → List A) (i n : ℕ) → ((k : ℕ) → k < i + n → f k ≡ g k) → flatMap f (table (λ k. k) i n) ≡ flatMap g (table (λ k. k) i n)
+  unfolding table flatMap
+  flat-same f g i zero h = refl
+  flat-same f g i (suc n) h =
+      let first : f i ≡ g i = h i (omega arith) in
+      rw (first, flat-same f g (suc i) n (λ k l. h k (omega arith))) refl
+
+  flat-more : (f : ℕ → List A) (i n : ℕ) → flatMap f (table (λ k. k) i (suc n)) ≡ flatMap f (table (λ k. k) i n) ++ f (i + n)
+  unfolding table flatMap
+  flat-more f i zero = append-nil (f i) ∙ ap f (sym (add-zero i))
+  flat-more f i (suc n) =
+      let e : suc i + n ≡ i + suc n = omega arith in
+      ap (λ (l : List A). f i ++ l) (flat-more f (suc i) n)
+      ∙ sym (append-assoc (f i) (flatMap f (table (λ k. k) (suc i) n)) (f (suc i + n)))
+      ∙ ap (λ (m : ℕ). (f i ++ flatMap f (table (λ k. k) (suc i) n)) ++ f m) e
+
+-- ---- the flows of a leg that stand on a curve: all of them or none
+
+on-curve : (curve : ℕ) (f : ℕ → Flow) (i n : ℕ) → ((k : ℕ) → eqb (f k .curve) curve ≡ true) → flowsOn curve (table f i n) ≡ table f i n
+unfolding table flowsOn
+on-curve curve f i zero h = refl
+on-curve curve f i (suc n) h = rw (h i, on-curve curve f (suc i) n h) refl
+
+off-curve : (curve : ℕ) (f : ℕ → Flow) (i n : ℕ) → ((k : ℕ) → eqb (f k .curve) curve ≡ false) → flowsOn curve (table f i n) ≡ []
+unfolding table flowsOn
+off-curve curve f i zero h = refl
+off-curve curve f i (suc n) h = rw (h i, off-curve curve f (suc i) n h) refl
+
+no-flows : (curve : ℕ) → flowsOn curve [] ≡ []
+unfolding flowsOn
+no-flows curve = refl
+
+-- ---- the schedule that was written, and those before it
+
+bit-back : (b : Bool) → not (eqb (cond b 1 0) 0) ≡ b
+bit-back true = refl
+bit-back false = refl
+
+module _ (curve : ℕ) (l : Leg) (ladder : List ℕ) (n : ℕ) (room : n * 6 + 6 ≤ length ladder) where
+  abbrev written : List ℕ
+  written = put ladder (n * 6) (scheduleOf l)
+
+  number : (k : ℕ) → k < 6 → getD written (n * 6 + k) 0 ≡ getD (scheduleOf l) k 0
+  number k h = byte-put ladder (n * 6) (scheduleOf l) k room h
+
+  first-is : getD written (n * 6) 0 ≡ l .first
+  first-is = ap (λ (k : ℕ). getD written k 0) (sym (add-zero (n * 6))) ∙ number 0 (omega arith)
+
+  new-payment : l .curve ≡ curve → (j : ℕ) → payment curve written n j ≡ flowOf l j
+  unfolding payment
+  new-payment e j =
+      rw (first-is, number 1 (omega arith), number 2 (omega arith), number 3 (omega arith), number 4 (omega arith), number 5 (omega arith), bit-back (l .received), add-one, e) refl
+
+  new-schedule : l .curve ≡ curve → scheduleFlows curve written n ≡ legFlows l
+  unfolding scheduleFlows legFlows
+  new-schedule e =
+      ap (λ (m : ℕ). table (payment curve written n) 0 m) (number 2 (omega arith))
+      ∙ table-same (payment curve written n) (flowOf l) 0 0 (l .count) (λ k h. new-payment e (0 + k))
+
+  old-number : (k : ℕ) → k < n * 6 → getD written k 0 ≡ getD ladder k 0
+  old-number k h = byte-apart ladder (n * 6) (scheduleOf l) k (inl h)
+
+  old-payment : (i : ℕ) → i < n → (j : ℕ) → payment curve written i j ≡ payment curve ladder i j
+  unfolding payment
+  old-payment i h j =
+      rw (old-number (i * 6) (omega arith), old-number (i * 6 + 1) (omega arith), old-number (i * 6 + 2) (omega arith), old-number (i * 6 + 3) (omega arith), old-number (i * 6 + 4) (omega arith), old-number (i * 6 + 5) (omega arith)) refl
+
+  old-schedule : (i : ℕ) → i < n → scheduleFlows curve written i ≡ scheduleFlows curve ladder i
+  unfolding scheduleFlows
+  old-schedule i h =
+      ap (λ (m : ℕ). table (payment curve written i) 0 m) (old-number (i * 6 + 2) (omega arith))
+      ∙ table-same (payment curve written i) (payment curve ladder i) 0 0 (payments ladder i) (λ k m. old-payment i h (0 + k))
+
+  -- ---- a leg that stands on the curve adds its flows, any other none
+
+  more : l .curve ≡ curve → ladderFlows curve written (n + 1) ≡ ladderFlows curve ladder n ++ legFlows l
+  unfolding ladderFlows
+  more e =
+      ap (λ (m : ℕ). flatMap (scheduleFlows curve written) (table (λ k. k) 0 m)) (add-one n)
+      ∙ flat-more (scheduleFlows curve written) 0 n
+      ∙ ap (λ (fs : List Flow). fs ++ scheduleFlows curve written (0 + n)) (flat-same (scheduleFlows curve written) (scheduleFlows curve ladder) 0 n (λ k h. old-schedule k (omega arith)))
+      ∙ ap (λ (fs : List Flow). flatMap (scheduleFlows curve ladder) (table (λ k. k) 0 n) ++ fs) (ap (scheduleFlows curve written) (zero-add n) ∙ new-schedule e)
+
+  pub push-flows : ladderFlows curve (withLeg curve l ladder n) (countWithLeg curve l n) ≡ ladderFlows curve ladder n ++ flowsOn curve (legFlows l)
+  unfolding withLeg countWithLeg legFlows table flowsOn
+  push-flows = go (eqb (l .curve) curve) (eqb (l .count) 0) refl refl
+    where
+      go : (on none : Bool) → eqb (l .curve) curve ≡ on → eqb (l .count) 0 ≡ none
+          → ladderFlows curve (withLeg curve l ladder n) (countWithLeg curve l n) ≡ ladderFlows curve ladder n ++ flowsOn curve (legFlows l)
+      go true false p q =
+          rw (p, q, on-curve curve (flowOf l) 0 (l .count) (λ k. p)) (more (eqb-true (l .curve) curve p))
+      go true true p q =
+          rw (p, q, eqb-true (l .count) 0 q) (sym (append-nil _))
+      go false t p q =
+          rw (p, off-curve curve (flowOf l) 0 (l .count) (λ k. p)) (sym (append-nil _))

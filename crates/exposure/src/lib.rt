@@ -1,0 +1,31 @@
+// What an account has on a curve: the cash flow ladder, gathered from the trades of its book.
+ghost use mathlib.Core.Path.{_≡_};
+ghost use Prim.Native.Nat.{_+_, _*_, _≤_};
+ghost use lib.ListN.{length};
+ghost use Rattle.exposure.specs.Schedules.{standsOn, withLeg, countWithLeg};
+use flows::Leg;
+
+fn stands_on(curve: u64, l: Leg) -> bool
+    ensures { λ r. ⌜ r ≡ standsOn curve l ⌝ }
+{
+    (l.curve == curve) & !(l.count == 0)
+}
+
+// Adds a leg behind the ladder's n schedules, where it stands on the curve.
+fn push_leg(ladder: &mut [u64], n: usize, curve: u64, l: Leg) -> usize
+    requires { ⌜ n * 6 + 6 ≤ length (now ladder) ⌝ }
+    ensures { λ r. ⌜ r ≡ countWithLeg curve l n ⌝ }
+    ensures { λ _. ⌜ now (ladder .exit) ≡ withLeg curve l (now (ladder .entry)) n ⌝ }
+{
+    if !stands_on(curve, l) {
+        return n;
+    }
+    let at = n * 6;
+    ladder[at] = l.first;
+    ladder[at + 1] = l.period;
+    ladder[at + 2] = l.count;
+    ladder[at + 3] = l.each;
+    ladder[at + 4] = l.last;
+    ladder[at + 5] = l.received as u64;
+    n + 1
+}
