@@ -1,0 +1,1 @@
+// A book: its parts, and the verdict on it.
