@@ -1,13 +1,13 @@
 -- The verdict on a book (document 01: "length first, then block by block, records in order within a block"). Assumes nothing.
 use Prim.Native.Nat.{ℕ, _+_, _/_}
-use mathlib.Core.Bool.{Bool, cond}
+use mathlib.Core.Bool.{Bool, true, false, cond}
 use mathlib.Core.List.{List}
 use lib.Dec.{eqb, leb}
 use lib.ListN.{length}
 use Rattle.laws.specs.Walk.{over}
 use Rattle.ground.specs.declared.Ground.the-variants.{Length, Check, Place, Header, TradeBlock}
 use Rattle.ground.specs.declared.Verdict.{Verdict}
-use Rattle.ground.specs.declared.Verdict.the-variants.{Accepted}
+use Rattle.ground.specs.declared.Verdict.the-variants.{Accepted, Refused}
 use Rattle.ground.specs.Verdicts.{orElse, unless}
 use Rattle.layout.specs.Check.{breaksCheck, breaksPlace}
 use Rattle.curve_block.specs.Verdict.{curveVerdict}
@@ -15,6 +15,10 @@ use Rattle.record.specs.declared.Curves.{Curves}
 use Rattle.flows.specs.Verdict.{recordVerdict}
 use Rattle.book.specs.Parts.{blockAt, curveCount, curvesOf, recordCount, recordIn}
 use Rattle.book.specs.Rules.{breaksLength, breaksHeader, breaksTradeBlock}
+
+abbrev pub isAccepted : Verdict → Bool
+isAccepted Accepted = true
+isAccepted (Refused g k) = false
 
 -- the first refusal among the numbers from i on, n of them
 unfoldable pub firstOf : (ℕ → Verdict) → ℕ → ℕ → Verdict

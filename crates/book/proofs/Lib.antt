@@ -1,0 +1,4 @@
+pub mod First
+pub mod Sound
+pub mod Places
+pub mod Verdicts
