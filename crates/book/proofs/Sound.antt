@@ -4,7 +4,7 @@ use mathlib.Core.Bool.{Bool, true, false, _&&_, _||_, not}
 use mathlib.Core.List.{List}
 use Prim.Native.Nat.{ℕ, _+_, _*_, _/_, _%_, _≤_}
 use native.Mathlib.Omega.{arith}
-use borrow.Author.Tests.{eqb-true, eqb-false, eq-eqb, leb-true, le-leb, ltb-false, not-false}
+use borrow.Author.Tests.{eqb-true, eqb-false, eq-eqb, leb-true, le-leb, ltb-false, not-false, ne-eqb, le-ltb}
 use lib.Dec.{eqb, leb, ltb}
 use Rattle.laws.proofs.Bools.{both, neither}
 use Rattle.layout.specs.Bytes.{byteAt, zeros}
@@ -33,6 +33,12 @@ long used lent h =
       most = ltb-false 65536 used (b .1);
       within = ltb-false lent used (a .1);
     }
+
+pub length-sound : (used lent : ℕ) → Long used lent → breaksLength used lent ≡ false
+unfolding breaksLength
+length-sound used lent h =
+    let m : used % 512 ≡ 0 = omega (arith, h .whole) in
+    rw (ne-eqb used 0 (λ e. omega arith), eq-eqb (used % 512) 0 m, le-ltb 65536 used (h .most), le-ltb lent used (h .within))
 
 -- ---- 4
 

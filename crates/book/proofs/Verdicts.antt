@@ -9,10 +9,11 @@ use borrow.Author.Tests.{ne-eqb, le-leb, lt-leb}
 use lib.Dec.{eqb}
 use lib.ListN.{length}
 use Rattle.ground.specs.declared.Ground.{Ground}
-use Rattle.ground.specs.declared.Ground.the-variants.{Check, Place, Header, TradeBlock}
+use Rattle.ground.specs.declared.Ground.the-variants.{Check, Place, Header, TradeBlock, Form}
 use Rattle.ground.specs.declared.Verdict.{Verdict}
 use Rattle.ground.specs.declared.Verdict.the-variants.{Accepted}
 use Rattle.ground.specs.Verdicts.{unless}
+use Rattle.layout.specs.Bytes.{byteAt}
 use Rattle.layout.specs.Check.{breaksCheck, breaksPlace}
 use Rattle.curve_block.specs.Verdict.{curveVerdict}
 use Rattle.record.specs.declared.Curves.{Curves}
@@ -101,3 +102,8 @@ header-passes s n h e = rw sub-zero at (first-passed (blockVerdict s n) 0 n h (r
 pub verdict-blocks : (s : List ℕ) (used : ℕ) → breaksLength used (length s) ≡ false → verdict s used ≡ firstOf (blockVerdict s (used / 512)) 0 (used / 512)
 unfolding verdict
 verdict-blocks s used h = rw h
+
+-- a record that is accepted in one block is accepted in any
+pub any-block : (curves : Curves) (r : List ℕ) (k m : ℕ) → recordVerdict curves r k ≡ Accepted → recordVerdict curves r m ≡ Accepted
+unfolding recordVerdict
+any-block curves r k m h = rw (unless-accepted (eqb (byteAt r 0) 0) Form k Accepted h .0)
