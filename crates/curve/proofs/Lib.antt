@@ -1,0 +1,9 @@
+pub mod Figures
+pub mod Line
+pub mod Interpolation
+pub mod Search
+pub mod Rates
+pub mod Coefficients
+pub mod Scenarios
+pub mod Shifting
+pub mod Stress

@@ -1,0 +1,4 @@
+pub mod Rates
+pub mod Limits
+pub mod Scenarios
+pub mod Stress

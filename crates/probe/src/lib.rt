@@ -1,0 +1,41 @@
+// Inner functions of the engine, exported for the host's benchmark and tests. The engine does not use this crate.
+ghost use mathlib.Core.Path.{_≡_};
+ghost use Prim.Native.Nat.{_%_, _≤_};
+ghost use Rattle.discount.specs.Discount.{million, factor, compound};
+use discount::factor::Factor;
+use discount::guess::guess;
+
+// Brings any number into the rates.
+fn rate_of(n: u64) -> u64
+    ensures { λ r. ⌜ (r ≡ n % 1_000_001) × (r ≤ million) ⌝ }
+{
+    n % 1_000_001
+}
+
+// The product with q, k times, from x.
+#[no_mangle]
+pub extern "C" fn probe_chain(x: u64, q: u64, k: u64) -> u64
+    ensures { λ r. ⌜ r ≡ compound (x % 1_000_000_000_001) (q % 1_000_000_000_001) k ⌝ }
+{
+    let from = Factor(x % 1_000_000_000_001);
+    let factor = Factor(q % 1_000_000_000_001);
+    from.compound(factor, k).0
+}
+
+// The guess of the day's factor at a rate; one at rate 0, where none is made.
+#[no_mangle]
+pub extern "C" fn probe_guess(rate: u64) -> u64 {
+    let yearly = Factor::yearly(rate_of(rate));
+    if yearly.0 == Factor::UNIT {
+        return yearly.0;
+    }
+    guess(yearly.0)
+}
+
+// The factor of a rate and some days; of one day it is the day's factor itself.
+#[no_mangle]
+pub extern "C" fn probe_factor(rate: u64, days: u64) -> u64
+    ensures { λ r. ⌜ r ≡ factor (rate % 1_000_001) days ⌝ }
+{
+    discount::value::factor(rate_of(rate), days).0
+}

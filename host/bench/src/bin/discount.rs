@@ -1,0 +1,45 @@
+//! Times of the discount engine: a product in a chain, a factor at a rate not seen before, and bisection beside it.
+use seddolki_bench::*;
+use std::hint::black_box;
+use std::time::Instant;
+
+/// The best of several rounds, in nanoseconds for each of `n` pieces of work.
+fn best(n: usize, mut work: impl FnMut() -> u64) -> f64 {
+    let mut least = f64::MAX;
+    for _ in 0..9 {
+        let start = Instant::now();
+        black_box(work());
+        least = least.min(start.elapsed().as_nanos() as f64 / n as f64);
+    }
+    least
+}
+
+fn main() {
+    let rates: Vec<u64> = (0..1000).map(|i| 1 + i * 997).collect();
+    let q = black_box(999_800_000_123);
+    let product = best(365_000, || {
+        (0..1000).fold(0, |z, _| z ^ chain(UNIT, black_box(q), 365))
+    });
+    let over = |days: u64| {
+        best(rates.len(), || {
+            rates.iter().fold(0, |z, &r| z ^ factor(r, days))
+        })
+    };
+    let (half_year, last_day) = (over(182), over(10_950 - 1));
+    let halves = best(20, || {
+        rates[..20].iter().fold(0, |z, &r| z ^ daily_by_halves(r))
+    });
+    println!("a product in a chain        {product:10.2} ns");
+    println!(
+        "a factor of 182 days        {half_year:10.0} ns = {:.0} products",
+        half_year / product
+    );
+    println!(
+        "a factor of 10,949 days     {last_day:10.0} ns = {:.0} products",
+        last_day / product
+    );
+    println!(
+        "a day's factor by bisection {halves:10.0} ns = {:.1} factors of 182 days",
+        halves / half_year
+    );
+}

@@ -1,0 +1,62 @@
+//! Safe calls of the inner functions that the crate `probe` exports, for the benchmark and its tests.
+
+mod ffi {
+    unsafe extern "C" {
+        pub safe fn probe_chain(x: u64, q: u64, k: u64) -> u64;
+        pub safe fn probe_guess(rate: u64) -> u64;
+        pub safe fn probe_factor(rate: u64, days: u64) -> u64;
+    }
+}
+
+/// One, in a factor.
+pub const UNIT: u64 = 1_000_000_000_000;
+
+/// The largest rate.
+pub const LIMIT: u64 = 1_000_000;
+
+/// The product with `q`, `k` times, from `x`.
+pub fn chain(x: u64, q: u64, k: u64) -> u64 {
+    ffi::probe_chain(x, q, k)
+}
+
+/// The guess of the day's factor at a rate.
+pub fn guess(rate: u64) -> u64 {
+    ffi::probe_guess(rate)
+}
+
+/// The factor of a rate and some days; of one day it is the day's factor itself.
+pub fn factor(rate: u64, days: u64) -> u64 {
+    ffi::probe_factor(rate, days)
+}
+
+/// The year's factor at a rate.
+pub fn yearly(rate: u64) -> u64 {
+    UNIT * LIMIT / (LIMIT + rate)
+}
+
+/// The product in 64 bits, as the engine takes it.
+pub fn product(a: u64, b: u64) -> u64 {
+    const TWOS: u64 = 4096;
+    const FIVES: u64 = 244_140_625;
+    let (a1, a0, b1, b0) = (a / TWOS, a % TWOS, b / FIVES, b % FIVES);
+    a1 * b1 + (a1 * b0 + a0 * b / TWOS) / FIVES
+}
+
+/// The day's factor by bisection: what the engine's guess is compared with.
+pub fn daily_by_halves(rate: u64) -> u64 {
+    let y = yearly(rate);
+    let (mut low, mut high) = (0, UNIT + 1);
+    while low + 1 < high {
+        let middle = (low + high) / 2;
+        let mut power = UNIT;
+        for _ in 0..365 {
+            power = product(power, middle);
+        }
+        if power <= y {
+            low = middle;
+        } else {
+            high = middle;
+        }
+    }
+    low
+}
