@@ -11,6 +11,7 @@ use lib.ListN.{length}
 use Rattle.ground.specs.declared.Ground.the-variants.{Length}
 use Rattle.ground.specs.declared.Verdict.the-variants.{Accepted}
 use Rattle.layout.proofs.Bytes.{length-part}
+use Rattle.layout.proofs.Verdicts.{unless-accepted}
 use Rattle.curve_block.specs.Verdict.{curveVerdict}
 use Rattle.flows.specs.Verdict.{recordVerdict}
 use Rattle.book.specs.Parts.{blockAt, curveCount, tradeBlocks, curvesOf, recordCount, recordPlace, tradeCount, recordAt}
@@ -20,7 +21,7 @@ use Rattle.book.specs.Encode.{blocksFor}
 use Rattle.book.proofs.First.{first-at}
 use Rattle.book.proofs.Sound.{Long, long}
 use Rattle.book.proofs.Places.{head-curves, head-trades, no-trades, last-trades}
-use Rattle.book.proofs.Verdicts.{unless-accepted, HeaderSound, header-accepted, TradesSound, trades-accepted, first-block, curve-place, trade-place}
+use Rattle.book.proofs.Verdicts.{HeaderSound, header-accepted, TradesSound, trades-accepted, first-block, curve-place, trade-place}
 
 -- its blocks, and that each of them breaks nothing
 pub record Sound (s : List ℕ) (used : ℕ) : Type 0 where

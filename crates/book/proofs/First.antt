@@ -9,6 +9,7 @@ use Rattle.laws.proofs.Walk.{over-step, over-end}
 use Rattle.ground.specs.declared.Verdict.{Verdict}
 use Rattle.ground.specs.declared.Verdict.the-variants.{Accepted, Refused}
 use Rattle.ground.specs.Verdicts.{orElse}
+use Rattle.layout.proofs.Verdicts.{orElse-accepted}
 use Rattle.book.specs.Verdict.{isAccepted, firstOf}
 
 pub passes : (v next : Verdict) → isAccepted v ≡ true → orElse v next ≡ next
@@ -22,11 +23,6 @@ stops (Refused g k) next h = refl
 pub is-accepted : (v : Verdict) → isAccepted v ≡ true → v ≡ Accepted
 is-accepted Accepted h = refl
 is-accepted (Refused g k) h = absurd (true≢false (sym h))
-
--- where the first of two is accepted, both are
-pub both-accepted : (v next : Verdict) → orElse v next ≡ Accepted → (v ≡ Accepted) × (next ≡ Accepted)
-both-accepted Accepted next h = (refl, h)
-both-accepted (Refused g k) next h = let z : _≡_ {A = ℕ} 0 1 = cc in absurd (omega arith)
 
 module _ (f : ℕ → Verdict) where
   -- ---- a loop's: its invariant is `whole ≡ firstOf f i (n - i)`
@@ -51,10 +47,10 @@ module _ (f : ℕ → Verdict) where
   pub first-at : (i n : ℕ) → firstOf f i n ≡ Accepted → (k : ℕ) → i ≤ k → k < i + n → f k ≡ Accepted
   unfolding firstOf over
   first-at i zero h k l m = absurd (omega arith)
-  first-at i (suc n) h k l m = go (ℕ-discrete k i) (first-at (suc i) n (both-accepted (f i) _ h .1) k)
+  first-at i (suc n) h k l m = go (ℕ-discrete k i) (first-at (suc i) n (orElse-accepted (f i) _ h .1) k)
     where
       go : Dec (k ≡ i) → (suc i ≤ k → k < suc i + n → f k ≡ Accepted) → f k ≡ Accepted
-      go (yes e) ih = rw e (both-accepted (f i) _ h .0)
+      go (yes e) ih = rw e (orElse-accepted (f i) _ h .0)
       go (no e) ih = ih (omega arith) (omega arith)
 
   pub first-of : (i n : ℕ) → ((k : ℕ) → i ≤ k → k < i + n → f k ≡ Accepted) → firstOf f i n ≡ Accepted

@@ -8,12 +8,10 @@ use native.Mathlib.Omega.{arith}
 use borrow.Author.Tests.{ne-eqb, le-leb, lt-leb}
 use lib.Dec.{eqb}
 use lib.ListN.{length}
-use Rattle.ground.specs.declared.Ground.{Ground}
 use Rattle.ground.specs.declared.Ground.the-variants.{Check, Place, Header, TradeBlock, Form}
-use Rattle.ground.specs.declared.Verdict.{Verdict}
 use Rattle.ground.specs.declared.Verdict.the-variants.{Accepted}
-use Rattle.ground.specs.Verdicts.{unless}
 use Rattle.layout.specs.Bytes.{byteAt}
+use Rattle.layout.proofs.Verdicts.{unless-accepted}
 use Rattle.layout.specs.Check.{breaksCheck, breaksPlace}
 use Rattle.curve_block.specs.Verdict.{curveVerdict}
 use Rattle.record.specs.declared.Curves.{Curves}
@@ -23,10 +21,6 @@ use Rattle.book.specs.Rules.{breaksLength, breaksHeader, breaksTradeBloc
 use Rattle.book.specs.Verdict.{isAccepted, firstOf, headerVerdict, recordsVerdict, tradesVerdict, blockVerdict, verdict}
 use Rattle.book.proofs.First.{first-passed, first-stopped, first-at, first-of}
 use Rattle.book.proofs.Sound.{Headed, headed, header-sound, Traded, traded, trade-block-sound}
-
-pub unless-accepted : (broken : Bool) (g : Ground) (k : ℕ) (next : Verdict) → unless broken g k next ≡ Accepted → (broken ≡ false) × (next ≡ Accepted)
-unless-accepted true g k next h = let z : _≡_ {A = ℕ} 0 1 = cc in absurd (omega arith)
-unless-accepted false g k next h = (refl, h)
 
 -- ---- a header
 
