@@ -42,7 +42,7 @@ module _ (s : List ℕ) (used : ℕ) (bytes : AreBytes s) (b : Sound s used) whe
   trade-block : (j : ℕ) → j < tradeBlocks s → tradeBlock (1 + curveCount s + j) (recordsOfBlock (records s) j) ≡ blockAt s (1 + curveCount s + j)
   trade-block j l =
       rw (← block-records j l)
-      (sym (trades-of (curvesOf s) (blockAt s (1 + curveCount s + j)) (1 + curveCount s + j) (eqb (1 + curveCount s + j + 1) (1 + curveCount s + tradeBlocks s)) (bytes-part s ((1 + curveCount s + j) * 512) 512 bytes) (length-blockAt s used b (1 + curveCount s + j) (omega arith)) (b .trades j l)))
+      (sym (trades-of _ _ _ _ (bytes-part s ((1 + curveCount s + j) * 512) 512 bytes) (length-blockAt s used b (1 + curveCount s + j) (omega arith)) (b .trades j l)))
 
   trades-table : tradeBlocksOf (1 + curveCount s) (records s) ≡ table (blockAt s) (0 + (1 + curveCount s)) (tradeBlocks s)
   unfolding tradeBlocksOf

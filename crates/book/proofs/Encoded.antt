@@ -155,7 +155,12 @@ module _ (a : ℕ) (cs rs : List (List ℕ)) (fine : Encodable a cs rs) where
             let n = length-nine rs t in
             let some : 0 < tradeBlocks s = rw trade-blocks-encoded (omega arith) in
             last-trades s some
-            ∙ rw (trade-blocks-encoded, curve-count-encoded, at-trade t (omega arith), count-trades (1 + length cs + t) (recordsOfBlock rs t) (few t) (nine-each rs t (fine .trades)))
+            ∙ rw (
+              trade-blocks-encoded,
+              curve-count-encoded,
+              at-trade t (omega arith),
+              count-trades (1 + length cs + t) (recordsOfBlock rs t) (few t) (nine-each rs t (fine .trades)),
+            )
             (omega arith)
 
     pub record-at-encoded : (i : ℕ) → i < length rs → recordAt s i ≡ getD rs i []
@@ -198,7 +203,8 @@ module _ (a : ℕ) (cs rs : List (List ℕ)) (fine : Encodable a cs rs) where
       block-accepted : (k : ℕ) → k < total → blockVerdict s total k ≡ Accepted
       block-accepted zero l =
           first-block s total
-          ∙ rw at-header (accepted-header (head a cs rs) total (header-breaks-nothing a (length cs) (blocksFor (length rs)) (fine .least) (fine .most) (omega (arith, fine .blocks))))
+          ∙ rw at-header
+          (accepted-header _ _ (header-breaks-nothing a (length cs) (blocksFor (length rs)) (fine .least) (fine .most) (omega (arith, fine .blocks))))
       block-accepted (suc k) l = go (decLe (length cs) k)
         where
           go : Dec (length cs ≤ k) → blockVerdict s total (suc k) ≡ Accepted
@@ -208,7 +214,7 @@ module _ (a : ℕ) (cs rs : List (List ℕ)) (fine : Encodable a cs rs) where
               let c = curve-count-encoded in
               ap (blockVerdict s total) e
               ∙ trade-place s total (1 + length cs + j) (omega arith) (omega arith)
-              ∙ rw (curves-of-encoded, at-trade j (omega arith)) (accepted-trades (curvesIn cs) (trade a cs rs j) (1 + length cs + j) (eqb (1 + length cs + j + 1) total) (trade-sound j (omega arith)))
+              ∙ rw (curves-of-encoded, at-trade j (omega arith)) (accepted-trades _ _ _ _ (trade-sound j (omega arith)))
           go (no h) =
               let e : suc k ≡ 1 + k = omega arith in
               let c = curve-count-encoded in

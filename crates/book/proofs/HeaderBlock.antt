@@ -62,7 +62,7 @@ module _ (a c t : ℕ) where
 
   length-fields : length fields ≡ 8
   length-fields =
-      omega (arith, length-append (bytesOf 4 a ++ bytesOf 2 c) (bytesOf 2 t), length-append (bytesOf 4 a) (bytesOf 2 c), length-bytes 4 a, length-bytes 2 c, length-bytes 2 t)
+      simp length-append (omega (arith, length-bytes 4 a, length-bytes 2 c, length-bytes 2 t))
 
   short : length fields ≤ 504
   short = omega (arith, length-fields)
@@ -106,11 +106,13 @@ module _ (a c t : ℕ) where
       }
 
 -- and no other header has its fields
-pub header-of : (b : List ℕ) (blocks : ℕ) → AreBytes b → length b ≡ 512 → HeaderSound b blocks → b ≡ headerBlock (account b) (curveCount b) (tradeBlocks b)
+pub header-of : (b : List ℕ) (blocks : ℕ) → AreBytes b → length b ≡ 512 → HeaderSound b blocks
+    → b ≡ headerBlock (account b) (curveCount b) (tradeBlocks b)
 header-of b n bytes h sound =
     let p = placed-at b 1 0 (sound .placed) in
+    let named = fields (account b) (curveCount b) (tradeBlocks b) in
     let l = length-fields (account b) (curveCount b) (tradeBlocks b) in
-    let e : part b 4 8 ≡ fields (account b) (curveCount b) (tradeBlocks b) =
+    let e : part b 4 8 ≡ named =
     part-add b 4 6 2
     ∙ rw (
       part-add b 4 4 2,
@@ -119,5 +121,5 @@ header-of b n bytes h sound =
       bytes-number 2 b 10 bytes (omega arith),
     ) in
     sym (sound-sealed b bytes (omega arith) (sound .checked))
-    ∙ block-of 1 0 0 (fields (account b) (curveCount b) (tradeBlocks b)) (short (account b) (curveCount b) (tradeBlocks b)) b h (p .0) (sound .counts .second) (number-part b 0 bytes h (p .1)) (rw l e) (rw l (sound .counts .behind))
+    ∙ block-of 1 0 0 named (omega arith) b h (p .0) (sound .counts .second) (number-part b 0 bytes h (p .1)) (rw l e) (rw l (sound .counts .behind))
     ∙ sym (is-header (account b) (curveCount b) (tradeBlocks b))

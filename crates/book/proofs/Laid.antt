@@ -54,7 +54,7 @@ module _ (kind count number : ℕ) (named : List ℕ) where
   module _ (short : length named ≤ 504) where
     length-before : length unsealed ≡ 512
     length-before =
-        omega (arith, length-append (front ++ named) (replicate (508 - length named) 0), length-append front named, length-replicate {A = ℕ} (508 - length named) 0, length-front)
+        simp (length-append, length-replicate) (omega (arith, length-front))
 
     pub length-block : length (block kind count number named) ≡ 512
     length-block = rw is-block (length-sealed unsealed ∙ length-before)
@@ -72,7 +72,8 @@ module _ (kind count number : ℕ) (named : List ℕ) where
         rw is-block
         (field-sealed 2 unsealed 2 (omega arith)
         ∙ behind
-        ∙ rw (append-assoc (bytesOf 2 number) named (replicate (508 - length named) 0)) (field-front 2 (bytesOf 2 number) (named ++ replicate (508 - length named) 0) 0 (omega arith))
+        ∙ rw (append-assoc (bytesOf 2 number) named (replicate (508 - length named) 0))
+        (field-front 2 (bytesOf 2 number) (named ++ replicate (508 - length named) 0) 0 (omega arith))
         ∙ number-bytes 2 number h)
 
     pub block-named : part (block kind count number named) 4 (length named) ≡ named
@@ -119,7 +120,7 @@ module _ (kind count number : ℕ) (named : List ℕ) where
     first-bytes : take 508 unsealed ≡ before
     first-bytes =
         let n : length before ≡ 508 =
-        omega (arith, length-append (front ++ named) (replicate (504 - length named) 0), length-append front named, length-replicate {A = ℕ} (504 - length named) 0, length-front) in
+        simp (length-append, length-replicate) (omega (arith, length-front)) in
         ap (take 508) unsealed-split ∙ take-at before (replicate 4 0) 508 n
 
     pub block-of : (b : List ℕ) → length b ≡ 512 → byteAt b 0 ≡ kind → byteAt b 1 ≡ count → part b 2 2 ≡ bytesOf 2 number

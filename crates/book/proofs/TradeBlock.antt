@@ -74,5 +74,6 @@ trades-of curves b number last bytes h sound =
     let e : flatten (recordsIn b) ≡ part b 4 (recordCount b * 56) = flatten-parts 56 b 4 (recordCount b) in
     let l : length (part b 4 (recordCount b * 56)) ≡ recordCount b * 56 = length-part b 4 (recordCount b * 56) (omega arith) in
     sym (sound-sealed b bytes (omega arith) (sound .checked))
-    ∙ block-of 3 (recordCount b) number (part b 4 (recordCount b * 56)) (omega arith) b h (p .0) refl (number-part b number bytes h (p .1)) (rw l refl) (rw l (sound .counts .behind))
+    ∙ block-of 3 (recordCount b) number (part b 4 (recordCount b * 56)) (omega arith) b h (p .0) refl (number-part b number bytes h (p .1)) (rw l refl)
+    (rw l (sound .counts .behind))
     ∙ rw (is-trades number (recordsIn b), n, e)

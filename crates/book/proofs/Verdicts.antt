@@ -85,11 +85,13 @@ trade-place s n k h l = rw (ne-eqb k 0 (λ e. omega arith), lt-leb k (curveCount
 -- ---- the blocks in order
 
 -- a header that is refused is the whole answer
-pub header-stops : (s : List ℕ) (n : ℕ) → 0 < n → isAccepted (headerVerdict (blockAt s 0) n) ≡ false → firstOf (blockVerdict s n) 0 n ≡ headerVerdict (blockAt s 0) n
+pub header-stops : (s : List ℕ) (n : ℕ) → 0 < n → isAccepted (headerVerdict (blockAt s 0) n) ≡ false
+    → firstOf (blockVerdict s n) 0 n ≡ headerVerdict (blockAt s 0) n
 header-stops s n h e = rw (first-block s n, sub-zero) at (first-stopped (blockVerdict s n) 0 n h (rw (first-block s n) e))
 
 -- and past one that is accepted stand the blocks from 1 on
-pub header-passes : (s : List ℕ) (n : ℕ) → 0 < n → isAccepted (headerVerdict (blockAt s 0) n) ≡ true → firstOf (blockVerdict s n) 0 n ≡ firstOf (blockVerdict s n) 1 (n - 1)
+pub header-passes : (s : List ℕ) (n : ℕ) → 0 < n → isAccepted (headerVerdict (blockAt s 0) n) ≡ true
+    → firstOf (blockVerdict s n) 0 n ≡ firstOf (blockVerdict s n) 1 (n - 1)
 header-passes s n h e = rw sub-zero at (first-passed (blockVerdict s n) 0 n h (rw (first-block s n) e))
 
 -- a book of a sound length is judged by its blocks

@@ -7,7 +7,8 @@ use Rattle.laws.specs.Walk.{table}
 use Rattle.layout.specs.Field.{bytesOf}
 use Rattle.layout.specs.Check.{sealed}
 
--- a block: "Byte 0 is the kind, 2-3 the block number", byte 1 the count in a block of trades; from 4 what the kind names; zeros; the check
+-- "Byte 0 is the kind, 2-3 the block number"; byte 1 is the count of a block of trades; from 4 stands what the kind names, and "Bytes that
+-- no layout names are 0" up to the check
 unfoldable pub block : ℕ → ℕ → ℕ → List ℕ → List ℕ
 block kind count number named =
     sealed (kind ∷ count ∷ bytesOf 2 number ++ named ++ replicate (508 - length named) 0)
@@ -32,10 +33,12 @@ recordsOfBlock records j = take 9 (drop (j * 9) records)
 unfoldable pub tradeBlocksOf : ℕ → List (List ℕ) → List (List ℕ)
 tradeBlocksOf first records = table (λ (j : ℕ). tradeBlock (first + j) (recordsOfBlock records j)) 0 (blocksFor (length records))
 
+-- the header, the curve blocks, the blocks of trades
 unfoldable pub blocks : ℕ → List (List ℕ) → List (List ℕ) → List (List ℕ)
 blocks account curves records =
     headerBlock account (length curves) (blocksFor (length records))
     ∷ curves ++ tradeBlocksOf (1 + length curves) records
 
+-- one behind the other
 unfoldable pub encode : ℕ → List (List ℕ) → List (List ℕ) → List ℕ
 encode account curves records = flatten (blocks account curves records)

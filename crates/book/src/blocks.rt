@@ -25,7 +25,7 @@ pub fn is_accepted(v: Verdict) -> bool
 }
 
 // The header of a book of so many blocks: grounds 2, 3 and 4.
-pub fn header_verdict(b: &[u8], blocks: u64) -> Verdict
+pub fn header_verdict(b: &[u8], blocks: usize) -> Verdict
     requires { ⌜ length (now b) ≡ 512 ⌝ }
     ensures { λ r. ⌜ r ≡ headerVerdict (now (b .entry)) blocks ⌝ }
 {

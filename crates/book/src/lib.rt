@@ -38,7 +38,7 @@ pub fn check(book: &[u8], used: usize) -> Verdict
         return Verdict::Refused(Ground::Length, 0);
     }
     let n = used / 512;
-    let first = blocks::header_verdict(parts::block_at(book, 0), n as u64);
+    let first = blocks::header_verdict(parts::block_at(book, 0), n);
     if !blocks::is_accepted(first) {
         return first;
     }

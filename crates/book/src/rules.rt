@@ -1,7 +1,8 @@
 // The rules of a book's length, of its header and of a block of trades.
+use crate::parts::curve_count;
 use crate::parts::record_count;
 use crate::parts::record_place;
-use layout::u16_at;
+use crate::parts::trade_blocks;
 use layout::zeros;
 ghost use mathlib.Core.Path.{_≡_};
 ghost use lib.ListN.{length};
@@ -15,12 +16,12 @@ pub fn breaks_length(used: usize, lent: usize) -> bool
 }
 
 // Ground 4, in a book of so many blocks.
-pub fn breaks_header(b: &[u8], blocks: u64) -> bool
+pub fn breaks_header(b: &[u8], blocks: usize) -> bool
     requires { ⌜ length (now b) ≡ 512 ⌝ }
     ensures { λ r. ⌜ r ≡ breaksHeader (now (b .entry)) blocks ⌝ }
 {
-    let curves = u16_at(b, 8);
-    let trades = u16_at(b, 10);
+    let curves = curve_count(b);
+    let trades = trade_blocks(b);
     !((1 <= curves)
         & (curves <= 8)
         & (1 + curves + trades == blocks)

@@ -31,7 +31,8 @@ block-at-requires : tie.Need-block-at-requires
 block-at-requires c κs = let l = fits c in omega arith
 
 -- the header's verdict, in the contract's terms
-judged : (c : tie.After-header-verdict) → c .header-verdict .result ≡ headerVerdict (blockAt (c .before .before .before .before .before .args .book .now) 0) (c .before .before .before .before .before .args .used / 512)
+judged : (c : tie.After-header-verdict)
+    → let start = c .before .before .before .before .before in c .header-verdict .result ≡ headerVerdict (blockAt (start .args .book .now) 0) (start .args .used / 512)
 judged c = rw (c .before .block-at .ensures .0) at (c .header-verdict .ensures)
 
 returns-2 : tie.Need-returns-2
@@ -42,7 +43,8 @@ returns-2 c =
     e ∙ sym (verdict-blocks _ _ (sound (c .before .before .before .before)) ∙ header-stops _ _ (omega arith) stop)
 
 -- past the second, the header's
-heads : (c : tie.Else2) → Headed (blockAt (c .before .before .before .before .before .before .before .args .book .now) 0) (c .before .before .before .before .before .before .before .args .used / 512)
+heads : (c : tie.Else2)
+    → let start = c .before .before .before .before .before .before .before in Headed (blockAt (start .args .book .now) 0) (start .args .used / 512)
 heads c =
     header-accepted _ _ (sym (judged (c .before .before)) ∙ is-accepted _ (sym (c .before .is-accepted .ensures) ∙ not-false _ (c .if2 .left))) .counts
 
@@ -60,7 +62,8 @@ blocks-verdict-requires c κs =
 returns-3 : tie.Need-returns-3
 returns-3 c =
     let l = fits (c .before .before .before .before .before .before) in
-    let pass = rw (judged (c .before .before .before .before)) at (sym (c .before .before .before .is-accepted .ensures) ∙ not-false _ (c .before .before .if2 .left)) in
+    let told = sym (c .before .before .before .is-accepted .ensures) ∙ not-false _ (c .before .before .if2 .left) in
+    let pass = rw (judged (c .before .before .before .before)) at told in
     c .blocks-verdict .ensures
     ∙ sym (verdict-blocks _ _ (sound (c .before .before .before .before .before .before)) ∙ header-passes _ _ (omega arith) pass)
 

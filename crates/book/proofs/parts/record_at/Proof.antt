@@ -11,7 +11,11 @@ unfolding recordAt
 returns c =
     c .before .copy-in .ensures
     ∙ put-whole _ _ (c .before .before .record-in .ensures .1)
-    ∙ rw (c .before .before .record-in .ensures .0, c .before .before .before .before .block-at .ensures .0, c .before .before .before .before .before .curve-count .ensures .0)
+    ∙ rw (
+      c .before .before .record-in .ensures .0,
+      c .before .before .before .before .block-at .ensures .0,
+      c .before .before .before .before .before .curve-count .ensures .0,
+    )
 
 pub record-at-spec : {M : Type 1} → statement M
 record-at-spec =
