@@ -1,0 +1,6 @@
+pub mod Bounds
+mod Table
+pub mod Capped
+pub mod Above
+pub mod Numbered
+pub mod Reach
