@@ -6,5 +6,6 @@ pub mod Lists
 pub mod Bools
 pub mod Every
 pub mod Worst
+pub mod Tables
 pub mod Tests
 pub mod Tables
