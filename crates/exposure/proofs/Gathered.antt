@@ -1,45 +1,49 @@
 -- The flows of a ladder with a leg more: those that it had, and then the leg's, as far as they stand on the curve. Assumes nothing.
 use mathlib.Core.Path.{_≡_, refl, sym, ap, _∙_}
-use mathlib.Core.Bool.{Bool, true, false, not, cond}
+use mathlib.Core.Bool.{Bool, true, false, not, _&&_, cond}
 use mathlib.Core.Logic.{inl}
 use mathlib.Core.List.{List, [], _∷_, _++_, flatMap, append-assoc, append-nil}
 use Prim.Native.Nat.{ℕ, zero, suc, _+_, _*_, _≤_, _<_}
 use native.Mathlib.Nat.{add-zero, zero-add}
 use native.Mathlib.Numerals.{add-one}
 use native.Mathlib.Omega.{arith}
-use lib.Dec.{eqb}
+use native.Mathlib.Decide.{ℕ-discrete}
+use lib.Dec.{eqb, leb, ltb}
 use lib.ListN.{length, getD}
-use borrow.Author.Tests.{eqb-true}
+use borrow.Author.Tests.{eqb-true, eqb-false, ltb-false, le-leb, not-true}
 use Rattle.laws.specs.Walk.{table}
 use Rattle.laws.proofs.Tables.{table-same, table-add}
-use Rattle.laws.proofs.Bools.{both}
+use Rattle.laws.proofs.Bools.{both, neither}
+use Rattle.decimal.specs.Product.{unit}
 use Rattle.layout.specs.Bytes.{byteAt, put}
 use Rattle.layout.proofs.Bytes.{byte-put, byte-apart}
 use Rattle.discount.specs.declared.Flow.{Flow}
 use Rattle.flows.specs.declared.Leg.{Leg}
-use Rattle.flows.specs.Legs.{flowOf, legFlows}
+use Rattle.flows.specs.Legs.{flowOf, legFlows, anyAbove}
+use Rattle.flows.specs.Limits.{LegLimits}
+use Rattle.flows.proofs.Above.{any-leg}
 use Rattle.margin.specs.Exposure.{flowsOn}
-use Rattle.margin.specs.Ladder.{payments, payment, scheduleFlows, ladderFlows}
+use Rattle.margin.specs.Ladder.{payments, payment, scheduleFlows, ladderFlows, ScheduleLimits}
 use Rattle.exposure.specs.Schedules.{scheduleOf, standsOn, withLeg, countWithLeg}
 
--- ---- `flatMap` over the numbers from i on
+-- ---- `flatMap` over a table
 
-module _ {A : Type 0} where
-  flat-same : (f g : ℕ → List A) (i n : ℕ) → ((k : ℕ) → k < i + n → f k ≡ g k) → flatMap f (table (λ k. k) i n) ≡ flatMap g (table (λ k. k) i n)
+module _ {A B : Type 0} (g : ℕ → A) where
+  flat-same : (f h : A → List B) (i n : ℕ) → ((k : ℕ) → k < i + n → f (g k) ≡ h (g k)) → flatMap f (table g i n) ≡ flatMap h (table g i n)
   unfolding table flatMap
-  flat-same f g i zero h = refl
-  flat-same f g i (suc n) h =
-      let first : f i ≡ g i = h i (omega arith) in
-      rw (first, flat-same f g (suc i) n (λ k l. h k (omega arith))) refl
+  flat-same f h i zero same = refl
+  flat-same f h i (suc n) same =
+      let first : f (g i) ≡ h (g i) = same i (omega arith) in
+      rw (first, flat-same f h (suc i) n (λ k l. same k (omega arith))) refl
 
-  flat-more : (f : ℕ → List A) (i n : ℕ) → flatMap f (table (λ k. k) i (suc n)) ≡ flatMap f (table (λ k. k) i n) ++ f (i + n)
+  pub flat-more : (f : A → List B) (i n : ℕ) → flatMap f (table g i (suc n)) ≡ flatMap f (table g i n) ++ f (g (i + n))
   unfolding table flatMap
-  flat-more f i zero = append-nil (f i) ∙ ap f (sym (add-zero i))
+  flat-more f i zero = append-nil (f (g i)) ∙ ap (λ (k : ℕ). f (g k)) (sym (add-zero i))
   flat-more f i (suc n) =
       let e : suc i + n ≡ i + suc n = omega arith in
-      ap (λ (l : List A). f i ++ l) (flat-more f (suc i) n)
-      ∙ sym (append-assoc (f i) (flatMap f (table (λ k. k) (suc i) n)) (f (suc i + n)))
-      ∙ ap (λ (m : ℕ). (f i ++ flatMap f (table (λ k. k) (suc i) n)) ++ f m) e
+      ap (λ (l : List B). f (g i) ++ l) (flat-more f (suc i) n)
+      ∙ sym (append-assoc (f (g i)) (flatMap f (table g (suc i) n)) (f (g (suc i + n))))
+      ∙ ap (λ (m : ℕ). (f (g i) ++ flatMap f (table g (suc i) n)) ++ f (g m)) e
 
 -- ---- the flows of a leg that stand on a curve: all of them or none
 
@@ -56,6 +60,29 @@ off-curve curve f i (suc n) h = rw (h i, off-curve curve f (suc i) n h) refl
 no-flows : (curve : ℕ) → flowsOn curve [] ≡ []
 unfolding flowsOn
 no-flows curve = refl
+
+pub on-append : (curve : ℕ) (a b : List Flow) → flowsOn curve (a ++ b) ≡ flowsOn curve a ++ flowsOn curve b
+unfolding flowsOn
+on-append curve [] b = refl
+on-append curve (f ∷ a) b = go (eqb (f .curve) curve)
+  where
+    go : (t : Bool) → cond t (f ∷ flowsOn curve (a ++ b)) (flowsOn curve (a ++ b)) ≡ cond t (f ∷ flowsOn curve a) (flowsOn curve a) ++ flowsOn curve b
+    go true = ap (λ (l : List Flow). f ∷ l) (on-append curve a b)
+    go false = on-append curve a b
+
+-- ---- the amounts of a leg none of whose flows is above the largest
+
+pub record Amounts (l : Leg) : Type 0 where
+  pub each : 2 ≤ l .count → l .each ≤ unit
+  pub last : 1 ≤ l .count → l .last ≤ unit
+
+pub amounts : (l : Leg) → anyAbove (legFlows l) ≡ false → Amounts l
+amounts l h =
+    let parts = neither (leb 1 (l .count) && ltb unit (l .last)) (leb 2 (l .count) && ltb unit (l .each)) (sym (any-leg l) ∙ h) in
+    record {
+      each = λ k. ltb-false unit (l .each) (rw (le-leb 2 (l .count) k) at (parts .1));
+      last = λ k. ltb-false unit (l .last) (rw (le-leb 1 (l .count) k) at (parts .0));
+    }
 
 -- ---- the schedule that was written, and those before it
 
@@ -104,8 +131,8 @@ module _ (curve : ℕ) (l : Leg) (ladder : List ℕ) (n : ℕ) (room : n * 6 + 6
   unfolding ladderFlows
   more e =
       ap (λ (m : ℕ). flatMap (scheduleFlows curve written) (table (λ k. k) 0 m)) (add-one n)
-      ∙ flat-more (scheduleFlows curve written) 0 n
-      ∙ ap (λ (fs : List Flow). fs ++ scheduleFlows curve written (0 + n)) (flat-same (scheduleFlows curve written) (scheduleFlows curve ladder) 0 n (λ k h. old-schedule k (omega arith)))
+      ∙ flat-more (λ k. k) (scheduleFlows curve written) 0 n
+      ∙ ap (λ (fs : List Flow). fs ++ scheduleFlows curve written (0 + n)) (flat-same (λ k. k) (scheduleFlows curve written) (scheduleFlows curve ladder) 0 n (λ k h. old-schedule k (omega arith)))
       ∙ ap (λ (fs : List Flow). flatMap (scheduleFlows curve ladder) (table (λ k. k) 0 n) ++ fs) (ap (scheduleFlows curve written) (zero-add n) ∙ new-schedule e)
 
   pub push-flows : ladderFlows curve (withLeg curve l ladder n) (countWithLeg curve l n) ≡ ladderFlows curve ladder n ++ flowsOn curve (legFlows l)
@@ -120,3 +147,51 @@ module _ (curve : ℕ) (l : Leg) (ladder : List ℕ) (n : ℕ) (room : n * 6 + 6
           rw (p, q, eqb-true (l .count) 0 q) (sym (append-nil _))
       go false t p q =
           rw (p, off-curve curve (flowOf l) 0 (l .count) (λ k. p)) (sym (append-nil _))
+
+  -- ---- and a ladder in its limits stays so
+
+  old-limits : (i : ℕ) → i < n → ScheduleLimits ladder i → ScheduleLimits written i
+  old-limits i h s =
+      let at0 = old-number (i * 6) (omega arith) in
+      let at1 = old-number (i * 6 + 1) (omega arith) in
+      let at2 = old-number (i * 6 + 2) (omega arith) in
+      let at3 = old-number (i * 6 + 3) (omega arith) in
+      let at4 = old-number (i * 6 + 4) (omega arith) in
+      record {
+        some = rw at2 (s .some);
+        most = rw at2 (s .most);
+        lastDay = rw (at0, at1, at2) (s .lastDay);
+        amount = rw (at2, at3) (s .amount);
+        lastAmount = rw at4 (s .lastAmount);
+      }
+
+  new-limits : (l .count ≡ 0 → ⊥) → LegLimits l → Amounts l → ScheduleLimits written n
+  new-limits some h a =
+      record {
+        some = rw (number 2 (omega arith)) (omega (arith, some));
+        most = rw (number 2 (omega arith)) (h .few);
+        lastDay = rw (first-is, number 1 (omega arith), number 2 (omega arith)) (h .reach);
+        amount = rw (number 2 (omega arith), number 3 (omega arith)) (a .each);
+        lastAmount = rw (number 4 (omega arith)) (a .last (omega (arith, some)));
+      }
+
+  pub push-limits : LegLimits l → Amounts l → ((i : ℕ) → i < n → ScheduleLimits ladder i)
+      → (i : ℕ) → i < countWithLeg curve l n → ScheduleLimits (withLeg curve l ladder n) i
+  unfolding withLeg countWithLeg
+  push-limits h a old = go (standsOn curve l) refl
+    where
+      go : (t : Bool) → standsOn curve l ≡ t → (i : ℕ) → i < cond t (n + 1) n → ScheduleLimits (cond t written ladder) i
+      go false e i k = old i k
+      go true e i k = last (ℕ-discrete i n)
+        where
+          last : Dec (i ≡ n) → ScheduleLimits written i
+          last (yes p) = rw p (new-limits (eqb-false (l .count) 0 (not-true _ (both (eqb (l .curve) curve) (not (eqb (l .count) 0)) e .1))) h a)
+          last (no p) = old-limits i (omega arith) (old i (omega arith))
+
+  pub push-few : countWithLeg curve l n ≤ n + 1
+  unfolding countWithLeg
+  push-few = go (standsOn curve l)
+    where
+      go : (t : Bool) → cond t (n + 1) n ≤ n + 1
+      go true = omega arith
+      go false = omega arith

@@ -8,4 +8,3 @@ pub mod Every
 pub mod Worst
 pub mod Tables
 pub mod Tests
-pub mod Tables

@@ -50,7 +50,7 @@ pub record ScheduleLimits (l : List ℕ) (i : ℕ) : Type 0 where
   pub some : 1 ≤ payments l i
   pub most : payments l i ≤ 120
   pub lastDay : firstDay l i + (payments l i - 1) * period l i ≤ 10950
-  pub amount : amount l i ≤ unit
+  pub amount : 2 ≤ payments l i → amount l i ≤ unit
   pub lastAmount : lastAmount l i ≤ unit
 
 -- a ladder in its limits: its flows are few enough that no sum of theirs leaves 64 bits
