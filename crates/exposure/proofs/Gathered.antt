@@ -64,11 +64,12 @@ no-flows curve = refl
 pub on-append : (curve : ℕ) (a b : List Flow) → flowsOn curve (a ++ b) ≡ flowsOn curve a ++ flowsOn curve b
 unfolding flowsOn
 on-append curve [] b = refl
-on-append curve (f ∷ a) b = go (eqb (f .curve) curve)
+on-append curve (f ∷ a) b = go (eqb (f .curve) curve) (on-append curve a b)
   where
-    go : (t : Bool) → cond t (f ∷ flowsOn curve (a ++ b)) (flowsOn curve (a ++ b)) ≡ cond t (f ∷ flowsOn curve a) (flowsOn curve a) ++ flowsOn curve b
-    go true = ap (λ (l : List Flow). f ∷ l) (on-append curve a b)
-    go false = on-append curve a b
+    go : (t : Bool) → flowsOn curve (a ++ b) ≡ flowsOn curve a ++ flowsOn curve b
+        → cond t (f ∷ flowsOn curve (a ++ b)) (flowsOn curve (a ++ b)) ≡ cond t (f ∷ flowsOn curve a) (flowsOn curve a) ++ flowsOn curve b
+    go true e = ap (λ (l : List Flow). f ∷ l) e
+    go false e = e
 
 -- ---- the amounts of a leg none of whose flows is above the largest
 
