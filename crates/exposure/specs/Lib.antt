@@ -1,1 +1,3 @@
 pub mod Schedules
+pub mod Growth
+pub mod Exposures

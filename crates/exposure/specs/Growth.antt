@@ -1,0 +1,26 @@
+-- A ladder that grows by flows. Assumes nothing.
+use mathlib.Core.Path.{_≡_}
+use mathlib.Core.Bool.{false}
+use mathlib.Core.List.{List, _++_}
+use Prim.Native.Nat.{ℕ, _+_, _≤_, _<_}
+use Rattle.discount.specs.declared.Flow.{Flow}
+use Rattle.flows.specs.declared.Legs.{Legs}
+use Rattle.flows.specs.Legs.{legsFlows, anyAbove}
+use Rattle.flows.specs.Limits.{LegsLimits}
+use Rattle.margin.specs.Exposure.{flowsOn}
+use Rattle.margin.specs.Ladder.{ladderFlows, ScheduleLimits}
+
+-- the first n schedules are in their limits
+abbrev pub InLimits : List ℕ → ℕ → Type 0
+InLimits ladder n = (i : ℕ) → i < n → ScheduleLimits ladder i
+
+-- from n schedules to m, by those of the flows that stand on the curve
+pub record Grown (curve : ℕ) (fs : List Flow) (before : List ℕ) (n : ℕ) (after : List ℕ) (m : ℕ) : Type 0 where
+  pub flows : ladderFlows curve after m ≡ ladderFlows curve before n ++ flowsOn curve fs
+  pub limits : InLimits before n → InLimits after m
+  pub few : m ≤ n + 3
+
+-- legs in their limits
+pub record LegsSound (l : Legs) : Type 0 where
+  pub reach : LegsLimits l
+  pub within : anyAbove (legsFlows l) ≡ false
