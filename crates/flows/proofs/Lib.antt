@@ -4,3 +4,4 @@ pub mod Capped
 pub mod Above
 pub mod Numbered
 pub mod Reach
+pub mod Accepted
