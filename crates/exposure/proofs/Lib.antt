@@ -1,2 +1,3 @@
 pub mod Pushing
 pub mod Gathered
+pub mod Growing
