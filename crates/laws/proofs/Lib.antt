@@ -5,3 +5,4 @@ pub mod Walk
 pub mod Lists
 pub mod Bools
 pub mod Every
+pub mod All

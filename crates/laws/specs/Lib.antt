@@ -2,3 +2,4 @@ pub mod Greatest
 pub mod Distance
 pub mod Walk
 pub mod Every
+pub mod All
