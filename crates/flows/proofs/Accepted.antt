@@ -66,7 +66,7 @@ module _ {curves : Curves} (f : Fields) (r : Sound curves f) where
     security = security;
   }
 
-  by-kind : (kind : ℕ) → f .form .kind ≡ kind → pickTrade kind (outrightOf f) (repoOf f) ≡ tradeOf f
+  pub by-kind : (kind : ℕ) → f .form .kind ≡ kind → pickTrade kind (outrightOf f) (repoOf f) ≡ tradeOf f
   unfolding tradeOf
   by-kind kind e = ap (λ (k : ℕ). pickTrade k (outrightOf f) (repoOf f)) (sym e)
 

@@ -5,3 +5,5 @@ pub mod Above
 pub mod Numbered
 pub mod Reach
 pub mod Accepted
+pub mod Bounded
+pub mod Figures

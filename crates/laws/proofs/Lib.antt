@@ -8,3 +8,4 @@ pub mod Every
 pub mod Worst
 pub mod Tables
 pub mod Tests
+pub mod All

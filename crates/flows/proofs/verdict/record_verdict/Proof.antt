@@ -1,8 +1,6 @@
 -- `flows::verdict::record_verdict` meets its contract. Assumes nothing.
 use mathlib.Core.Path.{sym, _∙_}
 use borrow.Author.Needs.{needs}
-use Rattle.trade.specs.Read.{tradeOf}
-use Rattle.flows.specs.Limits.{TradeLimits}
 use Rattle.flows.specs.Verdict.{recordVerdict}
 use Rattle.flows.proofs.Accepted.{sound, trade-limits}
 use Rattle.flows.proofs.verdict.record_verdict.Statement.{statement}

@@ -1,5 +1,4 @@
 -- `flows::walk::breaks_flow_limit` meets its contract. Assumes nothing.
-use mathlib.Core.Path.{sym}
 use Rattle.flows.specs.Legs.{legsOf, flowsOf, breaksFlowLimit}
 use Rattle.flows.proofs.Above.{any-capped, any-legs}
 use borrow.Author.Needs.{needs}
