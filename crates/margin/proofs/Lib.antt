@@ -1,1 +1,4 @@
 pub mod Bounded
+pub mod Totals
+pub mod LadderFlows
+pub mod Folds

@@ -1,5 +1,7 @@
 pub mod Exposure
 pub mod Ladder
 pub mod Losses
+pub mod Totals
+pub mod Factors
 pub mod Margins
 pub mod Demand
