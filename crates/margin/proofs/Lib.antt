@@ -2,3 +2,4 @@ pub mod Bounded
 pub mod Totals
 pub mod LadderFlows
 pub mod Folds
+pub mod DayFactors
