@@ -3,3 +3,6 @@ pub mod Totals
 pub mod LadderFlows
 pub mod Folds
 pub mod DayFactors
+pub mod Sizes
+pub mod Stressing
+pub mod Currencies

@@ -3,5 +3,6 @@ pub mod Ladder
 pub mod Losses
 pub mod Totals
 pub mod Factors
+pub mod Worst
 pub mod Margins
 pub mod Demand

@@ -2,6 +2,8 @@
 
 pub mod factors;
 pub mod ladder;
+pub mod losses;
+pub mod margins;
 pub mod total;
 
 // The figures of a curve.
