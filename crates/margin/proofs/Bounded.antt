@@ -1,11 +1,9 @@
 -- Demand 3, over the definitions. T is the sum of a curve's tolerances. The base is within T of the exact base, each loss and the worst one within 2T of
 -- the exact ones, and no listed scenario's exact loss is above that of the scenario shown by more than 4T. An initial is within twice the summed
 -- tolerances of the sum of the exact worst losses. Assumes nothing.
-use mathlib.Core.Path.{_≡_, refl}
 use mathlib.Core.Bool.{Bool, true, false, cond}
 use mathlib.Core.List.{List, [], _∷_, map}
 use Prim.Native.Nat.{ℕ, _+_, _*_, _-_, _<_}
-use native.Mathlib.Omega.{arith}
 use lib.Dec.{eqb}
 use lib.IntN.{ℤ, negℤ, _+ℤ_, _-ℤ_}
 use Rattle.laws.specs.Distance.{Below, Within}

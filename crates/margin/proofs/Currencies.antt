@@ -1,21 +1,20 @@
 -- The sums of a currency: what the code holds with one curve more, and that it fits; the loop over the curves; the places behind them. Assumes nothing.
 use mathlib.Core.Path.{_≡_, refl, sym, _∙_, ap}
 use mathlib.Core.Bool.{Bool, true, false, cond}
-use mathlib.Core.List.{List, [], _∷_, _++_}
-use Prim.Native.Nat.{ℕ, _+_, _-_, _*_, _^_, _≤_, _<_}
+use mathlib.Core.List.{List, _∷_}
+use Prim.Native.Nat.{ℕ, _+_, _^_, _≤_, _<_}
 use native.Mathlib.Numerals.{add-one}
 use native.Mathlib.Omega.{arith}
 use borrow.Author.Tests.{eq-eqb, ne-eqb}
 use lib.Dec.{eqb}
 use lib.IntN.{ℤ, pos, natAbs, _+ℤ_, _-ℤ_, +ℤ-assoc, +ℤ-idl, +ℤ-idr}
-use lib.ListN.{length, getD, take, drop, replicate}
+use lib.ListN.{length, getD, take, drop}
 use Rattle.laws.proofs.Signed.{read, read-is, abs-add, abs-sub}
 use Rattle.laws.proofs.Lists.{drop-next, drop-end}
 use Rattle.decimal.specs.Product.{unit}
 use Rattle.margin.specs.declared.CurveMargin.{CurveMargin}
 use Rattle.margin.specs.declared.CurrencyMargin.{CurrencyMargin}
 use Rattle.margin.specs.declared.margins.Sums.{Sums}
-use Rattle.margin.specs.Totals.{mostFlows}
 use Rattle.margin.specs.Margins.{sumIn, currencyMargin, noCurve, MarginLimits, plusCurve, SumsLimits, PlacesLimits}
 
 -- ---- one curve more
@@ -53,16 +52,19 @@ module _ (t : Sums) (h : SumsLimits 8 t) where
   unfolding unit
   total-size = omega (arith, abs-sub (t .variation) (t .initial), h .initial, h .variation)
 
-  pub initial-read : read (t .initial) ≡ t .initial
+  initial-read : read (t .initial) ≡ t .initial
   unfolding unit
   initial-read = read-is (t .initial) (omega (arith, h .initial))
 
-  pub variation-read : read (t .variation) ≡ t .variation
+  variation-read : read (t .variation) ≡ t .variation
   unfolding unit
   variation-read = read-is (t .variation) (omega (arith, h .variation))
 
   pub code-total : read (t .variation) -ℤ read (t .initial) ≡ t .variation -ℤ t .initial
   code-total = rw (initial-read, variation-read) refl
+
+  pub code-figures : _≡_ {A = CurrencyMargin} (record { initial = read (t .initial); variation = read (t .variation); total = read (read (t .variation) -ℤ read (t .initial)) }) (record { initial = t .initial; variation = t .variation; total = t .variation -ℤ t .initial })
+  code-figures = rw (code-total, read-is (t .variation -ℤ t .initial) total-size, initial-read, variation-read) refl
 
 -- ---- the loop: what is summed and what is left are together all
 

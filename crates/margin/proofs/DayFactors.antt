@@ -22,14 +22,13 @@ use Rattle.discount.specs.declared.Flow.{Flow}
 use Rattle.discount.specs.Flows.{signed, total, sum, flowValue, flowTolerance}
 use Rattle.curve.specs.declared.Node.{Node}
 use Rattle.curve.specs.Rates.{rateAt}
-use Rattle.margin.specs.declared.total.Total.{Total}
 use Rattle.margin.specs.Totals.{plusFlows, noFlows, totalOn, AllFlowLimits}
 use Rattle.margin.specs.Factors.{dayCount, factorIn, FactorLimits, marked, AllMarked, factorsOn}
 use Rattle.margin.proofs.Folds.{plusFlows-none}
 
 -- ---- days marked
 
-length-marked : (fs : List Flow) (a : List ℕ) → length (marked fs a) ≡ length a
+pub length-marked : (fs : List Flow) (a : List ℕ) → length (marked fs a) ≡ length a
 unfolding marked
 length-marked [] a = refl
 length-marked (f ∷ fs) a = length-marked fs (set a (f .day) 1) ∙ length-set a (f .day) 1

@@ -1,5 +1,5 @@
 -- The flows of a ladder: each in its limits, and those that a loop has left. Assumes nothing.
-use mathlib.Core.Path.{_≡_, refl, sym, _∙_, ap}
+use mathlib.Core.Path.{_≡_, sym, _∙_}
 use mathlib.Core.Bool.{Bool, true, false, cond, not}
 use mathlib.Core.List.{List, [], _∷_, _++_, flatMap}
 use Prim.Native.Nat.{ℕ, zero, suc, _+_, _-_, _*_, _≤_, _<_}
@@ -8,14 +8,14 @@ use native.Mathlib.Numerals.{add-one}
 use native.Mathlib.Omega.{arith}
 use borrow.Author.Tests.{eq-eqb, ne-eqb}
 use lib.Dec.{eqb}
-use lib.ListN.{length, length-append}
+use lib.ListN.{length}
 use Rattle.laws.specs.Walk.{table}
 use Rattle.laws.proofs.Walk.{length-table}
 use Rattle.laws.proofs.Tables.{table-step, table-end}
 use Rattle.decimal.specs.Product.{unit}
 use Rattle.discount.specs.declared.Flow.{Flow}
 use Rattle.margin.specs.Ladder.{firstDay, period, payments, amount, lastAmount, received, payment, scheduleFlows, ladderFlows, ScheduleLimits, LadderLimits}
-use Rattle.margin.specs.Totals.{FlowLimits, AllFlowLimits, mostFlows}
+use Rattle.margin.specs.Totals.{FlowLimits, AllFlowLimits}
 
 -- ---- a payment
 

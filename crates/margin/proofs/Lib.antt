@@ -6,3 +6,5 @@ pub mod DayFactors
 pub mod Sizes
 pub mod Stressing
 pub mod Currencies
+pub mod Places
+pub mod Accounts

@@ -1,7 +1,6 @@
 -- How large the figures of a curve can be: what keeps every sum in 64 bits. Assumes nothing.
-use mathlib.Core.Path.{_≡_, refl}
 use mathlib.Core.List.{List, [], _∷_, map}
-use Prim.Native.Nat.{ℕ, _+_, _*_, _^_, _≤_, _<_}
+use Prim.Native.Nat.{ℕ, _*_, _^_, _≤_, _<_}
 use native.Mathlib.Nat.{le-trans, mul-le-mul-right}
 use native.Mathlib.Omega.{arith}
 use lib.IntN.{ℤ, natAbs}
@@ -18,7 +17,7 @@ use Rattle.curve.specs.Scenarios.{scenarioCount, scenarioAt}
 use Rattle.curve.specs.Stress.{stressed}
 use Rattle.curve.proofs.Scenarios.{scenarios-some}
 use Rattle.margin.specs.Exposure.{Exposure}
-use Rattle.margin.specs.Losses.{valueOn, baseOf, lossAt, worstAt, toleranceOf}
+use Rattle.margin.specs.Losses.{valueOn, baseOf, lossAt, worstAt}
 use Rattle.margin.specs.Margins.{curveMargin, MarginLimits}
 use Rattle.margin.specs.Totals.{AllFlowLimits, mostFlows}
 use Rattle.margin.proofs.Totals.{tolerance-size, signed-size}

@@ -3,7 +3,6 @@ use mathlib.Core.Path.{_≡_, refl, sym, _∙_, ap}
 use mathlib.Core.Bool.{Bool, true, false, cond}
 use mathlib.Core.List.{List, map}
 use Prim.Native.Nat.{ℕ, _+_, _-_, _^_, _≤_, _<_}
-use native.Mathlib.Omega.{arith}
 use lib.IntN.{ℤ, natAbs, _-ℤ_}
 use lib.ListN.{length}
 use lib.Signed.{ltZ}
@@ -17,17 +16,21 @@ use Rattle.curve.specs.declared.Components.{Components}
 use Rattle.curve.specs.declared.Scenario.{Scenario}
 use Rattle.curve.specs.Rates.{nodesOf}
 use Rattle.curve.specs.Limits.{Proper}
-use Rattle.curve.specs.Scenarios.{scenarioCount, scenarioAt}
+use Rattle.curve.specs.Scenarios.{scenarioAt}
 use Rattle.curve.specs.Stress.{stressed, stressedCurve}
 use Rattle.curve.proofs.Stress.{nodes-stressed, proper-stressed}
 use Rattle.margin.specs.declared.total.Total.{Total}
 use Rattle.margin.specs.declared.losses.Loss.{Loss}
 use Rattle.margin.specs.Exposure.{Exposure, exposure}
 use Rattle.margin.specs.Losses.{valueOn, baseOf, lossAt, worstAt}
-use Rattle.margin.specs.Totals.{AllFlowLimits, mostFlows, totalOn}
-use Rattle.margin.specs.Ladder.{ladderFlows}
+use Rattle.margin.specs.Totals.{AllFlowLimits, totalOn}
+use Rattle.margin.specs.Ladder.{ladderFlows, LadderLimits}
+use Rattle.margin.specs.Factors.{dayCount, marked}
+use Rattle.margin.specs.Margins.{curveMargin}
+use Rattle.margin.specs.declared.CurveMargin.{CurveMargin}
 use Rattle.margin.specs.Worst.{worseOf, LossLimits, worstOf, Ready}
 use Rattle.margin.proofs.LadderFlows.{ladder-limits}
+use Rattle.margin.proofs.DayFactors.{length-marked, all-marked}
 use Rattle.margin.proofs.Sizes.{value-size, loss-size, value-fits, loss-fits}
 
 -- ---- what the code's test of two losses says
@@ -106,3 +109,35 @@ module _ (l : ℕ → ℤ) (n : ℕ) where
 
     pub found-all : n ≤ s → w ≡ record { amount = l (worst l 0 (upFrom 1 (n - 1))); scenario = worst l 0 (upFrom 1 (n - 1)) }
     found-all k = rw (best-all l n (w .scenario) s (h .best) k) (ap (λ (z : ℤ). record { amount = z; scenario = w .scenario }) (h .loss))
+
+-- ---- the figures of a curve, by what the code holds of them
+
+-- a loss does not depend on the currency
+module _ (currency : ℕ) (c : Curve) (x : Components) (fs : List Flow) where
+  same-loss : (s : ℕ) → lossAt flowValue (exposure currency c x fs) s ≡ lossAt flowValue (exposure 0 c x fs) s
+  unfolding lossAt
+  same-loss s = refl
+
+  same-worst : worstAt flowValue (exposure currency c x fs) ≡ worstAt flowValue (exposure 0 c x fs)
+  unfolding worstAt lossAt
+  same-worst = refl
+
+pub ready-marked : (c : Curve) (id : ℕ) (l : List ℕ) (n : ℕ) (blank days : List ℕ) → Proper c → LadderLimits l n → length blank ≡ dayCount
+    → days ≡ marked (ladderFlows id l n) blank → Ready c id l n days
+ready-marked c id l n blank days p h e m =
+    rw m
+    (record { proper = p; ladder = h; places = length-marked (ladderFlows id l n) blank ∙ e; marks = all-marked (ladderFlows id l n) blank (ladder-limits id l n h) e })
+
+module _ (c : Curve) (x : Components) (id : ℕ) (l : List ℕ) (n : ℕ) (days : List ℕ) (h : Ready c id l n days) (t : Total) (et : t ≡ totalOn (nodesOf c) (ladderFlows id l n)) where
+  pub base-read : read (t .sum) ≡ baseOf flowValue (held c x id l n days h)
+  base-read = rw et (read-is (baseOf flowValue (held c x id l n days h)) (base-fits c x id l n days h))
+
+  pub margin-is : (currency : ℕ) (w : Loss) → w ≡ worstOf (held c x id l n days h)
+      → record { base = read (t .sum); loss = read (w .amount); scenario = w .scenario; currency = currency; tolerance = t .tolerance } ≡ curveMargin (exposure currency c x (ladderFlows id l n))
+  unfolding curveMargin
+  margin-is currency w ew =
+      let e : CurveMargin = curveMargin (exposure currency c x (ladderFlows id l n)) in
+      let at : ℕ = worstAt flowValue (held c x id l n days h) in
+      let loss : read (w .amount) ≡ lossAt flowValue (held c x id l n days h) at =
+      ap (λ (w : Loss). read (w .amount)) ew ∙ read-is (lossAt flowValue (held c x id l n days h) at) (losses-fit c x id l n days h at) in
+      rw (base-read, loss, same-worst currency c x (ladderFlows id l n), same-loss currency c x (ladderFlows id l n) at) (cc (ew, et))

@@ -1,12 +1,10 @@
 -- The running total: what the code holds with one flow more, and that it fits; the fold over a list, and its sum. Assumes nothing.
-use mathlib.Core.Path.{_≡_, refl, sym, _∙_, ap}
+use mathlib.Core.Path.{_≡_, refl}
 use mathlib.Core.Bool.{Bool, true, false}
-use mathlib.Core.List.{List, [], _∷_, _++_}
-use Prim.Native.Nat.{ℕ, suc, _+_, _*_, _/_, _%_, _^_, _≤_, _<_}
-use native.Mathlib.Nat.{le-trans, mul-le-mul, suc-mul}
+use Prim.Native.Nat.{ℕ, _+_, _*_, _/_, _%_, _^_, _≤_, _<_}
+use native.Mathlib.Nat.{le-trans, mul-le-mul}
 use native.Mathlib.Omega.{arith}
-use lib.IntN.{ℤ, pos, natAbs, _+ℤ_, _-ℤ_, +ℤ-assoc, +ℤ-idl, +ℤ-idr}
-use lib.ListN.{length, length-append}
+use lib.IntN.{pos, natAbs, _+ℤ_, _-ℤ_}
 use mir.Syntax.{w64}
 use mir.Val.{SFits}
 use Rattle.laws.proofs.Signed.{fits, cast, read, cast-is, read-is, abs-neg, abs-add, abs-sub}
@@ -14,9 +12,9 @@ use Rattle.decimal.specs.Product.{unit, product}
 use Rattle.decimal.proofs.Products.{product-le}
 use Rattle.discount.specs.Discount.{year, products, tolerance}
 use Rattle.discount.specs.declared.Flow.{Flow}
-use Rattle.discount.specs.Flows.{signed, total, sum, flowTolerance}
+use Rattle.discount.specs.Flows.{signed, sum}
 use Rattle.margin.specs.declared.total.Total.{Total}
-use Rattle.margin.specs.Totals.{plusFlow, plusFlows, noFlows, FlowLimits, AllFlowLimits, mostFlows, RoomFor}
+use Rattle.margin.specs.Totals.{FlowLimits, RoomFor}
 
 -- ---- the size of a tolerance
 
@@ -36,6 +34,9 @@ signed-size false n = abs-neg (pos n)
 
 -- ---- one flow more: what the code holds, and that it fits
 
+pub off-fits : (t : Total) → RoomFor 1 t → (a days : ℕ) → a ≤ unit → days ≤ 10950 → t .tolerance + tolerance a days < 2 ^ 64
+off-fits t h a days ha hd = omega (arith, h .off, tolerance-size a days ha hd)
+
 module _ (t : Total) (f : Flow) (factor : ℕ) (h : RoomFor 1 t × FlowLimits f × (factor ≤ unit)) where
   abbrev v : ℕ
   v = product (f .amount) factor
@@ -46,9 +47,6 @@ module _ (t : Total) (f : Flow) (factor : ℕ) (h : RoomFor 1 t × FlowLimits f 
   pub value-fits : SFits w64 (pos v)
   unfolding unit
   value-fits = fits (pos v) (omega (arith, value-size))
-
-  pub off-fits : t .tolerance + flowTolerance f < 2 ^ 64
-  off-fits = omega (arith, h .0 .off, tolerance-size (f .amount) (f .day) (h .1 .amount) (h .1 .day))
 
   pub more-size : natAbs (t .sum +ℤ pos v) < 2 ^ 63
   unfolding unit

@@ -11,7 +11,7 @@ use Rattle.discount.specs.Flows.{flowValue}
 use Rattle.curve.specs.declared.Curve.{Curve}
 use Rattle.curve.specs.Limits.{Proper}
 use Rattle.margin.specs.Exposure.{Exposure}
-use Rattle.margin.specs.Losses.{lossAt, worstAt, worstLoss}
+use Rattle.margin.specs.Losses.{worstAt, worstLoss}
 use Rattle.margin.specs.Totals.{mostFlows}
 use Rattle.margin.specs.Ladder.{ladderFlows, LadderLimits}
 use Rattle.margin.specs.Factors.{dayCount, AllMarked}

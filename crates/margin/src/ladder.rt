@@ -1,7 +1,7 @@
 // The value of a cash flow ladder, given the factor of each day.
 ghost use mathlib.Core.Path.{_≡_};
 ghost use Prim.Native.Nat.{_+_, _*_, _≤_, _<_};
-ghost use lib.ListN.{length, getD};
+ghost use lib.ListN.{length};
 ghost use Rattle.margin.specs.Ladder.{payments, payment, scheduleFlows, ladderFlows, ScheduleLimits, LadderLimits};
 ghost use Rattle.margin.specs.Totals.{plusFlows, noFlows, RoomFor};
 ghost use Rattle.margin.specs.Factors.{factorIn, FactorLimits};

@@ -27,7 +27,16 @@ pub fn value_on(id: u64, curve: Curve, l: &[u64], n: usize, asked: &[u64]) -> To
 }
 
 // The loss of scenario s: the base less the value at the stressed nodes. The currency does not matter here.
-pub fn loss_of(id: u64, curve: Curve, components: Components, l: &[u64], n: usize, asked: &[u64], base: i64, s: u64) -> i64
+pub fn loss_of(
+    id: u64,
+    curve: Curve,
+    components: Components,
+    l: &[u64],
+    n: usize,
+    asked: &[u64],
+    base: i64,
+    s: u64,
+) -> i64
     requires { ⌜ Ready curve id (now l) n (now asked) × ProperComponents components × (base ≡ baseOf flowValue (exposure 0 curve components (ladderFlows id (now l) n))) × (s < scenarioCount components) ⌝ }
     ensures { λ r. ⌜ r ≡ lossAt flowValue (exposure 0 curve components (ladderFlows id (now (l .entry)) n)) s ⌝ }
 {
@@ -56,7 +65,15 @@ impl Loss {
 }
 
 // The first scenario with the largest loss.
-pub fn worst_of(id: u64, curve: Curve, components: Components, l: &[u64], n: usize, asked: &[u64], base: i64) -> Loss
+pub fn worst_of(
+    id: u64,
+    curve: Curve,
+    components: Components,
+    l: &[u64],
+    n: usize,
+    asked: &[u64],
+    base: i64,
+) -> Loss
     requires { ⌜ Ready curve id (now l) n (now asked) × ProperComponents components × (base ≡ baseOf flowValue (exposure 0 curve components (ladderFlows id (now l) n))) ⌝ }
     ensures { λ r. ⌜ r ≡ worstOf (exposure 0 curve components (ladderFlows id (now (l .entry)) n)) ⌝ }
 {

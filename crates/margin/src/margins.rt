@@ -17,7 +17,14 @@ use curve::Components;
 use curve::Curve;
 
 // The figures of a curve with a ladder of n schedules on it.
-pub fn curve_margin(id: u64, currency: u64, curve: Curve, components: Components, l: &[u64], n: usize) -> CurveMargin
+pub fn curve_margin(
+    id: u64,
+    currency: u64,
+    curve: Curve,
+    components: Components,
+    l: &[u64],
+    n: usize,
+) -> CurveMargin
     requires { ⌜ Proper curve × ProperComponents components × LadderLimits (now l) n ⌝ }
     ensures { λ r. ⌜ r ≡ curveMargin (exposure currency curve components (ladderFlows id (now (l .entry)) n)) ⌝ }
 {

@@ -1,6 +1,6 @@
 -- `margin::ladder::value_of` meets its contract: what is added and what is left are together all. Assumes nothing.
 use borrow.Author.Needs.{needs}
-use Prim.Native.Nat.{_-_, _≤_, _<_}
+use Prim.Native.Nat.{_-_, _<_}
 use native.Mathlib.Omega.{arith}
 use Rattle.margin.specs.Factors.{factorIn}
 use Rattle.margin.specs.Ladder.{scheduleFlows, ladderFlows}

@@ -1,41 +1,43 @@
+-- `margin::margins::cleared` meets its contract. Assumes nothing.
+use borrow.Author.Needs.{needs}
+use mathlib.Core.Path.{_≡_}
+use Prim.Native.Nat.{_-_}
+use native.Mathlib.Omega.{arith}
+use lib.ListN.{length}
+use Rattle.margin.specs.Margins.{noCurve}
+use Rattle.margin.proofs.Places.{Filling, filling-none, filling-next, filling-all}
 use Rattle.margin.proofs.margins.cleared.Statement.{statement}
 use Rattle.margin.proofs.margins.cleared.Tie as tie
-use Rattle.margin.proofs.margins.cleared.Reads as reads
-use Rattle.margin.proofs.margins.cleared.Lts as lts
 
 abbrev Inv-loop : tie.InvT-loop
-Inv-loop count r₀ none i₀ r i = ?
+Inv-loop count r₀ none i₀ r i = Filling noCurve r₀ count r i
 
 abbrev μ-loop : tie.MeasureT-loop
-μ-loop count r₀ none i₀ r i = ?
+μ-loop count r₀ none i₀ r i = 8 - i
 
--- src/margins.rt:95:5
+places : (s : tie.Start Inv-loop μ-loop) → length (s .args .curves) ≡ 8
+places s = search needs
+
 loop-holds : tie.Need-loop-holds Inv-loop μ-loop
-loop-holds c = ?
+loop-holds c = filling-none _ _ _ (omega (arith, places c, c .pre))
 
--- src/margins.rt:96:9
 mul-r : tie.Need-mul-r Inv-loop μ-loop
-mul-r c = ?
+mul-r c = search needs
 
--- src/margins.rt:96:9
 array-set-from-r : tie.Need-array-set-from-r Inv-loop μ-loop
-array-set-from-r c = ?
+array-set-from-r c = search needs
 
--- src/margins.rt:97:9
 add-i : tie.Need-add-i Inv-loop μ-loop
-add-i c = ?
+add-i c = search needs
 
--- src/margins.rt:95:5
 loop-less : tie.Need-loop-less Inv-loop μ-loop
-loop-less c = ?
+loop-less c = search needs
 
--- src/margins.rt:95:5
 loop-again : tie.Need-loop-again Inv-loop μ-loop
-loop-again c = ?
+loop-again c = filling-next _ _ _ _ _ (c .before .loop .inv) (omega (arith, places (c .before .before)))
 
--- src/margins.rt:82:1
 returns : tie.Need-returns Inv-loop μ-loop
-returns c = ?
+returns c = filling-all _ _ _ _ _ (c .before .loop .inv) 8 (places (c .before .before)) (search needs)
 
 pub cleared-spec : {M : Type 1} → statement M
 cleared-spec =

@@ -16,7 +16,9 @@ tolerance-requires : tie.Need-tolerance-requires
 tolerance-requires c κs = search needs
 
 add-off : tie.Need-add-off
-add-off c = rw (c .before .tolerance .ensures) (record { fits = off-fits _ _ _ (c .before .before .before .pre) })
+add-off c =
+    let p = c .before .before .before .pre in
+    rw (c .before .tolerance .ensures) (record { fits = off-fits _ (p .0) _ _ (p .1 .amount) (search needs) })
 
 add-t8 : tie.Need-add-t8
 add-t8 c =

@@ -1,6 +1,5 @@
 -- `margin::total::Total::with_schedule` meets its contract: what is added and what is left are together all. Assumes nothing.
 use borrow.Author.Needs.{needs}
-use mathlib.Core.Path.{_≡_}
 use Prim.Native.Nat.{_-_, _<_}
 use native.Mathlib.Omega.{arith}
 use Rattle.margin.specs.Factors.{factorIn}
