@@ -9,3 +9,4 @@ pub mod Worst
 pub mod Tables
 pub mod Tests
 pub mod All
+pub mod Largest

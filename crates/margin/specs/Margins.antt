@@ -1,13 +1,16 @@
 -- The figures of a curve, of a currency and of a whole book (document 01, "Margin"). Assumes nothing.
 use mathlib.Core.Bool.{cond}
 use mathlib.Core.List.{List, [], _∷_, _++_, map}
-use Prim.Native.Nat.{ℕ, _-_}
+use Prim.Native.Nat.{ℕ, _-_, _*_, _≤_, _<_}
 use lib.Dec.{eqb}
-use lib.IntN.{ℤ, pos, _+ℤ_, _-ℤ_}
-use lib.ListN.{length, replicate}
+use lib.IntN.{ℤ, pos, natAbs, _+ℤ_, _-ℤ_}
+use lib.ListN.{length, getD, replicate}
+use Rattle.decimal.specs.Product.{unit}
 use Rattle.discount.specs.Flows.{flowValue}
 use Rattle.margin.specs.Exposure.{Exposure}
 use Rattle.margin.specs.Losses.{baseOf, worstAt, worstLoss, toleranceOf}
+use Rattle.margin.specs.Totals.{mostFlows}
+use Rattle.margin.specs.declared.margins.Sums.{Sums}
 use Rattle.margin.specs.declared.CurveMargin.{CurveMargin}
 use Rattle.margin.specs.declared.CurrencyMargin.{CurrencyMargin}
 use Rattle.margin.specs.declared.Margin.{Margin}
@@ -40,12 +43,35 @@ currencyMargin currency ms =
 abbrev pub noCurve : CurveMargin
 noCurve = record { base = pos 0; loss = pos 0; scenario = 0; currency = 0; tolerance = 0 }
 
--- of an account with so much on its curves, in order: eight places for curves, then TRY, USD, EUR
-unfoldable pub marginOf : ℕ → List Exposure → Margin
-marginOf account es =
+-- an account's figures, from those of its curves in order: eight places for curves, then TRY, USD, EUR
+unfoldable pub assembled : ℕ → List CurveMargin → Margin
+assembled account ms =
     record {
       account = account;
-      curves = map curveMargin es ++ replicate (8 - length es) noCurve;
-      currencies =
-          currencyMargin 1 (map curveMargin es) ∷ currencyMargin 2 (map curveMargin es) ∷ currencyMargin 3 (map curveMargin es) ∷ [];
+      curves = ms ++ replicate (8 - length ms) noCurve;
+      currencies = currencyMargin 1 ms ∷ currencyMargin 2 ms ∷ currencyMargin 3 ms ∷ [];
     }
+
+-- of an account with so much on its curves
+abbrev pub marginOf : ℕ → List Exposure → Margin
+marginOf account es = assembled account (map curveMargin es)
+
+-- a curve's figures of at most so many flows: what keeps the sums over eight curves in 64 bits
+pub record MarginLimits (m : CurveMargin) : Type 0 where
+  pub base : natAbs (m .base) ≤ mostFlows * unit
+  pub loss : natAbs (m .loss) ≤ 2 * (mostFlows * unit)
+
+-- what currency_margin adds up, with one curve more
+unfoldable pub plusCurve : ℕ → Sums → CurveMargin → Sums
+plusCurve currency t m =
+    cond (eqb (m .currency) currency) (record { initial = t .initial +ℤ m .loss; variation = t .variation +ℤ m .base }) t
+
+-- the sums of at most n curves
+pub record SumsLimits (n : ℕ) (t : Sums) : Type 0 where
+  pub initial : natAbs (t .initial) ≤ n * (2 * (mostFlows * unit))
+  pub variation : natAbs (t .variation) ≤ n * (mostFlows * unit)
+
+-- the first count of eight places, each in its limits
+pub record PlacesLimits (ms : List CurveMargin) (count : ℕ) : Type 0 where
+  pub most : count ≤ 8
+  pub each : (i : ℕ) → i < count → MarginLimits (getD ms i noCurve)

@@ -1,5 +1,11 @@
 // The margin of a book: per curve its base value, its worst loss and its tolerance; per currency initial, variation and total.
 
+pub mod factors;
+pub mod ladder;
+pub mod losses;
+pub mod margins;
+pub mod total;
+
 // The figures of a curve.
 pub struct CurveMargin {
     pub base: i64,

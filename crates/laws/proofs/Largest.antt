@@ -1,0 +1,115 @@
+-- `worst` over the numbers from 0 on, n of them: it is the first with the largest value, and a loop that keeps the best so far finds it. Assumes nothing.
+use mathlib.Core.Path.{_≡_, refl, _∙_}
+use mathlib.Core.Bool.{Bool, true, false, cond}
+use mathlib.Core.List.{List, _∷_, List·Memᴰ, List·Memᴰ·head, List·Memᴰ·tail}
+use Prim.Native.Nat.{ℕ, zero, suc, _+_, _-_, _≤_, _<_}
+use native.Mathlib.Decide.{ℕ-discrete}
+use native.Mathlib.Omega.{arith}
+use lib.IntN.{ℤ}
+use lib.Signed.{ltZ, _≤ℤ_, _<ℤ_, ltZ-yes, ltZ-no, ≤ℤ-refl}
+use Rattle.laws.specs.Walk.{table}
+use Rattle.laws.specs.Worst.{worst}
+use Rattle.laws.proofs.Integer.{int}
+use Rattle.laws.proofs.Tables.{table-step, table-end}
+
+-- the numbers from i, n of them
+abbrev pub upFrom : ℕ → ℕ → List ℕ
+upFrom i n = table (λ s. s) i n
+
+-- ---- the list has every number below n
+
+in-upFrom : (i n s : ℕ) → i ≤ s → s < i + n → List·Memᴰ s (upFrom i n)
+unfolding table
+in-upFrom i zero s h k = absurd (omega arith)
+in-upFrom i (suc n) s h k = go (ℕ-discrete s i) (λ m. in-upFrom (suc i) n s m (omega arith))
+  where
+    go : Dec (s ≡ i) → (suc i ≤ s → List·Memᴰ s (upFrom (suc i) n)) → List·Memᴰ s (i ∷ upFrom (suc i) n)
+    go (yes e) r = List·Memᴰ·head e
+    go (no e) r = List·Memᴰ·tail (r (omega arith))
+
+pub numbered : (n s : ℕ) → s < n → List·Memᴰ s (0 ∷ upFrom 1 (n - 1))
+numbered n zero h = List·Memᴰ·head refl
+numbered n (suc s) h = List·Memᴰ·tail (in-upFrom 1 (n - 1) (suc s) (omega arith) (omega arith))
+
+-- ---- a loop's: of the numbers below s, at is the worst
+
+pub record Best (l : ℕ → ℤ) (n at s : ℕ) : Type 0 where
+  pub most : s ≤ n
+  pub before : at < s
+  pub found : worst l 0 (upFrom 1 (n - 1)) ≡ worst l at (upFrom s (n - s))
+
+module _ (l : ℕ → ℤ) (n : ℕ) where
+  pub best-first : 0 < n → Best l n 0 1
+  best-first h = record { most = omega arith; before = omega arith; found = refl }
+
+  module _ (at s : ℕ) (h : Best l n at s) where
+    -- the next number is looked at
+    step : s < n → worst l at (upFrom s (n - s)) ≡ worst l (cond (ltZ (l at) (l s)) s at) (upFrom (s + 1) (n - (s + 1)))
+    unfolding worst
+    step k = rw (table-step (λ s. s) s n k)
+
+    pub best-more : s < n → ltZ (l at) (l s) ≡ true → Best l n s (s + 1)
+    best-more k t = record { most = omega arith; before = omega arith; found = h .found ∙ step k ∙ rw t }
+
+    pub best-kept : s < n → ltZ (l at) (l s) ≡ false → Best l n at (s + 1)
+    best-kept k t = record { most = omega arith; before = omega (arith, h .before); found = h .found ∙ step k ∙ rw t }
+
+    pub best-all : n ≤ s → worst l 0 (upFrom 1 (n - 1)) ≡ at
+    unfolding worst
+    best-all k = h .found ∙ rw (table-end (λ s. s) s n k)
+
+-- ---- what it is: of the numbers below i, none has a larger value than at, and none before at has as large a one
+
+pub record Leads (l : ℕ → ℤ) (at i : ℕ) : Type 0 where
+  pub within : at < i
+  pub most : (s : ℕ) → s < i → l s ≤ℤ l at
+  pub first : (s : ℕ) → s < at → l s <ℤ l at
+
+≤-<-trans : (a b c : ℤ) → a ≤ℤ b → b <ℤ c → a <ℤ c
+≤-<-trans a b c h k = go (ltZ a c) refl
+  where
+    go : (t : Bool) → ltZ a c ≡ t → a <ℤ c
+    go true e = ltZ-yes (rw e tt)
+    go false e = let m : c ≤ℤ a = ltZ-no (rw e tt) in absurd (omega int)
+
+module _ (l : ℕ → ℤ) where
+  leads-next : (at i : ℕ) → Leads l at i → Leads l (cond (ltZ (l at) (l i)) i at) (suc i)
+  leads-next at i h = go (ltZ (l at) (l i)) refl
+    where
+      go : (t : Bool) → ltZ (l at) (l i) ≡ t → Leads l (cond t i at) (suc i)
+      go true e =
+          let less : l at <ℤ l i = ltZ-yes (rw e tt) in
+          record {
+            within = omega arith;
+            most = λ s m. by-last s m (ℕ-discrete s i) less;
+            first = λ s m. ≤-<-trans (l s) (l at) (l i) (h .most s m) less;
+          }
+        where
+          by-last : (s : ℕ) → s < suc i → Dec (s ≡ i) → l at <ℤ l i → l s ≤ℤ l i
+          by-last s m (yes p) less = rw p (≤ℤ-refl (l i))
+          by-last s m (no p) less = omega (int, less, h .most s (omega arith))
+      go false e =
+          let less : l i ≤ℤ l at = ltZ-no (rw e tt) in
+          record { within = omega (arith, h .within); most = λ s m. by-last s m (ℕ-discrete s i) less; first = h .first }
+        where
+          by-last : (s : ℕ) → s < suc i → Dec (s ≡ i) → l i ≤ℤ l at → l s ≤ℤ l at
+          by-last s m (yes p) less = rw p less
+          by-last s m (no p) less = h .most s (omega arith)
+
+  leads-all : (at i n : ℕ) → Leads l at i → Leads l (worst l at (upFrom i n)) (i + n)
+  unfolding worst table
+  leads-all at i zero h = let e : i + 0 ≡ i = omega arith in rw e h
+  leads-all at i (suc n) h =
+      let e : i + suc n ≡ suc i + n = omega arith in
+      rw e (leads-all (cond (ltZ (l at) (l i)) i at) (suc i) n (leads-next at i h))
+
+  pub worst-leads : (n : ℕ) → 0 < n → Leads l (worst l 0 (upFrom 1 (n - 1))) n
+  worst-leads n h =
+      let e : 1 + (n - 1) ≡ n = omega arith in
+      rw e at (leads-all 0 1 (n - 1) start)
+    where
+      only : (s : ℕ) → s < 1 → l s ≤ℤ l 0
+      only s m = let p : s ≡ 0 = omega arith in rw p (≤ℤ-refl (l 0))
+
+      start : Leads l 0 1
+      start = record { within = omega arith; most = only; first = λ s m. absurd (omega arith) }

@@ -1,0 +1,38 @@
+-- From the figures of curves in an array to the margin of an account: what a caller of `margin_of` cites. Assumes nothing.
+use mathlib.Core.Path.{_≡_, sym, _∙_, ap}
+use mathlib.Core.List.{List, [], _∷_, map}
+use Prim.Native.Nat.{ℕ, zero, suc, _≤_, _<_}
+use native.Mathlib.Omega.{arith}
+use lib.ListN.{length, getD, take}
+use lib.Seq.{getD-take}
+use Rattle.margin.specs.Exposure.{Exposure}
+use Rattle.margin.specs.Totals.{AllFlowLimits, mostFlows}
+use Rattle.margin.specs.declared.CurveMargin.{CurveMargin}
+use Rattle.margin.specs.Margins.{curveMargin, noCurve, assembled, marginOf, MarginLimits, PlacesLimits}
+use Rattle.margin.proofs.Sizes.{margin-limits}
+
+-- an exposure whose flows are in their limits, and few enough
+pub record FlowsFit (e : Exposure) : Type 0 where
+  pub each : AllFlowLimits (e .flows)
+  pub few : length (e .flows) ≤ mostFlows
+
+abbrev pub AllFlowsFit : List Exposure → Type 0
+AllFlowsFit [] = Unit {0}
+AllFlowsFit (e ∷ es) = FlowsFit e × AllFlowsFit es
+
+all-limits : (es : List Exposure) → AllFlowsFit es → (i : ℕ) → i < length (map curveMargin es) → MarginLimits (getD (map curveMargin es) i noCurve)
+all-limits [] h i l = absurd (omega arith)
+all-limits (e ∷ es) h zero l = margin-limits e (h .0 .each) (h .0 .few)
+all-limits (e ∷ es) h (suc i) l = all-limits es (h .1) i (omega arith)
+
+-- the first count places hold the figures of the exposures
+module _ (ms : List CurveMargin) (count : ℕ) (es : List Exposure) (e : take count ms ≡ map curveMargin es) where
+  pub places-limits : count ≤ 8 → length (map curveMargin es) ≡ count → AllFlowsFit es → PlacesLimits ms count
+  places-limits most n h =
+      record {
+        most = most;
+        each = λ i l. rw (sym (getD-take count ms i noCurve l) ∙ ap (λ (r : List CurveMargin). getD r i noCurve) e) (all-limits es h i (omega arith));
+      }
+
+  pub margin-of : (account : ℕ) → assembled account (take count ms) ≡ marginOf account es
+  margin-of account = rw e

@@ -1,0 +1,155 @@
+-- The factors of the days that flows fall on: every flow's day is marked, its entry is the factor at the nodes' rate, and so a total by these entries is
+-- the value on the nodes. Assumes nothing.
+use mathlib.Core.Path.{_≡_, refl, sym, _∙_, ap}
+use mathlib.Core.Bool.{Bool, true, false, cond}
+use mathlib.Core.List.{List, [], _∷_, _++_}
+use Prim.Native.Nat.{ℕ, zero, suc, _+_, _≤_, _<_}
+use native.Mathlib.Nat.{zero-add}
+use native.Mathlib.Decide.{decLt}
+use native.Mathlib.Omega.{arith}
+use borrow.Author.Count.{below-more}
+use borrow.Author.Tests.{eq-eqb, ne-eqb}
+use lib.Dec.{eqb}
+use lib.IntN.{ℤ, _+ℤ_}
+use lib.ListN.{length, getD, set, length-set, List·getD-eq-default}
+use lib.Seq.{getD-set-same, getD-set-other}
+use Rattle.laws.proofs.Tables.{table-of}
+use Rattle.laws.proofs.Walk.{length-table, getD-table}
+use Rattle.decimal.specs.Product.{unit, product}
+use Rattle.discount.specs.Discount.{factor, presentValue}
+use Rattle.discount.proofs.Factors.{factor-le}
+use Rattle.discount.specs.declared.Flow.{Flow}
+use Rattle.discount.specs.Flows.{signed, total, sum, flowValue, flowTolerance}
+use Rattle.curve.specs.declared.Node.{Node}
+use Rattle.curve.specs.Rates.{rateAt}
+use Rattle.margin.specs.Totals.{plusFlows, noFlows, totalOn, AllFlowLimits}
+use Rattle.margin.specs.Factors.{dayCount, factorIn, FactorLimits, marked, AllMarked, factorsOn}
+use Rattle.margin.proofs.Folds.{plusFlows-none}
+
+-- ---- days marked
+
+pub length-marked : (fs : List Flow) (a : List ℕ) → length (marked fs a) ≡ length a
+unfolding marked
+length-marked [] a = refl
+length-marked (f ∷ fs) a = length-marked fs (set a (f .day) 1) ∙ length-set a (f .day) 1
+
+-- of all that is to be marked in a₀, the rest is still to be marked in a
+pub record Marking (a₀ : List ℕ) (all : List Flow) (a : List ℕ) (rest : List Flow) : Type 0 where
+  pub same : marked all a₀ ≡ marked rest a
+  pub places : length a ≡ length a₀
+
+pub marking-all : (a : List ℕ) (all : List Flow) → Marking a all a all
+marking-all a all = record { same = refl; places = refl }
+
+module _ (a₀ : List ℕ) (all : List Flow) (a : List ℕ) where
+  pub marking-next : (f : Flow) (rest : List Flow) → Marking a₀ all a (f ∷ rest) → Marking a₀ all (set a (f .day) 1) rest
+  unfolding marked
+  marking-next f rest h = record { same = h .same; places = length-set a (f .day) 1 ∙ h .places }
+
+  pub marking-some : (xs rest : List Flow) → Marking a₀ all a (xs ++ rest) → Marking a₀ all (marked xs a) rest
+  unfolding marked
+  marking-some xs rest h = record { same = h .same ∙ go xs a; places = length-marked xs a ∙ h .places }
+    where
+      go : (xs : List Flow) (a : List ℕ) → marked (xs ++ rest) a ≡ marked rest (marked xs a)
+      go [] a = refl
+      go (f ∷ xs) a = go xs (set a (f .day) 1)
+
+  pub marking-none : Marking a₀ all a [] → a ≡ marked all a₀
+  unfolding marked
+  marking-none h = sym (h .same)
+
+-- a mark stays
+set-kept : (a : List ℕ) (i k : ℕ) → getD a k 0 ≡ 1 → getD (set a i 1) k 0 ≡ 1
+set-kept [] i k h = h
+set-kept (x ∷ a) zero zero h = refl
+set-kept (x ∷ a) zero (suc k) h = h
+set-kept (x ∷ a) (suc i) zero h = h
+set-kept (x ∷ a) (suc i) (suc k) h = set-kept a i k h
+
+marked-kept : (fs : List Flow) (a : List ℕ) (k : ℕ) → getD a k 0 ≡ 1 → getD (marked fs a) k 0 ≡ 1
+unfolding marked
+marked-kept [] a k h = h
+marked-kept (f ∷ fs) a k h = marked-kept fs (set a (f .day) 1) k (set-kept a (f .day) k h)
+
+pub all-marked : (fs : List Flow) (a : List ℕ) → AllFlowLimits fs → length a ≡ dayCount → AllMarked (marked fs a) fs
+unfolding marked
+all-marked [] a h e = tt
+all-marked (f ∷ fs) a h e = (
+  marked-kept fs (set a (f .day) 1) (f .day) (getD-set-same a (f .day) 1 0 (omega (arith, h .0 .day))),
+  all-marked fs (set a (f .day) 1) (h .1) (length-set a (f .day) 1 ∙ e),
+)
+
+-- ---- their factors
+
+module _ (nodes : List Node) (asked : List ℕ) where
+  abbrev pub entry : ℕ → ℕ
+  entry day = cond (eqb (getD asked day 0) 0) 0 (factor (rateAt nodes day) day)
+
+  pub entry-asked : (day : ℕ) → (getD asked day 0 ≡ 0 → ⊥) → entry day ≡ factor (rateAt nodes day) day
+  entry-asked day n = rw (ne-eqb (getD asked day 0) 0 n)
+
+  pub entry-none : (day : ℕ) → getD asked day 0 ≡ 0 → entry day ≡ 0
+  entry-none day e = rw (eq-eqb (getD asked day 0) 0 e)
+
+  entry-most : (day : ℕ) → entry day ≤ unit
+  entry-most day = go (eqb (getD asked day 0) 0)
+    where
+      go : (t : Bool) → cond t 0 (factor (rateAt nodes day) day) ≤ unit
+      go true = omega arith
+      go false = factor-le (rateAt nodes day) day
+
+  length-factors : length (factorsOn nodes asked) ≡ length asked
+  unfolding factorsOn
+  length-factors = length-table entry 0 (length asked)
+
+  factor-at : (day : ℕ) → day < length asked → factorIn (factorsOn nodes asked) day ≡ entry day
+  unfolding factorsOn
+  factor-at day h = getD-table entry 0 (length asked) day 0 h ∙ ap entry (zero-add day)
+
+  module _ (places : length asked ≡ dayCount) where
+    pub factors-limits : FactorLimits (factorsOn nodes asked)
+    factors-limits = record { places = length-factors ∙ places; each = λ day. go day (decLt day (length asked)) }
+      where
+        go : (day : ℕ) → Dec (day < length asked) → factorIn (factorsOn nodes asked) day ≤ unit
+        go day (yes h) = rw (factor-at day h) (entry-most day)
+        go day (no h) = rw (List·getD-eq-default (factorsOn nodes asked) 0 {n = day} (omega (arith, length-factors))) (omega arith)
+
+    -- at each flow's day stands its factor, and so the flow's value is the present value
+    same-values : (fs : List Flow) → AllFlowLimits fs → AllMarked asked fs
+        → total (λ f. product (f .amount) (factorIn (factorsOn nodes asked) (f .day))) fs ≡ total (flowValue (rateAt nodes)) fs
+    unfolding total presentValue
+    same-values [] h m = refl
+    same-values (f ∷ fs) h m =
+        let e : factorIn (factorsOn nodes asked) (f .day) ≡ factor (rateAt nodes (f .day)) (f .day) =
+        factor-at (f .day) (omega (arith, h .0 .day)) ∙ entry-asked (f .day) (λ z. omega (arith, m .0)) in
+        rw e (ap (λ (z : ℤ). signed (f .received) (product (f .amount) (factor (rateAt nodes (f .day)) (f .day))) +ℤ z) (same-values fs (h .1) (m .1)))
+
+    pub total-is : (fs : List Flow) → AllFlowLimits fs → AllMarked asked fs
+        → plusFlows (factorIn (factorsOn nodes asked)) noFlows fs ≡ totalOn nodes fs
+    total-is fs h m =
+        plusFlows-none (factorIn (factorsOn nodes asked)) fs
+        ∙ ap (λ (z : ℤ). record { sum = z; tolerance = sum flowTolerance fs }) (same-values fs h m)
+
+-- ---- a loop's: the entries of the days before this one are filled
+
+pub record Filled (nodes : List Node) (asked factors : List ℕ) (day : ℕ) : Type 0 where
+  pub most : day ≤ length asked
+  pub places : length factors ≡ length asked
+  pub done : (k : ℕ) → k < day → getD factors k 0 ≡ entry nodes asked k
+
+module _ (nodes : List Node) (asked factors : List ℕ) where
+  pub filled-none : length factors ≡ length asked → Filled nodes asked factors 0
+  filled-none e = record { most = omega arith; places = e; done = λ k h. absurd (omega arith) }
+
+  module _ (day : ℕ) (h : Filled nodes asked factors day) where
+    pub filled-next : day < length asked → (x : ℕ) → x ≡ entry nodes asked day → Filled nodes asked (set factors day x) (day + 1)
+    filled-next l x e =
+        record {
+          most = omega arith;
+          places = length-set factors day x ∙ h .places;
+          done = below-more _ day (λ k m. getD-set-other factors day k x 0 (λ p. omega arith) ∙ h .done k m) (getD-set-same factors day x 0 (omega (arith, h .places)) ∙ e);
+        }
+
+    pub filled-all : length asked ≤ day → factors ≡ factorsOn nodes asked
+    unfolding factorsOn
+    filled-all l = table-of (entry nodes asked) 0 (length asked) factors (h .places) (λ k m. h .done k (omega arith))

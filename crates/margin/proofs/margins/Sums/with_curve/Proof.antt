@@ -1,0 +1,27 @@
+-- `margin::margins::Sums::with_curve` meets its contract. Assumes nothing.
+use mathlib.Core.Path.{sym}
+use Rattle.laws.proofs.Signed.{fits, read-is}
+use Rattle.margin.proofs.Currencies.{plus-other, plus-same, initial-size, variation-size, code-initial, code-variation}
+use Rattle.margin.proofs.margins.Sums.with_curve.Statement.{statement}
+use Rattle.margin.proofs.margins.Sums.with_curve.Tie as tie
+
+returns : tie.Need-returns
+returns c = plus-other _ _ _ (c .if1 .taken)
+
+add-t5 : tie.Need-add-t5
+add-t5 c =
+    let p = c .before .before .before .before .before .before .pre in
+    rw (code-initial _ _ p) (fits _ (initial-size _ _ p))
+
+add-t6 : tie.Need-add-t6
+add-t6 c =
+    let p = c .before .before .before .before .before .before .before .before .before .before .pre in
+    rw (code-variation _ _ p) (fits _ (variation-size _ _ p))
+
+returns-2 : tie.Need-returns-2
+returns-2 c =
+    let p = c .before .before .before .before .before .before .before .before .before .before .pre in
+    rw (code-initial _ _ p, code-variation _ _ p, read-is _ (initial-size _ _ p), read-is _ (variation-size _ _ p)) (sym (plus-same _ _ _ (c .before .before .before .before .before .before .before .before .if1 .left)))
+
+pub with-curve-spec : {M : Type 1} → statement M
+with-curve-spec = tie.close (tie.spec returns add-t5 add-t6 returns-2)

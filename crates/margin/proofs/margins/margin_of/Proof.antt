@@ -1,0 +1,41 @@
+-- `margin::margins::margin_of` meets its contract. Assumes nothing.
+use mathlib.Core.Path.{_≡_, refl}
+use native.Mathlib.Omega.{arith}
+use lib.ListN.{length, take}
+use lib.Seq.{length-take-le}
+use Rattle.margin.specs.Margins.{assembled}
+use borrow.Author.Needs.{needs}
+use Rattle.margin.proofs.margins.margin_of.Statement.{statement}
+use Rattle.margin.proofs.margins.margin_of.Tie as tie
+
+currency-margin-requires : tie.Need-currency-margin-requires
+currency-margin-requires c κs = search needs
+
+currency-margin-requires-2 : tie.Need-currency-margin-requires-2
+currency-margin-requires-2 c κs = search needs
+
+currency-margin-requires-3 : tie.Need-currency-margin-requires-3
+currency-margin-requires-3 c κs = search needs
+
+cleared-requires : tie.Need-cleared-requires
+cleared-requires c κs = search needs
+
+places : (s : tie.Start) → length (s .args .curves) ≡ 8
+places s = search needs
+
+returns : tie.Need-returns
+unfolding assembled
+returns c =
+    let s = c .before .before .before .before in
+    let e : length (take (s .args .count) (s .args .curves)) ≡ s .args .count = length-take-le (s .args .count) (s .args .curves) (omega (arith, places s, s .pre .most)) in
+    rw (e, c .cleared .ensures, c .before .currency-margin3 .ensures, c .before .before .currency-margin2 .ensures, c .before .before .before .currency-margin .ensures) refl
+
+pub margin-of-spec : {M : Type 1} → statement M
+margin-of-spec =
+    tie.close
+    (tie.spec
+    currency-margin-requires
+    currency-margin-requires-2
+    currency-margin-requires-3
+    cleared-requires
+    returns)

@@ -1,0 +1,40 @@
+-- The discount factors of the days on which flows fall, as the engine keeps them: a number for each day of document 01, by day. Flows of one day share
+-- it. Assumes nothing.
+use mathlib.Core.Path.{_≡_}
+use mathlib.Core.Bool.{cond}
+use mathlib.Core.List.{List, [], _∷_}
+use Prim.Native.Nat.{ℕ, _≤_}
+use lib.Dec.{eqb}
+use lib.ListN.{length, getD, set}
+use Rattle.laws.specs.Walk.{table}
+use Rattle.decimal.specs.Product.{unit}
+use Rattle.discount.specs.Discount.{factor}
+use Rattle.discount.specs.declared.Flow.{Flow}
+use Rattle.curve.specs.declared.Node.{Node}
+use Rattle.curve.specs.Rates.{rateAt}
+
+-- days 0 to 10,950
+abbrev pub dayCount : ℕ
+dayCount = 10951
+
+-- the factor of a day, as kept
+abbrev pub factorIn : List ℕ → ℕ → ℕ
+factorIn factors day = getD factors day 0
+
+pub record FactorLimits (factors : List ℕ) : Type 0 where
+  pub places : length factors ≡ dayCount
+  pub each : (day : ℕ) → factorIn factors day ≤ unit
+
+-- the days of flows marked by 1
+unfoldable pub marked : List Flow → List ℕ → List ℕ
+marked [] asked = asked
+marked (f ∷ fs) asked = marked fs (set asked (f .day) 1)
+
+-- the day of every flow is marked
+abbrev pub AllMarked : List ℕ → List Flow → Type 0
+AllMarked asked [] = Unit {0}
+AllMarked asked (f ∷ fs) = (getD asked (f .day) 0 ≡ 1) × AllMarked asked fs
+
+-- of each marked day the factor at the rate that the nodes give, of any other 0
+unfoldable pub factorsOn : List Node → List ℕ → List ℕ
+factorsOn nodes asked = table (λ day. cond (eqb (getD asked day 0) 0) 0 (factor (rateAt nodes day) day)) 0 (length asked)

@@ -1,0 +1,35 @@
+// The running total of a curve's flows.
+ghost use mathlib.Core.Path.{_≡_};
+ghost use Prim.Native.Nat.{_≤_};
+ghost use Rattle.decimal.specs.Product.{unit};
+ghost use Rattle.margin.specs.Totals.{plusFlow, FlowLimits, RoomFor};
+use decimal::product::multiply;
+use discount::Flow;
+use discount::value::tolerance;
+
+// The signed sum of flows' values, and the sum of their tolerances.
+pub struct Total {
+    pub sum: i64,
+    pub tolerance: u64,
+}
+
+impl Total {
+    // With one flow more, at the factor of its day.
+    pub fn with_flow(self, f: Flow, factor: u64) -> Total
+        requires { ⌜ RoomFor 1 self × FlowLimits f × (factor ≤ unit) ⌝ }
+        ensures { λ r. ⌜ r ≡ plusFlow self f factor ⌝ }
+    {
+        let value = multiply(f.amount, factor) as i64;
+        let off = self.tolerance + tolerance(f.amount, f.day);
+        if f.received {
+            return Total {
+                sum: self.sum + value,
+                tolerance: off,
+            };
+        }
+        Total {
+            sum: self.sum - value,
+            tolerance: off,
+        }
+    }
+}
