@@ -14,9 +14,17 @@ use Rattle.margin.specs.declared.CurrencyMargin.{CurrencyMargin}
 use Rattle.margin.specs.declared.Margin.{Margin}
 use Rattle.report_block.specs.Report.{curveBytes, currencyBytes, fieldBytes, reportBytes}
 use Rattle.report_block.specs.Shown.{
-  curvePlace, currencyPlace,
-  shownAccount, shownBase, shownLoss, shownScenario, shownCurrency, shownTolerance,
-  shownInitial, shownVariation, shownTotal,
+  curvePlace,
+  currencyPlace,
+  shownAccount,
+  shownBase,
+  shownLoss,
+  shownScenario,
+  shownCurrency,
+  shownTolerance,
+  shownInitial,
+  shownVariation,
+  shownTotal,
 }
 use Rattle.report_block.proofs.Records.{field-middle, field-record}
 use Rattle.report_block.proofs.Report.{Places, length-curve, length-currency, length-curves, length-currencies, field-report}
