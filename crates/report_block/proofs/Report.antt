@@ -4,7 +4,8 @@ use mathlib.Core.Bool.{false}
 use mathlib.Core.List.{List, [], _∷_, _++_, flatMap}
 use Prim.Native.Nat.{ℕ, _+_, _≤_}
 use native.Mathlib.Omega.{arith}
-use lib.ListN.{length, take, drop, length-append, length-replicate}
+use lib.IntN.{pos}
+use lib.ListN.{length, take, drop, replicate, length-append, length-replicate}
 use lib.Seq.{take-at, drop-at}
 use lib.Dec.{lit<}
 use Rattle.laws.proofs.Lists.{length-flatMap}
@@ -17,6 +18,7 @@ use Rattle.layout.proofs.Sealed.{length-sealed, field-sealed, sealed-sound}
 use Rattle.margin.specs.declared.CurveMargin.{CurveMargin}
 use Rattle.margin.specs.declared.CurrencyMargin.{CurrencyMargin}
 use Rattle.margin.specs.declared.Margin.{Margin}
+use Rattle.margin.specs.Margins.{noCurve}
 use Rattle.report_block.specs.Report.{curveBytes, currencyBytes, fieldBytes, reportBytes}
 use Rattle.report_block.proofs.Records.{put-front, bytes-zero}
 
@@ -76,6 +78,19 @@ module _ (m : Margin) (places : Places m) where
   -- the report is the first 512 bytes of what is written
   pub report-part : (rest : List ℕ) → part (reportBytes m ++ rest) 0 512 ≡ reportBytes m
   report-part rest = take-at (reportBytes m) rest 512 length-report
+
+-- ---- "places of absent curves and currencies 0"
+
+pub absent-curve : curveBytes noCurve ≡ replicate 32 0
+unfolding curveBytes bytesOf twos
+absent-curve = refl
+
+abbrev pub noCurrency : CurrencyMargin
+noCurrency = record { initial = pos 0; variation = pos 0; total = pos 0 }
+
+pub absent-currency : currencyBytes noCurrency ≡ replicate 24 0
+unfolding currencyBytes bytesOf twos
+absent-currency = refl
 
 -- ---- written field by field
 

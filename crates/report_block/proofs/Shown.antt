@@ -25,6 +25,10 @@ use Rattle.report_block.specs.Shown.{
   shownInitial,
   shownVariation,
   shownTotal,
+  curveShown,
+  currencyShown,
+  CurveFits,
+  CurrencyFits,
 }
 use Rattle.report_block.proofs.Records.{field-middle, field-record}
 use Rattle.report_block.proofs.Report.{Places, length-curve, length-currency, length-curves, length-currencies, field-report}
@@ -32,6 +36,15 @@ use Rattle.report_block.proofs.Report.{Places, length-curve, length-cur
 -- the bits of a signed number, read back from the bytes of its field
 signed-back : (z : ℤ) {n : ℕ} → n ≡ numberAt 8 (bytesOf 8 (twos z)) 0 → mag z < 2 ^ 63 → signedOf 64 n ≡ z
 signed-back z e h = rw (e, number-bytes 8 (twos z) (twos-bound z h)) (signed-twos z h)
+
+same-curve : {base base' loss loss' : ℤ} {scenario scenario' currency currency' tolerance tolerance' : ℕ}
+    → base ≡ base' → loss ≡ loss' → scenario ≡ scenario' → currency ≡ currency' → tolerance ≡ tolerance'
+    → _≡_ {A = CurveMargin} (record { base = base; loss = loss; scenario = scenario; currency = currency; tolerance = tolerance }) (record { base = base'; loss = loss'; scenario = scenario'; currency = currency'; tolerance = tolerance' })
+same-curve p q r s t = rw (p, q, r, s, t)
+
+same-currency : {initial initial' variation variation' total total' : ℤ} → initial ≡ initial' → variation ≡ variation' → total ≡ total'
+    → _≡_ {A = CurrencyMargin} (record { initial = initial; variation = variation; total = total }) (record { initial = initial'; variation = variation'; total = total' })
+same-currency p q r = rw (p, q, r)
 
 module _ (m : Margin) (places : Places m) (rest : List ℕ) where
   abbrev head : List ℕ
@@ -96,6 +109,17 @@ module _ (m : Margin) (places : Places m) (rest : List ℕ) where
     unfolding curveBytes numberAt bytesOf
     shown-tolerance h = curve-field 8 24 k d most (omega arith) ∙ number-bytes 8 (curve .tolerance) h
 
+    -- all of it
+    pub curve-shown : CurveFits curve → curveShown (reportBytes m ++ rest) k ≡ curve
+    unfolding curveShown
+    curve-shown h =
+        same-curve
+        (shown-base (h .base))
+        (shown-loss (h .loss))
+        (shown-scenario (h .scenario))
+        (shown-currency (h .currency))
+        (shown-tolerance (h .tolerance))
+
   -- currency c: 1 TRY, 2 USD, 3 EUR
   module _ (c : ℕ) (d : CurrencyMargin) (most : c ≤ 3) where
     abbrev currency : CurrencyMargin
@@ -112,3 +136,7 @@ module _ (m : Margin) (places : Places m) (rest : List ℕ) where
     pub shown-total : mag (currency .total) < 2 ^ 63 → shownTotal (reportBytes m ++ rest) c ≡ currency .total
     unfolding currencyBytes numberAt bytesOf
     shown-total h = signed-back (currency .total) (currency-field 8 16 c d most (omega arith)) h
+
+    pub currency-shown : CurrencyFits currency → currencyShown (reportBytes m ++ rest) c ≡ currency
+    unfolding currencyShown
+    currency-shown h = same-currency (shown-initial (h .initial)) (shown-variation (h .variation)) (shown-total (h .total))

@@ -1,8 +1,11 @@
 -- What a report shows: the figures read off its bytes (document 01: "Shown is what its report holds"). Assumes nothing.
-use Prim.Native.Nat.{ℕ, _+_, _-_, _*_}
+use Prim.Native.Nat.{ℕ, _+_, _-_, _*_, _^_, _<_}
 use mathlib.Core.List.{List}
 use lib.IntN.{ℤ}
+use lib.Signed.{mag}
 use Rattle.layout.specs.Field.{u32At, u64At, i64At}
+use Rattle.margin.specs.declared.CurveMargin.{CurveMargin}
+use Rattle.margin.specs.declared.CurrencyMargin.{CurrencyMargin}
 
 -- "from 8, 32 bytes a curve": curve k from 1, its id
 abbrev pub curvePlace : ℕ → ℕ
@@ -38,3 +41,30 @@ shownVariation b c = i64At b (currencyPlace c + 8)
 
 abbrev pub shownTotal : List ℕ → ℕ → ℤ
 shownTotal b c = i64At b (currencyPlace c + 16)
+
+-- all that is shown of a curve, and of a currency
+unfoldable pub curveShown : List ℕ → ℕ → CurveMargin
+curveShown b k =
+    record {
+      base = shownBase b k;
+      loss = shownLoss b k;
+      scenario = shownScenario b k;
+      currency = shownCurrency b k;
+      tolerance = shownTolerance b k;
+    }
+
+unfoldable pub currencyShown : List ℕ → ℕ → CurrencyMargin
+currencyShown b c = record { initial = shownInitial b c; variation = shownVariation b c; total = shownTotal b c }
+
+-- the figures fit their fields
+pub record CurveFits (m : CurveMargin) : Type 0 where
+  pub base : mag (m .base) < 2 ^ 63
+  pub loss : mag (m .loss) < 2 ^ 63
+  pub scenario : m .scenario < 2 ^ 32
+  pub currency : m .currency < 2 ^ 32
+  pub tolerance : m .tolerance < 2 ^ 64
+
+pub record CurrencyFits (m : CurrencyMargin) : Type 0 where
+  pub initial : mag (m .initial) < 2 ^ 63
+  pub variation : mag (m .variation) < 2 ^ 63
+  pub total : mag (m .total) < 2 ^ 63

@@ -9,16 +9,11 @@ use lib.ListN.{length, drop}
 use Rattle.laws.proofs.Arrays.{length-mapped}
 use Rattle.layout.specs.Bytes.{put}
 use Rattle.layout.proofs.Bytes.{length-put}
-use lib.IntN.{pos}
-use Rattle.margin.specs.declared.CurrencyMargin.{CurrencyMargin}
 use Rattle.report_block.specs.Report.{currencyBytes}
 use Rattle.report_block.proofs.Records.{rest-next, rest-none}
-use Rattle.report_block.proofs.Report.{length-currency}
+use Rattle.report_block.proofs.Report.{length-currency, noCurrency}
 use Rattle.report_block.proofs.put_currencies.Statement.{statement}
 use Rattle.report_block.proofs.put_currencies.Tie as tie
-
-abbrev none : CurrencyMargin
-none = record { initial = pos 0; variation = pos 0; total = pos 0 }
 
 abbrev Inv-loop : tie.InvT-loop
 Inv-loop out₀ currencies i₀ out i =
@@ -43,7 +38,7 @@ loop-again c =
       search needs,
       rw (wrote, length-put) (h .1),
       h .2,
-      h .3 ∙ rest-next currencyBytes 24 length-currency _ (264 + 24 * i) list i none (omega arith) ∙ rw (wrote, e, add-one),
+      h .3 ∙ rest-next currencyBytes 24 length-currency _ (264 + 24 * i) list i noCurrency (omega arith) ∙ rw (wrote, e, add-one),
     )
 
 same-length : tie.Need-same-length Inv-loop μ-loop
