@@ -1,7 +1,8 @@
 -- Words and numbers as bytes of ASCII (document 01, "Checked figures"). Assumes nothing.
 use Prim.Native.Nat.{ℕ, zero, suc, _+_, _/_, _%_}
 use Prim.Native.Char.{code}
-use Prim.Native.String.{String, [] as noText, _∷_ as _then_}
+use Prim.Native.String.{String}
+use Prim.Native.String as string
 use mathlib.Core.Bool.{cond}
 use mathlib.Core.List.{List, [], _∷_, _++_}
 use lib.Dec.{ltb}
@@ -9,8 +10,8 @@ use lib.IntN.{ℤ, pos, negsuc}
 
 -- a word's characters
 unfoldable pub ascii : String → List ℕ
-ascii noText = []
-ascii (c then s) = code c ∷ ascii s
+ascii string.[] = []
+ascii (string._∷_ c s) = code c ∷ ascii s
 
 -- the character of a digit: that of 0 is 48
 abbrev pub digit : ℕ → ℕ

@@ -1,5 +1,5 @@
 -- `listing::put_digits` meets its contract: the digits of the tenth, and the last one. The measure is the number. Assumes nothing.
-use Prim.Native.Nat.{ℕ, _<_}
+use Prim.Native.Nat.{ℕ, _/_, _<_}
 use native.Mathlib.Omega.{arith}
 use borrow.Author.Needs.{needs}
 use borrow.Fn.Kinds.{In}
@@ -24,72 +24,50 @@ abbrev put-digits-below : ℕ → In 1 put-digits-kinds.ps
 put-digits-below t =
     and 1 put-digits-kinds.ps (falls 1 put-digits-kinds.ps _<_ μ-put-digits t) put-digits.Pre
 
-cast-out : (t : ℕ) → put-digits-lts.Need-cast-out (put-digits-below t, put-digits.Post) (put-digits-at t) put-digits.Post
-cast-out t c = search needs
+module _ (t : ℕ) where
+  slice-write-out : put-digits-lts.Need-slice-write-out (put-digits-below t, put-digits.Post) (put-digits-at t) put-digits.Post
+  slice-write-out c =
+      let s = c .before .before in
+      let room = rw (decimal-one (s .args .n) (c .if1 .taken)) at (s .pre .1) in
+      omega arith
 
-add-out : (t : ℕ) → put-digits-lts.Need-add-out (put-digits-below t, put-digits.Post) (put-digits-at t) put-digits.Post
-add-out t c = search needs
+  returns : put-digits-lts.Need-returns (put-digits-below t, put-digits.Post) (put-digits-at t) put-digits.Post
+  returns c = rw (decimal-one _ (c .if1 .taken)) (written-byte _ _ _)
 
-slice-write-out : (t : ℕ) → put-digits-lts.Need-slice-write-out (put-digits-below t, put-digits.Post) (put-digits-at t) put-digits.Post
-slice-write-out t c =
-    let s = c .before .before in
-    let room = rw (decimal-one (s .args .n) (c .if1 .taken)) at (s .pre .1) in
-    omega arith
+  put-digits-requires : put-digits-lts.Need-put-digits-requires (put-digits-below t, put-digits.Post) (put-digits-at t) put-digits.Post
+  put-digits-requires c κs =
+      let s = c .before .before .before in
+      let more = length-more (s .args .n) (c .before .if1 .left) (s .fits .n .fits) in
+      let less : s .args .n / 10 < t = omega (arith, s .pre .0) in
+      (less, omega (arith, s .pre .1, more))
 
-add-result : (t : ℕ) → put-digits-lts.Need-add-result (put-digits-below t, put-digits.Post) (put-digits-at t) put-digits.Post
-add-result t c = let s = c .before .before in omega arith
+  slice-write-out-2 : put-digits-lts.Need-slice-write-out-2 (put-digits-below t, put-digits.Post) (put-digits-at t) put-digits.Post
+  slice-write-out-2 c =
+      let s = c .before .before .before .before .before .before in
+      let more = length-more (s .args .n) (c .before .before .before .before .if1 .left) (s .fits .n .fits) in
+      omega (arith, s .pre .1, more, c .before .before .put-digits .ensures .place)
 
-same-length : (t : ℕ) → put-digits-lts.Need-same-length (put-digits-below t, put-digits.Post) (put-digits-at t) put-digits.Post
-same-length t c = search needs
-
-returns : (t : ℕ) → put-digits-lts.Need-returns (put-digits-below t, put-digits.Post) (put-digits-at t) put-digits.Post
-returns t c = let s = c .before .before in rw (decimal-one (s .args .n) (c .if1 .taken)) (written-byte _ _ _)
-
-put-digits-requires : (t : ℕ) → put-digits-lts.Need-put-digits-requires (put-digits-below t, put-digits.Post) (put-digits-at t) put-digits.Post
-put-digits-requires t c κs =
-    let s = c .before .before .before in
-    let more = length-more (s .args .n) (c .before .if1 .left) (s .fits .n .fits) in
-    (omega (arith, s .pre .0), omega (arith, s .pre .1, more))
-
-cast-out-2 : (t : ℕ) → put-digits-lts.Need-cast-out-2 (put-digits-below t, put-digits.Post) (put-digits-at t) put-digits.Post
-cast-out-2 t c = search needs
-
-add-out-2 : (t : ℕ) → put-digits-lts.Need-add-out-2 (put-digits-below t, put-digits.Post) (put-digits-at t) put-digits.Post
-add-out-2 t c = search needs
-
-slice-write-out-2 : (t : ℕ) → put-digits-lts.Need-slice-write-out-2 (put-digits-below t, put-digits.Post) (put-digits-at t) put-digits.Post
-slice-write-out-2 t c =
-    let s = c .before .before .before .before .before .before in
-    omega (arith, s .pre .1, length-more (s .args .n) (c .before .before .before .before .if1 .left) (s .fits .n .fits), c .before .before .put-digits .ensures .place)
-
-add-result-2 : (t : ℕ) → put-digits-lts.Need-add-result-2 (put-digits-below t, put-digits.Post) (put-digits-at t) put-digits.Post
-add-result-2 t c =
-    let s = c .before .before .before .before .before .before in
-    omega (arith, s .pre .1, length-more (s .args .n) (c .before .before .before .before .if1 .left) (s .fits .n .fits), c .before .before .put-digits .ensures .place)
-
-same-length-2 : (t : ℕ) → put-digits-lts.Need-same-length-2 (put-digits-below t, put-digits.Post) (put-digits-at t) put-digits.Post
-same-length-2 t c = simp length-set (search needs)
-
-returns-2 : (t : ℕ) → put-digits-lts.Need-returns-2 (put-digits-below t, put-digits.Post) (put-digits-at t) put-digits.Post
-returns-2 t c =
-    let s = c .before .before .before .before .before .before in
-    rw (decimal-more (s .args .n) (c .before .before .before .before .if1 .left) (s .fits .n .fits)) (and-then (c .before .before .put-digits .ensures) (written-byte _ _ _))
+  returns-2 : put-digits-lts.Need-returns-2 (put-digits-below t, put-digits.Post) (put-digits-at t) put-digits.Post
+  returns-2 c =
+      let s = c .before .before .before .before .before .before in
+      rw (decimal-more (s .args .n) (c .before .before .before .before .if1 .left) (s .fits .n .fits))
+      (and-then (c .before .before .put-digits .ensures) (written-byte _ _ _))
 
 pub +put-digits-spec : {M : Type 1} → statement M
 +put-digits-spec =
     close μ-put-digits
     (λ t.
     put-digits-lts.spec (put-digits-below t, put-digits.Post) (put-digits-at t) put-digits.Post
-    (cast-out t)
-    (add-out t)
+    (λ c. search needs)
+    (λ c. search needs)
     (slice-write-out t)
-    (add-result t)
-    (same-length t)
+    (λ c. search needs)
+    (λ c. search needs)
     (returns t)
     (put-digits-requires t)
-    (cast-out-2 t)
-    (add-out-2 t)
+    (λ c. search needs)
+    (λ c. search needs)
     (slice-write-out-2 t)
-    (add-result-2 t)
-    (same-length-2 t)
+    (λ c. omega (arith, slice-write-out-2 t c))
+    (λ c. simp length-set (search needs))
     (returns-2 t))
