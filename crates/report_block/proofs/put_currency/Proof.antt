@@ -3,8 +3,7 @@ use borrow.Author.Needs.{needs}
 use mathlib.Core.Path.{_∙_}
 use mir.Syntax.{w64}
 use mir.Val.{SFits}
-use Rattle.layout.proofs.Signed.{code-read}
-use Rattle.report_block.proofs.Report.{currency-put}
+use Rattle.report_block.proofs.Report.{read-back, currency-put}
 use Rattle.report_block.proofs.put_currency.Statement.{statement}
 use Rattle.report_block.proofs.put_currency.Tie as tie
 
@@ -24,9 +23,9 @@ returns c =
     let first = second .before .before .before .before .before in
     let s = first .before .before .before .before in
     currency-put _ _ _ _ _ (s .args .m)
-    (first .put-i64 .ensures ∙ rw (code-read (s .args .m .initial) (fits-initial s)))
-    (second .put-i642 .ensures ∙ rw (code-read (s .args .m .variation) (fits-variation s)))
-    (third .put-i643 .ensures ∙ rw (code-read (s .args .m .total) (fits-total s)))
+    (first .put-i64 .ensures ∙ read-back _ _ (s .args .m .initial) (fits-initial s))
+    (second .put-i642 .ensures ∙ read-back _ _ (s .args .m .variation) (fits-variation s))
+    (third .put-i643 .ensures ∙ read-back _ _ (s .args .m .total) (fits-total s))
 
 pub put-currency-spec : {M : Type 1} → statement M
 put-currency-spec =

@@ -3,8 +3,7 @@ use borrow.Author.Needs.{needs}
 use mathlib.Core.Path.{_∙_}
 use mir.Syntax.{w64}
 use mir.Val.{SFits}
-use Rattle.layout.proofs.Signed.{code-read}
-use Rattle.report_block.proofs.Report.{curve-put}
+use Rattle.report_block.proofs.Report.{read-back, curve-put}
 use Rattle.report_block.proofs.put_curve.Statement.{statement}
 use Rattle.report_block.proofs.put_curve.Tie as tie
 
@@ -23,8 +22,8 @@ returns c =
     let first = second .before .before .before .before .before in
     let s = first .before .before .before .before in
     curve-put _ _ _ _ _ _ _ (s .args .m)
-    (first .put-i64 .ensures ∙ rw (code-read (s .args .m .base) (fits-base s)))
-    (second .put-i642 .ensures ∙ rw (code-read (s .args .m .loss) (fits-loss s)))
+    (first .put-i64 .ensures ∙ read-back _ _ (s .args .m .base) (fits-base s))
+    (second .put-i642 .ensures ∙ read-back _ _ (s .args .m .loss) (fits-loss s))
     (third .put-le .ensures)
     (fourth .put-le2 .ensures)
     (fifth .put-le3 .ensures)
