@@ -10,3 +10,4 @@ pub mod Tables
 pub mod Tests
 pub mod All
 pub mod Largest
+pub mod Arrays

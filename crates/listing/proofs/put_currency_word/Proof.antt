@@ -1,0 +1,47 @@
+-- `listing::put_currency_word` meets its contract, word by word. Assumes nothing.
+use native.Mathlib.Omega.{arith}
+use borrow.Author.Needs.{needs}
+use borrow.Author.Tests.{eq-eqb, ne-eqb}
+use Rattle.listing.specs.Text.{ascii}
+use Rattle.listing.specs.Listing.{currencyWord}
+use Rattle.listing.proofs.put_currency_word.Statement.{statement}
+use Rattle.listing.proofs.put_currency_word.Tie as tie
+
+returns : tie.Need-returns
+unfolding currencyWord ascii
+returns c = (rw (eq-eqb _ 1 (c .before .before .before .before .before .if1 .taken)) (c .before .before .put-text .ensures), omega arith)
+
+returns-2 : tie.Need-returns-2
+unfolding currencyWord ascii
+returns-2 c = (rw (ne-eqb _ 1 (c .before .before .before .before .before .before .if1 .left), eq-eqb _ 2 (c .before .before .before .before .before .if2 .taken)) (c .before .before .put-text2 .ensures), omega arith)
+
+returns-3 : tie.Need-returns-3
+unfolding currencyWord ascii
+returns-3 c =
+    (rw (ne-eqb _ 1 (c .before .before .before .before .before .before .before .if1 .left), ne-eqb _ 2 (c .before .before .before .before .before .before .if2 .left), eq-eqb _ 3 (c .before .before .before .before .before .if3 .taken)) (c .before .before .put-text3 .ensures), omega arith)
+
+returns-4 : tie.Need-returns-4
+unfolding currencyWord ascii
+returns-4 c =
+    (rw (ne-eqb _ 1 (c .before .before .before .before .before .before .before .if1 .left), ne-eqb _ 2 (c .before .before .before .before .before .before .if2 .left), ne-eqb _ 3 (c .before .before .before .before .before .if3 .left)) (c .before .before .put-text4 .ensures), omega arith)
+
+pub put-currency-word-spec : {M : Type 1} → statement M
+put-currency-word-spec =
+    tie.close
+    (tie.spec
+    (λ c. search needs)
+    (λ c κs. search needs)
+    (λ c. search needs)
+    returns
+    (λ c. search needs)
+    (λ c κs. search needs)
+    (λ c. search needs)
+    returns-2
+    (λ c. search needs)
+    (λ c κs. search needs)
+    (λ c. search needs)
+    returns-3
+    (λ c. search needs)
+    (λ c κs. search needs)
+    (λ c. search needs)
+    returns-4)

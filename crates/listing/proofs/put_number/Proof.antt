@@ -1,0 +1,24 @@
+-- `listing::put_number` meets its contract: a word, and the digits right behind it. Assumes nothing.
+use native.Mathlib.Omega.{arith}
+use borrow.Author.Needs.{needs}
+use Rattle.listing.proofs.Digits.{length-decimal}
+use Rattle.listing.proofs.Writing.{and-then}
+use Rattle.listing.proofs.put_number.Statement.{statement}
+use Rattle.listing.proofs.put_number.Tie as tie
+
+put-digits-requires : tie.Need-put-digits-requires
+put-digits-requires c κs = omega (arith, length-decimal (c .before .before .before .before .before .before .before .args .n))
+
+returns : tie.Need-returns
+returns c =
+    let s = c .before .before .before .before .before .before .before .before .before .before in
+    (and-then (c .before .before .before .before .before .before .put-text .ensures) (c .before .before .put-digits .ensures), omega (arith, length-decimal (s .args .n)))
+
+pub put-number-spec : {M : Type 1} → statement M
+put-number-spec =
+    tie.close
+    (tie.spec
+    (λ c κs. search needs)
+    put-digits-requires
+    (λ c. search needs)
+    returns)

@@ -1,0 +1,20 @@
+-- `listing::put_signed` meets its contract: a word, and the number right behind it. Assumes nothing.
+use borrow.Author.Needs.{needs}
+use Rattle.layout.proofs.Signed.{code-read}
+use Rattle.listing.proofs.Writing.{and-then}
+use Rattle.listing.proofs.put_signed.Statement.{statement}
+use Rattle.listing.proofs.put_signed.Tie as tie
+
+returns : tie.Need-returns
+returns c =
+    let s = c .before .before .before .before .before .before .before .before .before .before in
+    (and-then (c .before .before .before .before .before .before .put-text .ensures) (rw (code-read _ (s .fits .v)) at (c .before .before .put-integer .ensures .0)), search needs)
+
+pub put-signed-spec : {M : Type 1} → statement M
+put-signed-spec =
+    tie.close
+    (tie.spec
+    (λ c κs. search needs)
+    (λ c κs. search needs)
+    (λ c. search needs)
+    returns)

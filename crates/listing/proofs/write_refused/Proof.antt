@@ -1,0 +1,35 @@
+-- `listing::write_refused` meets its contract. Assumes nothing.
+use Prim.Native.Nat.{_≤_}
+use native.Mathlib.Omega.{arith}
+use borrow.Author.Needs.{needs}
+use Rattle.listing.specs.Text.{ascii}
+use Rattle.listing.specs.Listing.{refusedLine}
+use Rattle.listing.proofs.Writing.{and-then, written-front}
+use Rattle.listing.proofs.write_refused.Statement.{statement}
+use Rattle.listing.proofs.write_refused.Tie as tie
+
+returns : tie.Need-returns
+unfolding refusedLine ascii
+returns c =
+    let end = c .before .before in
+    let block = end .before .before .before .before .before in
+    let ground = block .before .before .before .before .before in
+    let all = and-then (and-then (ground .put-number .ensures .0) (block .put-number2 .ensures .0)) (end .put-text .ensures) in
+    let s = ground .before .before .before .before in
+    let room : end .put-text .result ≤ 50 =
+    omega (arith, s .pre, ground .put-number .ensures .1, block .put-number2 .ensures .1, end .put-text .ensures .place) in
+    let front = written-front all (omega (arith, s .pre)) in
+    (front .0, (front .1, room))
+
+pub write-refused-spec : {M : Type 1} → statement M
+write-refused-spec =
+    tie.close
+    (tie.spec
+    (λ c. search needs)
+    (λ c κs. search needs)
+    (λ c. search needs)
+    (λ c κs. search needs)
+    (λ c. search needs)
+    (λ c κs. search needs)
+    (λ c. search needs)
+    returns)

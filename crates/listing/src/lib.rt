@@ -1,0 +1,223 @@
+// The text that the list program prints, written into lent bytes.
+// Each function writes from a place on and answers the place behind what it wrote.
+use layout::copy_in;
+use margin::CurrencyMargin;
+use margin::CurveMargin;
+use margin::Margin;
+ghost use mathlib.Core.Path.{_≡_};
+ghost use mathlib.Core.List.{_++_};
+ghost use Prim.Native.Nat.{_+_, _*_, _≤_};
+ghost use lib.ListN.{length, take, drop};
+ghost use Rattle.listing.specs.Text.{decimalOf, signedText};
+ghost use Rattle.listing.specs.Listing.{currencyWord, curveFigures, curveLine, currencyFigures, currencyLine, curveLines, hasCurrency, currencyPart, currencyLines, listing, refusedLine};
+ghost use Rattle.listing.specs.Written.{Written};
+
+fn put_text(out: &mut [u8], at: usize, text: &[u8]) -> usize
+    requires { ⌜ at + length (now text) ≤ length (now out) ⌝ }
+    ensures { λ r. ⌜ Written (now (out .entry)) at (now (text .entry)) (now (out .exit)) r ⌝ }
+{
+    copy_in(out, at, text);
+    at + text.len()
+}
+
+fn put_digits(out: &mut [u8], at: usize, n: u64) -> usize
+    requires { ⌜ at + length (decimalOf n) ≤ length (now out) ⌝ }
+    ensures { λ r. ⌜ Written (now (out .entry)) at (decimalOf n) (now (out .exit)) r ⌝ }
+{
+    if n < 10 {
+        out[at] = 48 + n as u8;
+        return at + 1;
+    }
+    let last = put_digits(out, at, n / 10);
+    out[last] = 48 + (n % 10) as u8;
+    last + 1
+}
+
+fn put_integer(out: &mut [u8], at: usize, v: i64) -> usize
+    requires { ⌜ at + 20 ≤ length (now out) ⌝ }
+    ensures { λ r. ⌜ Written (now (out .entry)) at (signedText v) (now (out .exit)) r ⌝ }
+    ensures { λ r. ⌜ r ≤ at + 20 ⌝ }
+{
+    if v < 0 {
+        out[at] = b'-';
+        let size = (-1 - v) as u64 + 1;
+        return put_digits(out, at + 1, size);
+    }
+    put_digits(out, at, v as u64)
+}
+
+// A word and a number.
+fn put_number(out: &mut [u8], at: usize, word: &[u8], n: u64) -> usize
+    requires { ⌜ at + length (now word) + 20 ≤ length (now out) ⌝ }
+    ensures { λ r. ⌜ Written (now (out .entry)) at (now (word .entry) ++ decimalOf n) (now (out .exit)) r ⌝ }
+    ensures { λ r. ⌜ r ≤ at + length (now (word .entry)) + 20 ⌝ }
+{
+    let from = put_text(out, at, word);
+    put_digits(out, from, n)
+}
+
+fn put_signed(out: &mut [u8], at: usize, word: &[u8], v: i64) -> usize
+    requires { ⌜ at + length (now word) + 20 ≤ length (now out) ⌝ }
+    ensures { λ r. ⌜ Written (now (out .entry)) at (now (word .entry) ++ signedText v) (now (out .exit)) r ⌝ }
+    ensures { λ r. ⌜ r ≤ at + length (now (word .entry)) + 20 ⌝ }
+{
+    let from = put_text(out, at, word);
+    put_integer(out, from, v)
+}
+
+fn put_currency_word(out: &mut [u8], at: usize, currency: u64) -> usize
+    requires { ⌜ at + 4 ≤ length (now out) ⌝ }
+    ensures { λ r. ⌜ Written (now (out .entry)) at (currencyWord currency) (now (out .exit)) r ⌝ }
+    ensures { λ r. ⌜ r ≤ at + 4 ⌝ }
+{
+    if currency == 1 {
+        return put_text(out, at, b" TRY");
+    }
+    if currency == 2 {
+        return put_text(out, at, b" USD");
+    }
+    if currency == 3 {
+        return put_text(out, at, b" EUR");
+    }
+    put_text(out, at, b" ???")
+}
+
+fn put_curve_figures(out: &mut [u8], at: usize, m: CurveMargin) -> usize
+    requires { ⌜ at + 113 ≤ length (now out) ⌝ }
+    ensures { λ r. ⌜ Written (now (out .entry)) at (curveFigures m) (now (out .exit)) r ⌝ }
+    ensures { λ r. ⌜ r ≤ at + 113 ⌝ }
+{
+    let loss = put_signed(out, at, b" base ", m.base);
+    let scenario = put_signed(out, loss, b" loss ", m.loss);
+    let tolerance = put_number(out, scenario, b" scenario ", m.scenario);
+    put_number(out, tolerance, b" tolerance ", m.tolerance)
+}
+
+fn put_curve_line(out: &mut [u8], at: usize, k: u64, m: CurveMargin) -> usize
+    requires { ⌜ at + 144 ≤ length (now out) ⌝ }
+    ensures { λ r. ⌜ Written (now (out .entry)) at (curveLine k m) (now (out .exit)) r ⌝ }
+    ensures { λ r. ⌜ r ≤ at + 144 ⌝ }
+{
+    let currency = put_number(out, at, b"curve ", k);
+    let figures = put_currency_word(out, currency, m.currency);
+    let end = put_curve_figures(out, figures, m);
+    put_text(out, end, b"\n")
+}
+
+fn put_currency_figures(out: &mut [u8], at: usize, m: CurrencyMargin) -> usize
+    requires { ⌜ at + 87 ≤ length (now out) ⌝ }
+    ensures { λ r. ⌜ Written (now (out .entry)) at (currencyFigures m) (now (out .exit)) r ⌝ }
+    ensures { λ r. ⌜ r ≤ at + 87 ⌝ }
+{
+    let variation = put_signed(out, at, b" initial ", m.initial);
+    let total = put_signed(out, variation, b" variation ", m.variation);
+    put_signed(out, total, b" total ", m.total)
+}
+
+fn put_currency_line(out: &mut [u8], at: usize, currency: u64, m: CurrencyMargin) -> usize
+    requires { ⌜ at + 100 ≤ length (now out) ⌝ }
+    ensures { λ r. ⌜ Written (now (out .entry)) at (currencyLine currency m) (now (out .exit)) r ⌝ }
+    ensures { λ r. ⌜ r ≤ at + 100 ⌝ }
+{
+    let word = put_text(out, at, b"currency");
+    let figures = put_currency_word(out, word, currency);
+    let end = put_currency_figures(out, figures, m);
+    put_text(out, end, b"\n")
+}
+
+fn put_curve_lines(out: &mut [u8], at: usize, curves: [CurveMargin; 8], count: usize) -> usize
+    requires { ⌜ (count ≤ 8) × (at + 144 * count ≤ length (now out)) ⌝ }
+    ensures { λ r. ⌜ Written (now (out .entry)) at (curveLines 1 (take count curves)) (now (out .exit)) r ⌝ }
+    ensures { λ r. ⌜ r ≤ at + 144 * count ⌝ }
+{
+    let mut next = at;
+    let mut i: usize = 0;
+    while i < count {
+        let m = curves[i];
+        next = put_curve_line(out, next, i as u64 + 1, m);
+        i += 1;
+    }
+    next
+}
+
+fn has_currency(curves: [CurveMargin; 8], count: usize, currency: u64) -> bool
+    requires { ⌜ count ≤ 8 ⌝ }
+    ensures { λ r. ⌜ r ≡ hasCurrency currency (take count curves) ⌝ }
+{
+    let mut i: usize = 0;
+    while i < count {
+        let m = curves[i];
+        if m.currency == currency {
+            return true;
+        }
+        i += 1;
+    }
+    false
+}
+
+fn put_currency_part(
+    out: &mut [u8],
+    at: usize,
+    has: bool,
+    currency: u64,
+    m: CurrencyMargin,
+) -> usize
+    requires { ⌜ at + 100 ≤ length (now out) ⌝ }
+    ensures { λ r. ⌜ Written (now (out .entry)) at (currencyPart has currency m) (now (out .exit)) r ⌝ }
+    ensures { λ r. ⌜ r ≤ at + 100 ⌝ }
+{
+    if has {
+        return put_currency_line(out, at, currency, m);
+    }
+    at
+}
+
+fn put_currency_lines(
+    out: &mut [u8],
+    at: usize,
+    curves: [CurveMargin; 8],
+    count: usize,
+    currencies: [CurrencyMargin; 3],
+) -> usize
+    requires { ⌜ (count ≤ 8) × (at + 300 ≤ length (now out)) ⌝ }
+    ensures { λ r. ⌜ Written (now (out .entry)) at (currencyLines (take count curves) 1 currencies) (now (out .exit)) r ⌝ }
+    ensures { λ r. ⌜ r ≤ at + 300 ⌝ }
+{
+    let mut next = at;
+    let mut i: usize = 0;
+    while i < 3 {
+        let currency = i as u64 + 1;
+        let has = has_currency(curves, count, currency);
+        let m = currencies[i];
+        next = put_currency_part(out, next, has, currency, m);
+        i += 1;
+    }
+    next
+}
+
+// The text of an accepted book of so many curves. 29 bytes hold the account's line, 144 a curve's, 100 a currency's.
+pub fn write_listing(out: &mut [u8], count: usize, m: Margin) -> usize
+    requires { ⌜ (count ≤ 8) × (1481 ≤ length (now out)) ⌝ }
+    ensures { λ r. ⌜ r ≡ length (listing count m) ⌝ }
+    ensures { λ r. ⌜ now (out .exit) ≡ listing count m ++ drop r (now (out .entry)) ⌝ }
+    ensures { λ r. ⌜ r ≤ 1481 ⌝ }
+{
+    let curves = m.curves;
+    let currencies = m.currencies;
+    let end = put_number(out, 0, b"account ", m.account);
+    let first = put_text(out, end, b"\n");
+    let second = put_curve_lines(out, first, curves, count);
+    put_currency_lines(out, second, curves, count, currencies)
+}
+
+// The text of a refused book.
+pub fn write_refused(out: &mut [u8], ground: u64, block: u64) -> usize
+    requires { ⌜ 50 ≤ length (now out) ⌝ }
+    ensures { λ r. ⌜ r ≡ length (refusedLine ground block) ⌝ }
+    ensures { λ r. ⌜ now (out .exit) ≡ refusedLine ground block ++ drop r (now (out .entry)) ⌝ }
+    ensures { λ r. ⌜ r ≤ 50 ⌝ }
+{
+    let next = put_number(out, 0, b"refused ", ground);
+    let end = put_number(out, next, b" ", block);
+    put_text(out, end, b"\n")
+}

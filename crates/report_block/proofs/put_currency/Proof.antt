@@ -1,0 +1,40 @@
+-- `report_block::put_currency` meets its contract: its fields, one behind the other. Assumes nothing.
+use borrow.Author.Needs.{needs}
+use mathlib.Core.Path.{_∙_}
+use mir.Syntax.{w64}
+use mir.Val.{SFits}
+use Rattle.report_block.proofs.Report.{read-back, currency-put}
+use Rattle.report_block.proofs.put_currency.Statement.{statement}
+use Rattle.report_block.proofs.put_currency.Tie as tie
+
+fits-initial : (s : tie.Start) → SFits w64 (s .args .m .initial)
+fits-initial s = search needs
+
+fits-variation : (s : tie.Start) → SFits w64 (s .args .m .variation)
+fits-variation s = search needs
+
+fits-total : (s : tie.Start) → SFits w64 (s .args .m .total)
+fits-total s = search needs
+
+returns : tie.Need-returns
+returns c =
+    let third = c .before .before in
+    let second = third .before .before .before .before .before in
+    let first = second .before .before .before .before .before in
+    let s = first .before .before .before .before in
+    currency-put _ _ _ _ _ (s .args .m)
+    (first .put-i64 .ensures ∙ read-back _ _ (s .args .m .initial) (fits-initial s))
+    (second .put-i642 .ensures ∙ read-back _ _ (s .args .m .variation) (fits-variation s))
+    (third .put-i643 .ensures ∙ read-back _ _ (s .args .m .total) (fits-total s))
+
+pub put-currency-spec : {M : Type 1} → statement M
+put-currency-spec =
+    tie.close
+    (tie.spec
+    (λ c κs. search needs)
+    (λ c. search needs)
+    (λ c κs. search needs)
+    (λ c. search needs)
+    (λ c κs. search needs)
+    (λ c. search needs)
+    returns)

@@ -1,0 +1,45 @@
+-- `report_block::put_curve` meets its contract: its fields, one behind the other. Assumes nothing.
+use borrow.Author.Needs.{needs}
+use mathlib.Core.Path.{_∙_}
+use mir.Syntax.{w64}
+use mir.Val.{SFits}
+use Rattle.report_block.proofs.Report.{read-back, curve-put}
+use Rattle.report_block.proofs.put_curve.Statement.{statement}
+use Rattle.report_block.proofs.put_curve.Tie as tie
+
+fits-base : (s : tie.Start) → SFits w64 (s .args .m .base)
+fits-base s = search needs
+
+fits-loss : (s : tie.Start) → SFits w64 (s .args .m .loss)
+fits-loss s = search needs
+
+returns : tie.Need-returns
+returns c =
+    let fifth = c .before .before in
+    let fourth = fifth .before .before .before .before in
+    let third = fourth .before .before .before .before in
+    let second = third .before .before .before .before in
+    let first = second .before .before .before .before .before in
+    let s = first .before .before .before .before in
+    curve-put _ _ _ _ _ _ _ (s .args .m)
+    (first .put-i64 .ensures ∙ read-back _ _ (s .args .m .base) (fits-base s))
+    (second .put-i642 .ensures ∙ read-back _ _ (s .args .m .loss) (fits-loss s))
+    (third .put-le .ensures)
+    (fourth .put-le2 .ensures)
+    (fifth .put-le3 .ensures)
+
+pub put-curve-spec : {M : Type 1} → statement M
+put-curve-spec =
+    tie.close
+    (tie.spec
+    (λ c κs. search needs)
+    (λ c. search needs)
+    (λ c κs. search needs)
+    (λ c. search needs)
+    (λ c κs. search needs)
+    (λ c. search needs)
+    (λ c κs. search needs)
+    (λ c. search needs)
+    (λ c κs. search needs)
+    (λ c. search needs)
+    returns)

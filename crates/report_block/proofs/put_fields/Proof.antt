@@ -1,0 +1,36 @@
+-- `report_block::put_fields` meets its contract: the parts, one behind the other. Assumes nothing.
+use borrow.Author.Needs.{needs}
+use Rattle.laws.proofs.Arrays.{length-mapped}
+use Rattle.report_block.proofs.Report.{Places, fields-put}
+use Rattle.report_block.proofs.put_fields.Statement.{statement}
+use Rattle.report_block.proofs.put_fields.Tie as tie
+
+places : (s : tie.Start) → Places (s .args .m)
+places s = record { curves = search (needs, length-mapped); currencies = search (needs, length-mapped) }
+
+returns : tie.Need-returns
+returns c =
+    let zeros = c .before .before in
+    let currencies = zeros .before .before .before .before in
+    let curves = currencies .before .before .before .before in
+    let account = curves .before .before .before .before in
+    let kind = account .before .before .before .before in
+    let s = kind .before .before .before .before .before in
+    fields-put _ _ _ _ _ _ (s .args .m) (places s)
+    (kind .put-le .ensures)
+    (account .put-le2 .ensures)
+    (curves .put-curves .ensures)
+    (currencies .put-currencies .ensures)
+    (zeros .put-le3 .ensures)
+
+pub put-fields-spec : {M : Type 1} → statement M
+put-fields-spec =
+    tie.close
+    (tie.spec
+    (λ c κs. search needs)
+    (λ c κs. search needs)
+    (λ c κs. search needs)
+    (λ c κs. search needs)
+    (λ c κs. search needs)
+    (λ c. search needs)
+    returns)
