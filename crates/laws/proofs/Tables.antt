@@ -1,8 +1,9 @@
 -- Lists by index, cut and joined: `table`, and lists that are all of one length, one behind the other. Assumes nothing.
 use mathlib.Core.Path.{_≡_, refl, sym, ap, _∙_}
 use mathlib.Core.List.{List, [], _∷_, _++_, flatten, append-assoc}
-use Prim.Native.Nat.{ℕ, zero, suc, _+_, _-_, _*_, _<_, min}
+use Prim.Native.Nat.{ℕ, zero, suc, _+_, _-_, _*_, _≤_, _<_, min}
 use native.Mathlib.Nat.{zero-add, add-zero, zero-mul, suc-mul}
+use native.Mathlib.Numerals.{add-one}
 use native.Mathlib.Omega.{arith}
 use lib.ListN.{length, take, drop, getD, length-append, length-take, length-drop}
 use lib.Seq.{ext-getD, getD-take, getD-drop, take-add, drop-drop, take-at, drop-append-add}
@@ -48,6 +49,27 @@ module _ {A : Type 0} where
       let e = length-table f 0 (length l) in
       ext-getD d (table f 0 (length l)) l e (λ j b. getD-table f 0 (length l) j d (omega arith) ∙ ap f (zero-add j))
 
+-- ---- a loop's: what is left of the table is `table f i (n - i)`
+
+module _ {A : Type 0} (f : ℕ → A) where
+  pub table-step : (i n : ℕ) → i < n → table f i (n - i) ≡ f i ∷ table f (i + 1) (n - (i + 1))
+  unfolding table
+  table-step i n h =
+      let e : n - i ≡ suc (n - (i + 1)) = omega arith in
+      rw (e, add-one)
+
+  pub table-end : (i n : ℕ) → n ≤ i → table f i (n - i) ≡ []
+  unfolding table
+  table-end i n h =
+      let e : n - i ≡ 0 = omega arith in
+      rw e
+
+  -- a list whose elements are those of the table is the table
+  pub table-by : (d : A) (n : ℕ) (l : List A) → length l ≡ n → ((k : ℕ) → k < n → getD l k d ≡ f k) → l ≡ table f 0 n
+  table-by d n l e h =
+      ext-getD d l (table f 0 n) (e ∙ sym (length-table f 0 n))
+      (λ k m. h k (omega arith) ∙ ap f (sym (zero-add k)) ∙ sym (getD-table f 0 n k d (omega arith)))
+
 -- ---- lists of m elements each, one behind the other
 
 -- each list of L has m elements
@@ -82,36 +104,3 @@ module _ {A : Type 0} (m : ℕ) where
       (λ k b. let e : at + (1 + k) * m ≡ at + m + (0 + k) * m = omega arith in ap (λ (x : ℕ). take m (drop x s)) e) in
       let e : suc n * m ≡ m + n * m = omega (arith, suc-mul n m) in
       rw (first, later, e, flatten-parts s (at + m) n, take-add m (n * m) (drop at s), drop-drop m at s)
--- The laws of `table` that a loop with an index cites, and a list that is a table by its elements. Assumes nothing.
-use mathlib.Core.Path.{_≡_, sym, _∙_, ap}
-use mathlib.Core.List.{List, [], _∷_}
-use Prim.Native.Nat.{ℕ, suc, _+_, _-_, _≤_, _<_}
-use native.Mathlib.Numerals.{add-one}
-use native.Mathlib.Nat.{zero-add}
-use native.Mathlib.Omega.{arith}
-use lib.ListN.{length, getD}
-use lib.Seq.{ext-getD}
-use Rattle.laws.specs.Walk.{table}
-use Rattle.laws.proofs.Walk.{length-table, getD-table}
-
-module _ {A : Type 0} (f : ℕ → A) where
-  -- ---- a loop's: what is left of the table is `table f i (n - i)`
-
-  pub table-step : (i n : ℕ) → i < n → table f i (n - i) ≡ f i ∷ table f (i + 1) (n - (i + 1))
-  unfolding table
-  table-step i n h =
-      let e : n - i ≡ suc (n - (i + 1)) = omega arith in
-      rw (e, add-one)
-
-  pub table-end : (i n : ℕ) → n ≤ i → table f i (n - i) ≡ []
-  unfolding table
-  table-end i n h =
-      let e : n - i ≡ 0 = omega arith in
-      rw e
-
-  -- ---- by its elements
-
-  pub table-of : (d : A) (n : ℕ) (l : List A) → length l ≡ n → ((k : ℕ) → k < n → getD l k d ≡ f k) → l ≡ table f 0 n
-  table-of d n l e h =
-      ext-getD d l (table f 0 n) (e ∙ sym (length-table f 0 n))
-      (λ k m. h k (omega arith) ∙ ap f (sym (zero-add k)) ∙ sym (getD-table f 0 n k d (omega arith)))

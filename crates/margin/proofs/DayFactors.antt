@@ -13,7 +13,7 @@ use lib.Dec.{eqb}
 use lib.IntN.{ℤ, _+ℤ_}
 use lib.ListN.{length, getD, set, length-set, List·getD-eq-default}
 use lib.Seq.{getD-set-same, getD-set-other}
-use Rattle.laws.proofs.Tables.{table-of}
+use Rattle.laws.proofs.Tables.{table-by}
 use Rattle.laws.proofs.Walk.{length-table, getD-table}
 use Rattle.decimal.specs.Product.{unit, product}
 use Rattle.discount.specs.Discount.{factor, presentValue}
@@ -152,4 +152,4 @@ module _ (nodes : List Node) (asked factors : List ℕ) where
 
     pub filled-all : length asked ≤ day → factors ≡ factorsOn nodes asked
     unfolding factorsOn
-    filled-all l = table-of (entry nodes asked) 0 (length asked) factors (h .places) (λ k m. h .done k (omega arith))
+    filled-all l = table-by (entry nodes asked) 0 (length asked) factors (h .places) (λ k m. h .done k (omega arith))

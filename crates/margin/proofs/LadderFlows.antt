@@ -1,12 +1,12 @@
 -- The flows of a ladder: each in its limits, and those that a loop has left. Assumes nothing.
-use mathlib.Core.Path.{_≡_, sym, _∙_}
+use mathlib.Core.Path.{_≡_, refl, sym, _∙_}
 use mathlib.Core.Bool.{Bool, true, false, cond, not}
 use mathlib.Core.List.{List, [], _∷_, _++_, flatMap}
 use Prim.Native.Nat.{ℕ, zero, suc, _+_, _-_, _*_, _≤_, _<_}
 use native.Mathlib.Nat.{mul-le-mul-right}
 use native.Mathlib.Numerals.{add-one}
 use native.Mathlib.Omega.{arith}
-use borrow.Author.Tests.{eq-eqb, ne-eqb}
+use borrow.Author.Tests.{eq-eqb, ne-eqb, eqb-false}
 use lib.Dec.{eqb}
 use lib.ListN.{length}
 use Rattle.laws.specs.Walk.{table}
@@ -45,11 +45,13 @@ module _ (l : List ℕ) (i j : ℕ) (h : ScheduleLimits l i) (k : j < payments l
 
   pub payment-limits : (curve : ℕ) → FlowLimits (payment curve l i j)
   unfolding payment
-  payment-limits curve = record { amount = go (eqb (suc j) (payments l i)); day = day-most }
+  payment-limits curve = record { amount = go (eqb (suc j) (payments l i)) refl; day = day-most }
     where
-      go : (t : Bool) → cond t (lastAmount l i) (amount l i) ≤ unit
-      go true = h .lastAmount
-      go false = h .amount
+      go : (t : Bool) → eqb (suc j) (payments l i) ≡ t → cond t (lastAmount l i) (amount l i) ≤ unit
+      go true e = h .lastAmount
+      go false e =
+          let other : (suc j ≡ payments l i → ⊥) = eqb-false (suc j) (payments l i) e in
+          h .amount (omega (arith, other))
 
 -- ---- a schedule
 
