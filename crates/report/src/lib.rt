@@ -12,6 +12,7 @@ ghost use Rattle.book.specs.Parts.{curveCount};
 ghost use Rattle.book.specs.Verdict.{verdict};
 ghost use Rattle.margin.specs.Margins.{curveMargin, noCurve};
 ghost use Rattle.exposure.specs.Exposures.{exposureAt};
+ghost use Rattle.report.specs.Bounded.{Bounded};
 ghost use Rattle.report.specs.Entry.{marginIn, breaksReportSpace, marginVerdict, marginBytes};
 
 // The figures of a curve of an accepted book, by way of its ladder.
@@ -86,6 +87,7 @@ fn fill_report(book: &[u8], used: usize, out: &mut [u8]) -> Verdict
 pub fn margin(book: &[u8], used: usize, out: &mut [u8]) -> Verdict
     ensures { λ r. ⌜ r ≡ marginVerdict (now (book .entry)) used (length (now (out .entry))) ⌝ }
     ensures { λ _. ⌜ now (out .exit) ≡ marginBytes (now (book .entry)) used (now (out .entry)) ⌝ }
+    ensures { λ r. ⌜ (r ≡ Accepted → Bounded (now (book .entry)) (now (out .exit))) ⌝ }
 {
     let v = book::check(book, used);
     match v {

@@ -2,6 +2,7 @@
 use mathlib.Core.Path.{_≡_, sym, _∙_}
 use borrow.Author.Needs.{needs}
 use Rattle.report.proofs.Answers.{refused-book}
+use Rattle.report.proofs.Demand.{bounded-if}
 use Rattle.report.proofs.margin.Statement.{statement}
 use Rattle.report.proofs.margin.Tie as tie
 
@@ -20,13 +21,17 @@ fill-report-requires c κs = sym (c .before .before .before .check .ensures) ∙
 returns : tie.Need-returns
 returns c =
     let a = c .before .before .before .before .before .before .args in
-    refused-book (a .book .now) (a .used) (a .out .now) _ _ (sym (c .before .before .before .check .ensures) ∙ c .before .v .given .1)
+    let p = refused-book (a .book .now) (a .used) (a .out .now) _ _ (sym (c .before .before .before .check .ensures) ∙ c .before .v .given .1) in
+    (p .0, (p .1, bounded-if (a .book .now) (a .used) (a .out .now) (p .0) (p .1)))
 
 same-length : tie.Need-same-length
 same-length c = search needs
 
 returns-2 : tie.Need-returns-2
-returns-2 c = search needs
+returns-2 c =
+    let p = c .before .before .fill-report .ensures in
+    let a = c .before .before .before .before .before .before .before .before .before .args in
+    (p .0, (p .1, bounded-if (a .book .now) (a .used) (a .out .now) (p .0) (p .1)))
 
 pub margin-spec : {M : Type 1} → statement M
 margin-spec = tie.close (tie.spec check-requires enum-known-v enum-told fill-report-requires returns same-length returns-2)
