@@ -9,7 +9,6 @@ use native.Mathlib.Omega.{arith}
 use lib.Dec.{eqb}
 use lib.ListN.{length, length-append}
 use Rattle.laws.specs.Walk.{table}
-use Rattle.ground.specs.declared.Verdict.the-variants.{Accepted}
 use Rattle.discount.specs.declared.Flow.{Flow}
 use Rattle.record.specs.Bytes.{fieldsOf}
 use Rattle.flows.specs.declared.Legs.{Legs}
@@ -18,7 +17,7 @@ use Rattle.flows.proofs.Bounded.{AcceptedRecord, accepted, flows-few}
 use Rattle.book.specs.Parts.{curvesOf, curveCount, tradeCount, recordAt}
 use Rattle.book.proofs.Accepted.{Sound, accepted-record, trade-count-most}
 use Rattle.margin.specs.Exposure.{flowsOn}
-use Rattle.margin.specs.Ladder.{payments, scheduleFlows, ladderFlows, LadderLimits}
+use Rattle.margin.specs.Ladder.{scheduleFlows, ladderFlows, LadderLimits}
 use Rattle.margin.proofs.LadderFlows.{length-schedule}
 use Rattle.exposure.specs.Growth.{InLimits, Grown}
 use Rattle.exposure.specs.Exposures.{tradeAt, flowsUpTo, flowsIn}

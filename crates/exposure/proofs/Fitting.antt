@@ -2,20 +2,19 @@
 use mathlib.Core.Path.{_≡_, sym, ap, _∙_}
 use mathlib.Core.Bool.{Bool, true, false, cond}
 use mathlib.Core.List.{List, [], _∷_, _++_}
-use Prim.Native.Nat.{ℕ, zero, suc, _+_, _≤_, _<_}
+use Prim.Native.Nat.{ℕ, zero, suc, _≤_}
 use native.Mathlib.Numerals.{add-one}
 use native.Mathlib.Omega.{arith}
 use lib.Dec.{eqb}
-use lib.ListN.{length}
 use Rattle.laws.specs.All.{All}
 use Rattle.discount.specs.declared.Flow.{Flow}
 use Rattle.record.specs.Bytes.{fieldsOf}
 use Rattle.flows.specs.Legs.{flowsOf}
 use Rattle.flows.proofs.Bounded.{FlowBounds, flows-bounded}
-use Rattle.book.specs.Parts.{blockAt, curveCount, curvesOf, tradeCount, recordAt}
+use Rattle.book.specs.Parts.{curvesOf, tradeCount, recordAt}
 use Rattle.book.proofs.Accepted.{Sound, trade-count-most}
 use Rattle.margin.specs.Exposure.{flowsOn}
-use Rattle.margin.specs.Totals.{FlowLimits, AllFlowLimits}
+use Rattle.margin.specs.Totals.{AllFlowLimits}
 use Rattle.margin.proofs.Accounts.{FlowsFit}
 use Rattle.exposure.specs.Exposures.{tradeAt, flowsUpTo, flowsIn, exposureAt}
 use Rattle.exposure.proofs.Collected.{more-flows, no-flows, on-few, few-flows, accepted-at}

@@ -12,10 +12,10 @@ use lib.Dec.{eqb, leb, ltb}
 use lib.ListN.{length, getD}
 use borrow.Author.Tests.{eqb-true, eqb-false, ltb-false, le-leb, not-true}
 use Rattle.laws.specs.Walk.{table}
-use Rattle.laws.proofs.Tables.{table-same, table-add}
+use Rattle.laws.proofs.Tables.{table-same}
 use Rattle.laws.proofs.Bools.{both, neither}
 use Rattle.decimal.specs.Product.{unit}
-use Rattle.layout.specs.Bytes.{byteAt, put}
+use Rattle.layout.specs.Bytes.{put}
 use Rattle.layout.proofs.Bytes.{byte-put, byte-apart}
 use Rattle.discount.specs.declared.Flow.{Flow}
 use Rattle.flows.specs.declared.Leg.{Leg}

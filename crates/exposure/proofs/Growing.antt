@@ -17,7 +17,7 @@ use Rattle.margin.specs.Exposure.{flowsOn}
 use Rattle.margin.specs.Ladder.{ladderFlows}
 use Rattle.exposure.specs.Schedules.{scheduleOf, standsOn, withLeg, countWithLeg}
 use Rattle.exposure.specs.Growth.{InLimits, Grown, LegsSound}
-use Rattle.exposure.proofs.Gathered.{on-append, Amounts, amounts, push-flows, push-limits, push-few}
+use Rattle.exposure.proofs.Gathered.{on-append, amounts, push-flows, push-limits, push-few}
 
 length-withLeg : (curve : ℕ) (l : Leg) (ladder : List ℕ) (n : ℕ) → length (withLeg curve l ladder n) ≡ length ladder
 unfolding withLeg

@@ -1,15 +1,14 @@
 -- A ladder with a leg more: what the code writes is the leg's schedule, and the ladder's flows are then the leg's too. Assumes nothing.
-use mathlib.Core.Path.{_≡_, refl, sym, ap, _∙_}
+use mathlib.Core.Path.{_≡_, refl, ap, _∙_}
 use mathlib.Core.Bool.{Bool, true, false, cond}
-use mathlib.Core.Logic.{inl}
-use mathlib.Core.List.{List, [], _∷_, _++_, flatMap}
-use Prim.Native.Nat.{ℕ, zero, suc, _+_, _*_, _≤_, _<_}
+use mathlib.Core.List.{List, [], _∷_}
+use Prim.Native.Nat.{ℕ, suc, _+_, _*_}
 use native.Mathlib.Omega.{arith}
-use lib.ListN.{length, getD, set}
+use lib.ListN.{set}
 use mir.Val.{boolByte}
-use Rattle.layout.specs.Bytes.{byteAt, put}
+use Rattle.layout.specs.Bytes.{put}
 use Rattle.flows.specs.declared.Leg.{Leg}
-use Rattle.exposure.specs.Schedules.{scheduleOf, standsOn, withLeg, countWithLeg}
+use Rattle.exposure.specs.Schedules.{standsOn, withLeg, countWithLeg}
 
 -- six writes one behind the other
 six : (s : List ℕ) (at a b c d e f : ℕ) → set (set (set (set (set (set s at a) (at + 1) b) (at + 2) c) (at + 3) d) (at + 4) e) (at + 5) f ≡ put s at (a ∷ b ∷ c ∷ d ∷ e ∷ f ∷ [])

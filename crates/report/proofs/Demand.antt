@@ -1,5 +1,5 @@
 -- Demand 3: whatever margin writes for an accepted book is bounded by the exact values. Assumes nothing.
-use mathlib.Core.Path.{_≡_, refl, sym, ap, _∙_, subst}
+use mathlib.Core.Path.{_≡_, refl, sym, ap, _∙_}
 use mathlib.Core.Bool.{Bool, true, false, cond}
 use mathlib.Core.List.{List, [], _∷_, _++_, map}
 use Prim.Native.Nat.{ℕ, zero, suc, _+_, _-_, _*_, _^_, _≤_, _<_}
@@ -7,7 +7,7 @@ use native.Mathlib.Omega.{arith}
 use lib.Dec.{eqb, ltb}
 use lib.Signed.{mag}
 use borrow.Author.Tests.{le-ltb, ltb-false}
-use lib.IntN.{ℤ, pos, natAbs, _+ℤ_}
+use lib.IntN.{natAbs, _+ℤ_}
 use lib.ListN.{length, getD, drop, replicate, length-append, length-map, length-replicate, List·getD-append}
 use Rattle.laws.specs.Walk.{table}
 use Rattle.laws.proofs.Walk.{length-table, getD-table}
@@ -19,24 +19,20 @@ use Rattle.ground.specs.declared.Verdict.the-variants.{Accepted, Refused}
 use Rattle.ground.specs.Verdicts.{orElse, unless}
 use Rattle.decimal.specs.Product.{unit}
 use Rattle.curve.specs.Limits.{Limits, Each}
-use Rattle.curve.specs.Scenarios.{scenarioCount}
 use Rattle.curve.proofs.Rates.{each-limits}
 use Rattle.curve.proofs.Scenarios.{scenarios-most}
 use Rattle.curve_block.specs.Verdict.{curveVerdict}
 use Rattle.curve_block.proofs.Accepted.{accepted-curve}
 use Rattle.curve_block.proofs.Accepted as block
-use Rattle.book.specs.Parts.{account, blockAt, curveCount}
+use Rattle.book.specs.Parts.{blockAt, curveCount}
 use Rattle.book.specs.Verdict.{verdict}
 use Rattle.book.proofs.Accepted.{Sound, sound}
-use Rattle.margin.specs.declared.CurveMargin.{CurveMargin}
 use Rattle.margin.specs.declared.CurrencyMargin.{CurrencyMargin}
-use Rattle.margin.specs.declared.Margin.{Margin}
 use Rattle.margin.specs.Exposure.{Exposure}
 use Rattle.margin.specs.Totals.{mostFlows}
-use Rattle.margin.specs.Margins.{curveMargin, sumIn, currencyMargin, noCurve, assembled, marginOf, MarginLimits}
-use Rattle.margin.specs.Demand.{CurveBounded, InitialBounded}
+use Rattle.margin.specs.Margins.{curveMargin, sumIn, currencyMargin, noCurve, assembled}
 use Rattle.margin.proofs.Sizes.{margin-limits, margin-tolerance, first-largest, value-fits, loss-fits}
-use Rattle.margin.proofs.Accounts.{FlowsFit, AllFlowsFit}
+use Rattle.margin.proofs.Accounts.{AllFlowsFit}
 use Rattle.margin.proofs.Bounded.{AllLimits, curve-bounded, initial-bounded}
 use Rattle.report_block.specs.Report.{reportBytes}
 use Rattle.report_block.specs.Shown.{curveShown, shownInitial, CurveFits}

@@ -1,14 +1,12 @@
 -- `report::curve_figures` meets its contract: the ladder has the curve's flows, and the block gives a proper curve. Assumes nothing.
 use mathlib.Core.Path.{_≡_, refl, sym, ap, _∙_}
-use Prim.Native.Nat.{ℕ, _+_, _-_, _≤_, _<_}
+use Prim.Native.Nat.{ℕ, _+_, _-_}
 use native.Mathlib.Omega.{arith}
 use borrow.Author.Needs.{needs}
-use Rattle.ground.specs.declared.Verdict.the-variants.{Accepted}
 use Rattle.curve_block.specs.Verdict.{curveVerdict}
 use Rattle.curve_block.proofs.Accepted.{Sound, accepted-curve}
-use Rattle.book.specs.Parts.{blockAt, curveCount}
+use Rattle.book.specs.Parts.{blockAt}
 use Rattle.book.proofs.Accepted.{sound}
-use Rattle.margin.specs.Margins.{curveMargin}
 use Rattle.exposure.specs.Exposures.{exposureAt}
 use Rattle.report.proofs.curve_figures.Statement.{statement}
 use Rattle.report.proofs.curve_figures.Tie as tie

@@ -1,5 +1,5 @@
 -- `report::margin` meets its contract, by those of `check` and `fill_report`. Assumes nothing.
-use mathlib.Core.Path.{_≡_, sym, _∙_}
+use mathlib.Core.Path.{sym, _∙_}
 use borrow.Author.Needs.{needs}
 use Rattle.report.proofs.Answers.{refused-book}
 use Rattle.report.proofs.Demand.{bounded-if}
