@@ -7,3 +7,4 @@ pub mod Reach
 pub mod Accepted
 pub mod Bounded
 pub mod Figures
+pub mod Rewritten

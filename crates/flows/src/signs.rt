@@ -13,9 +13,9 @@ pub struct Signs {
 // First leg, second leg and payments of side 1, then of side 2, for each phase from 0 to 3 of each kind. What no trade can be has no flows.
 const SIGNS: [i64; 72] = [
     // outright, phase 0
-    -1,
+    -1, // the buyer's settlement cash goes out
     0,
-    1,
+    1, // and the payments come in
     1,
     0,
     -1,
@@ -66,7 +66,7 @@ const SIGNS: [i64; 72] = [
     -1,
     1,
     0,
-    0,
+    0, // the reverse-repo member has no flows here
     0,
     // specified repo, phase 0
     0,

@@ -1,4 +1,5 @@
 // A trade's legs. An amount above the largest stands as one above the largest.
+use crate::LARGEST;
 use crate::Leg;
 use crate::Legs;
 use crate::amounts;
@@ -19,9 +20,6 @@ ghost use Rattle.flows.specs.Legs.{noLeg, oneFlow, bondLeg, paymentsOf, 
 ghost use Rattle.trade.specs.declared.Security.the-variants.{Coupons, Indexed};
 ghost use Rattle.flows.specs.Capped.{capped, cappedLeg, cappedLegs};
 ghost use Rattle.flows.specs.Limits.{BondLimits, IndexLimits, SecurityLimits, OutrightLimits, RepoLimits, TradeLimits};
-
-// The largest amount.
-const LARGEST: u64 = 1_000_000_000_000;
 
 fn cap(amount: u64) -> u64
     ensures { λ r. ⌜ r ≡ capped amount ⌝ }

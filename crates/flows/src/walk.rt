@@ -1,4 +1,5 @@
 // A trade's flows by number, without a list of them; and the limit on them.
+use crate::LARGEST;
 use crate::Leg;
 use crate::Legs;
 use crate::trade_legs;
@@ -9,9 +10,6 @@ ghost use Prim.Native.Nat.{_<_};
 ghost use lib.ListN.{length, getD};
 ghost use Rattle.flows.specs.Legs.{flowOf, noFlow, legFlows, legsFlows, flowsOf, anyAbove, breaksFlowLimit};
 ghost use Rattle.flows.specs.Limits.{TradeLimits, LegLimits, LegsLimits, Valued};
-
-// The largest amount.
-const LARGEST: u64 = 1_000_000_000_000;
 
 // Whether a flow of the leg is above the largest amount.
 fn leg_above(l: Leg) -> bool
