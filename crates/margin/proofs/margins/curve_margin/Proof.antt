@@ -34,7 +34,11 @@ worst-of-requires : tie.Need-worst-of-requires
 worst-of-requires c κs =
     let m = c .before .before .before .before .before in
     let s = m .before .before .before in
-    (ready m, s .pre .1, base-read _ (s .args .components) _ _ _ _ (ready m) _ (c .before .before .value-on .ensures))
+    record {
+      ready = ready m;
+      components = s .pre .1;
+      value = base-read _ (s .args .components) _ _ _ _ (ready m) _ (c .before .before .value-on .ensures);
+    }
 
 returns : tie.Need-returns
 returns c =
