@@ -42,8 +42,9 @@ worst-of-requires c κs =
 
 returns : tie.Need-returns
 returns c =
-    let m = c .before .before .before .before .before .before .before .before in
-    margin-is _ _ _ _ _ _ (ready m) _ (c .before .before .before .before .before .value-on .ensures) _ _ (c .before .before .worst-of .ensures)
+    let v = c .before .before .before .before in
+    let m = v .before .before .before in
+    margin-is _ _ _ _ _ _ (ready m) _ (v .value-on .ensures) _ _ (c .before .worst-of .ensures)
 
 pub curve-margin-spec : {M : Type 1} → statement M
 curve-margin-spec =
