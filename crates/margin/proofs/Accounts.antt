@@ -1,14 +1,15 @@
 -- From the figures of curves in an array to the margin of an account: what a caller of `margin_of` cites. Assumes nothing.
 use mathlib.Core.Path.{_≡_, sym, _∙_, ap}
-use mathlib.Core.List.{List, [], _∷_, map}
-use Prim.Native.Nat.{ℕ, zero, suc, _≤_, _<_}
+use mathlib.Core.List.{List, [], _∷_, _++_, map}
+use Prim.Native.Nat.{ℕ, zero, suc, _-_, _≤_, _<_}
 use native.Mathlib.Omega.{arith}
-use lib.ListN.{length, getD, take}
-use lib.Seq.{getD-take}
+use lib.ListN.{length, getD, take, replicate}
+use lib.Seq.{getD-take, length-take-le}
 use Rattle.margin.specs.Exposure.{Exposure}
 use Rattle.margin.specs.Totals.{AllFlowLimits, mostFlows}
 use Rattle.margin.specs.declared.CurveMargin.{CurveMargin}
-use Rattle.margin.specs.Margins.{curveMargin, noCurve, assembled, marginOf, MarginLimits, PlacesLimits}
+use Rattle.margin.specs.declared.CurrencyMargin.{CurrencyMargin}
+use Rattle.margin.specs.Margins.{curveMargin, currencyMargin, noCurve, assembled, marginOf, MarginLimits, PlacesLimits}
 use Rattle.margin.proofs.Sizes.{margin-limits}
 
 -- an exposure whose flows are in their limits, and few enough
@@ -24,6 +25,18 @@ all-limits : (es : List Exposure) → AllFlowsFit es → (i : ℕ) → i < lengt
 all-limits [] h i l = absurd (omega arith)
 all-limits (e ∷ es) h zero l = margin-limits e (h .0 .each) (h .0 .few)
 all-limits (e ∷ es) h (suc i) l = all-limits es (h .1) i (omega arith)
+
+-- ---- the margin by its parts
+
+pub assembled-is : (account : ℕ) (ms : List CurveMargin) (count : ℕ) (places : List CurveMargin) (a b c : CurrencyMargin)
+    → count ≤ length ms
+    → places ≡ take count ms ++ replicate (8 - count) noCurve
+    → a ≡ currencyMargin 1 (take count ms)
+    → b ≡ currencyMargin 2 (take count ms)
+    → c ≡ currencyMargin 3 (take count ms)
+    → record { account = account; curves = places; currencies = a ∷ b ∷ c ∷ [] } ≡ assembled account (take count ms)
+unfolding assembled
+assembled-is account ms count places a b c h ep ea eb ec = rw (length-take-le count ms h, ep, ea, eb, ec)
 
 -- the first count places hold the figures of the exposures
 module _ (ms : List CurveMargin) (count : ℕ) (es : List Exposure) (e : take count ms ≡ map curveMargin es) where

@@ -45,6 +45,10 @@ module _ (t : Sums) (m : CurveMargin) (h : SumsLimits 7 t × MarginLimits m) whe
   unfolding unit
   code-variation = rw (read-is (t .variation) (omega (arith, h .0 .variation)), read-is (m .base) (omega (arith, h .1 .base))) refl
 
+  pub code-sums : _≡_ {A = Sums} (record { initial = read (read (t .initial) +ℤ read (m .loss)); variation = read (read (t .variation) +ℤ read (m .base)) }) (record { initial = t .initial +ℤ m .loss; variation = t .variation +ℤ m .base })
+  code-sums =
+      rw (code-initial, code-variation, read-is (t .initial +ℤ m .loss) initial-size, read-is (t .variation +ℤ m .base) variation-size) refl
+
 -- ---- at the end: the total
 
 module _ (t : Sums) (h : SumsLimits 8 t) where

@@ -8,6 +8,7 @@ use lib.ListN.{length, getD}
 use Rattle.laws.specs.Walk.{table}
 use Rattle.decimal.specs.Product.{unit}
 use Rattle.discount.specs.declared.Flow.{Flow}
+use Rattle.margin.specs.Totals.{mostFlows}
 
 -- the numbers of schedule i: first day, period, payments, the amount of each payment but the last, the last amount, 1 for received
 abbrev pub firstDay : List ℕ → ℕ → ℕ
@@ -57,4 +58,4 @@ pub record ScheduleLimits (l : List ℕ) (i : ℕ) : Type 0 where
 pub record LadderLimits (l : List ℕ) (n : ℕ) : Type 0 where
   pub places : n * 6 ≤ length l
   pub each : (i : ℕ) → i < n → ScheduleLimits l i
-  pub few : (curve : ℕ) → length (ladderFlows curve l n) ≤ 140000
+  pub few : (curve : ℕ) → length (ladderFlows curve l n) ≤ mostFlows

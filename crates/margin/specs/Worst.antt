@@ -2,16 +2,17 @@
 use mathlib.Core.Bool.{cond}
 use mathlib.Core.List.{List}
 use Prim.Native.Nat.{ℕ, _*_, _≤_}
-use lib.IntN.{natAbs}
+use lib.IntN.{ℤ, natAbs}
 use lib.ListN.{length}
 use lib.Signed.{ltZ}
 use mathlib.Core.Path.{_≡_}
 use Rattle.decimal.specs.Product.{unit}
 use Rattle.discount.specs.Flows.{flowValue}
 use Rattle.curve.specs.declared.Curve.{Curve}
-use Rattle.curve.specs.Limits.{Proper}
-use Rattle.margin.specs.Exposure.{Exposure}
-use Rattle.margin.specs.Losses.{worstAt, worstLoss}
+use Rattle.curve.specs.declared.Components.{Components}
+use Rattle.curve.specs.Limits.{Proper, ProperComponents}
+use Rattle.margin.specs.Exposure.{Exposure, exposure}
+use Rattle.margin.specs.Losses.{baseOf, worstAt, worstLoss}
 use Rattle.margin.specs.Totals.{mostFlows}
 use Rattle.margin.specs.Ladder.{ladderFlows, LadderLimits}
 use Rattle.margin.specs.Factors.{dayCount, AllMarked}
@@ -34,3 +35,9 @@ pub record Ready (c : Curve) (id : ℕ) (l : List ℕ) (n : ℕ) (days : List �
   pub ladder : LadderLimits l n
   pub places : length days ≡ dayCount
   pub marks : AllMarked days (ladderFlows id l n)
+
+-- and for its losses: proper components, and its base value. Losses do not depend on the currency, which is left 0
+pub record Based (c : Curve) (x : Components) (id : ℕ) (l : List ℕ) (n : ℕ) (days : List ℕ) (base : ℤ) : Type 0 where
+  pub ready : Ready c id l n days
+  pub components : ProperComponents x
+  pub value : base ≡ baseOf flowValue (exposure 0 c x (ladderFlows id l n))

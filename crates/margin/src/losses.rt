@@ -2,14 +2,13 @@
 ghost use mathlib.Core.Path.{_≡_};
 ghost use Prim.Native.Nat.{_<_};
 ghost use Rattle.curve.specs.Rates.{nodesOf};
-ghost use Rattle.curve.specs.Limits.{ProperComponents};
 ghost use Rattle.curve.specs.Scenarios.{scenarioCount};
 ghost use Rattle.discount.specs.Flows.{flowValue};
 ghost use Rattle.margin.specs.Exposure.{exposure};
 ghost use Rattle.margin.specs.Ladder.{ladderFlows};
-ghost use Rattle.margin.specs.Losses.{baseOf, lossAt};
+ghost use Rattle.margin.specs.Losses.{lossAt};
 ghost use Rattle.margin.specs.Totals.{totalOn};
-ghost use Rattle.margin.specs.Worst.{worseOf, LossLimits, worstOf, Ready};
+ghost use Rattle.margin.specs.Worst.{worseOf, LossLimits, worstOf, Ready, Based};
 use super::factors::fill_factors;
 use super::ladder::value_of;
 use super::total::Total;
@@ -26,7 +25,7 @@ pub fn value_on(id: u64, curve: Curve, l: &[u64], n: usize, asked: &[u64]) -> To
     value_of(id, l, n, &factors)
 }
 
-// The loss of scenario s: the base less the value at the stressed nodes. The currency does not matter here.
+// The loss of scenario s: the base less the value at the stressed nodes.
 pub fn loss_of(
     id: u64,
     curve: Curve,
@@ -37,7 +36,7 @@ pub fn loss_of(
     base: i64,
     s: u64,
 ) -> i64
-    requires { ⌜ Ready curve id (now l) n (now asked) × ProperComponents components × (base ≡ baseOf flowValue (exposure 0 curve components (ladderFlows id (now l) n))) × (s < scenarioCount components) ⌝ }
+    requires { ⌜ Based curve components id (now l) n (now asked) base × (s < scenarioCount components) ⌝ }
     ensures { λ r. ⌜ r ≡ lossAt flowValue (exposure 0 curve components (ladderFlows id (now (l .entry)) n)) s ⌝ }
 {
     let stressed = curve.stressed(components.scenario(s));
@@ -74,7 +73,7 @@ pub fn worst_of(
     asked: &[u64],
     base: i64,
 ) -> Loss
-    requires { ⌜ Ready curve id (now l) n (now asked) × ProperComponents components × (base ≡ baseOf flowValue (exposure 0 curve components (ladderFlows id (now l) n))) ⌝ }
+    requires { ⌜ Based curve components id (now l) n (now asked) base ⌝ }
     ensures { λ r. ⌜ r ≡ worstOf (exposure 0 curve components (ladderFlows id (now (l .entry)) n)) ⌝ }
 {
     let count = components.scenario_count();

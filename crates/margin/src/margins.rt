@@ -30,14 +30,16 @@ pub fn curve_margin(
 {
     let mut asked = [0u64; 10951];
     mark_days(id, l, n, &mut asked);
-    let base = value_on(id, curve, l, n, &asked);
-    let worst = worst_of(id, curve, components, l, n, &asked, base.sum);
+    let total = value_on(id, curve, l, n, &asked);
+    let base = total.sum;
+    let worst = worst_of(id, curve, components, l, n, &asked, base);
+    let loss = worst.amount;
     CurveMargin {
-        base: base.sum,
-        loss: worst.amount,
+        base: base,
+        loss: loss,
         scenario: worst.scenario,
         currency: currency,
-        tolerance: base.tolerance,
+        tolerance: total.tolerance,
     }
 }
 

@@ -1,6 +1,6 @@
 -- `margin::losses::worst_of` meets its contract: the loss held is the worst of the scenarios passed. Assumes nothing.
 use borrow.Author.Needs.{needs}
-use mathlib.Core.Path.{_≡_, _∙_, ap}
+use mathlib.Core.Path.{_≡_, ap}
 use Prim.Native.Nat.{ℕ, _-_, _<_}
 use native.Mathlib.Omega.{arith}
 use lib.IntN.{ℤ}
@@ -9,8 +9,9 @@ use Rattle.discount.specs.Flows.{flowValue}
 use Rattle.curve.specs.Scenarios.{scenarioCount}
 use Rattle.curve.proofs.Scenarios.{scenarios-some, scenarios-most}
 use Rattle.margin.specs.Exposure.{exposure}
-use Rattle.margin.specs.Losses.{baseOf, lossAt, worstAt}
+use Rattle.margin.specs.Losses.{lossAt, worstAt}
 use Rattle.margin.specs.Ladder.{ladderFlows}
+use Rattle.margin.specs.Worst.{Based}
 use Rattle.margin.proofs.Stressing.{losses-limits, losses-fit, Found, found-first, found-next, found-all}
 use Rattle.margin.proofs.losses.worst_of.Statement.{statement}
 use Rattle.margin.proofs.losses.worst_of.Tie as tie
@@ -23,7 +24,7 @@ abbrev μ-loop : tie.MeasureT-loop
 μ-loop id curve components l n asked base count worst₀ s₀ worst s = count - s
 
 scenario-count-requires : tie.Need-scenario-count-requires Inv-loop μ-loop
-scenario-count-requires c κs = search needs
+scenario-count-requires c κs = c .before .before .pre .components
 
 -- of the entry's record: the losses, the base read back from its bits, and a loss read back from its bits
 abbrev losses : tie.Start Inv-loop μ-loop → ℕ → ℤ
@@ -31,18 +32,18 @@ losses s =
     let a = s .args in
     lossAt flowValue (exposure 0 (a .curve) (a .components) (ladderFlows (a .id) (a .l .now) (a .n)))
 
-base-is : (s : tie.Start Inv-loop μ-loop)
+based : (s : tie.Start Inv-loop μ-loop)
     → let a = s .args in
-    read (a .base) ≡ baseOf flowValue (exposure 0 (a .curve) (a .components) (ladderFlows (a .id) (a .l .now) (a .n)))
-base-is s = back (s .args .base) (s .fits .base .sfits) ∙ s .pre .2
+    Based (a .curve) (a .components) (a .id) (a .l .now) (a .n) (a .asked .now) (read (a .base))
+based s = rw (back (s .args .base) (s .fits .base .sfits)) (s .pre)
 
 loss-is : (s : tie.Start Inv-loop μ-loop) (k : ℕ) (r : ℤ) → r ≡ losses s k → read r ≡ losses s k
-loss-is s k r e = rw e (read-is _ (losses-fit _ _ _ _ _ _ (s .pre .0) k))
+loss-is s k r e = rw e (read-is _ (losses-fit _ _ _ _ _ _ (s .pre .ready) k))
 
 loss-of-requires : tie.Need-loss-of-requires Inv-loop μ-loop
 loss-of-requires c κs =
     let s = c .before .before .before in
-    (s .pre .0, s .pre .1, base-is s, scenarios-some (s .args .components))
+    (based s, scenarios-some (s .args .components))
 
 loop-holds : tie.Need-loop-holds Inv-loop μ-loop
 loop-holds c =
@@ -53,19 +54,19 @@ loop-holds c =
 loss-of-requires-2 : tie.Need-loss-of-requires-2 Inv-loop μ-loop
 loss-of-requires-2 c κs =
     let s = c .before .before .before .before .before .before in
-    (s .pre .0, s .pre .1, base-is s, omega (arith, c .before .before .before .scenario-count .ensures))
+    (based s, omega (arith, c .before .before .before .scenario-count .ensures))
 
 worse-requires : tie.Need-worse-requires Inv-loop μ-loop
 worse-requires c κs =
     let s = c .before .before .before .before .before .before .before in (
-      losses-limits _ _ _ _ _ _ (s .pre .0) _ _ (c .before .before .loop .inv .loss),
-      losses-limits _ _ _ _ _ _ (s .pre .0) (c .before .before .loop .s) _ (loss-is s _ _ (c .loss-of2 .ensures)),
+      losses-limits _ _ _ _ _ _ (s .pre .ready) _ _ (c .before .before .loop .inv .loss),
+      losses-limits _ _ _ _ _ _ (s .pre .ready) (c .before .before .loop .s) _ (loss-is s _ _ (c .loss-of2 .ensures)),
     )
 
 add-s : tie.Need-add-s Inv-loop μ-loop
 add-s c =
     let s = c .before .before .before .before .before .before .before .before in
-    record { fits = omega (arith, c .before .before .before .before .before .scenario-count .ensures, scenarios-most _ (s .pre .1)) }
+    record { fits = omega (arith, c .before .before .before .before .before .scenario-count .ensures, scenarios-most _ (s .pre .components)) }
 
 loop-less : tie.Need-loop-less Inv-loop μ-loop
 loop-less c = search needs

@@ -34,12 +34,17 @@ worst-of-requires : tie.Need-worst-of-requires
 worst-of-requires c κs =
     let m = c .before .before .before .before .before in
     let s = m .before .before .before in
-    (ready m, s .pre .1, base-read _ (s .args .components) _ _ _ _ (ready m) _ (c .before .before .value-on .ensures))
+    record {
+      ready = ready m;
+      components = s .pre .1;
+      value = base-read _ (s .args .components) _ _ _ _ (ready m) _ (c .before .before .value-on .ensures);
+    }
 
 returns : tie.Need-returns
 returns c =
-    let m = c .before .before .before .before .before .before .before .before in
-    margin-is _ _ _ _ _ _ (ready m) _ (c .before .before .before .before .before .value-on .ensures) _ _ (c .before .before .worst-of .ensures)
+    let v = c .before .before .before .before in
+    let m = v .before .before .before in
+    margin-is _ _ _ _ _ _ (ready m) _ (v .value-on .ensures) _ _ (c .before .worst-of .ensures)
 
 pub curve-margin-spec : {M : Type 1} → statement M
 curve-margin-spec =

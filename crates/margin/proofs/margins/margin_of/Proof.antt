@@ -1,9 +1,9 @@
 -- `margin::margins::margin_of` meets its contract. Assumes nothing.
-use mathlib.Core.Path.{_≡_, refl}
+use mathlib.Core.Path.{_≡_}
+use Prim.Native.Nat.{_≤_}
 use native.Mathlib.Omega.{arith}
-use lib.ListN.{length, take}
-use lib.Seq.{length-take-le}
-use Rattle.margin.specs.Margins.{assembled}
+use lib.ListN.{length}
+use Rattle.margin.proofs.Accounts.{assembled-is}
 use borrow.Author.Needs.{needs}
 use Rattle.margin.proofs.margins.margin_of.Statement.{statement}
 use Rattle.margin.proofs.margins.margin_of.Tie as tie
@@ -23,12 +23,13 @@ cleared-requires c κs = search needs
 places : (s : tie.Start) → length (s .args .curves) ≡ 8
 places s = search needs
 
+inside : (s : tie.Start) → s .args .count ≤ length (s .args .curves)
+inside s = omega (arith, places s, s .pre .most)
+
 returns : tie.Need-returns
-unfolding assembled
 returns c =
     let s = c .before .before .before .before in
-    let e : length (take (s .args .count) (s .args .curves)) ≡ s .args .count = length-take-le (s .args .count) (s .args .curves) (omega (arith, places s, s .pre .most)) in
-    rw (e, c .cleared .ensures, c .before .currency-margin3 .ensures, c .before .before .currency-margin2 .ensures, c .before .before .before .currency-margin .ensures) refl
+    assembled-is _ _ _ _ _ _ _ (inside s) (c .cleared .ensures) (c .before .before .before .currency-margin .ensures) (c .before .before .currency-margin2 .ensures) (c .before .currency-margin3 .ensures)
 
 pub margin-of-spec : {M : Type 1} → statement M
 margin-of-spec =

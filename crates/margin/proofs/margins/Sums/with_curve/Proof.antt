@@ -1,7 +1,7 @@
 -- `margin::margins::Sums::with_curve` meets its contract. Assumes nothing.
-use mathlib.Core.Path.{sym}
-use Rattle.laws.proofs.Signed.{fits, read-is}
-use Rattle.margin.proofs.Currencies.{plus-other, plus-same, initial-size, variation-size, code-initial, code-variation}
+use mathlib.Core.Path.{sym, _∙_}
+use Rattle.laws.proofs.Signed.{fits}
+use Rattle.margin.proofs.Currencies.{plus-other, plus-same, initial-size, variation-size, code-initial, code-variation, code-sums}
 use Rattle.margin.proofs.margins.Sums.with_curve.Statement.{statement}
 use Rattle.margin.proofs.margins.Sums.with_curve.Tie as tie
 
@@ -20,8 +20,8 @@ add-t6 c =
 
 returns-2 : tie.Need-returns-2
 returns-2 c =
-    let p = c .before .before .before .before .before .before .before .before .before .before .pre in
-    rw (code-initial _ _ p, code-variation _ _ p, read-is _ (initial-size _ _ p), read-is _ (variation-size _ _ p)) (sym (plus-same _ _ _ (c .before .before .before .before .before .before .before .before .if1 .left)))
+    let e = c .before .before .before .before .before .before .before .before in
+    code-sums _ _ (e .before .before .pre) ∙ sym (plus-same _ _ _ (e .if1 .left))
 
 pub with-curve-spec : {M : Type 1} → statement M
 with-curve-spec = tie.close (tie.spec returns add-t5 add-t6 returns-2)
