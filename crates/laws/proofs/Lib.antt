@@ -6,4 +6,5 @@ pub mod Lists
 pub mod Bools
 pub mod Every
 pub mod Worst
+pub mod Tables
 pub mod Tests

@@ -1,0 +1,10 @@
+pub mod First
+pub mod Sound
+pub mod Places
+pub mod Verdicts
+pub mod Accepted
+pub mod Laid
+pub mod HeaderBlock
+pub mod TradeBlock
+pub mod Encoded
+pub mod Canonical

@@ -1,0 +1,77 @@
+-- Where the parts of a book stand. Assumes nothing.
+use mathlib.Core.Path.{_≡_, sym, ap, _∙_}
+use mathlib.Core.List.{List, []}
+use Prim.Native.Nat.{ℕ, _+_, _-_, _*_, _/_, _%_, _≤_, _<_}
+use native.Mathlib.Nat.{zero-add}
+use native.Mathlib.Omega.{arith}
+use borrow.Author.Tests.{eq-eqb, ne-eqb}
+use lib.ListN.{length, getD, List·getD-eq-default}
+use Rattle.laws.proofs.Walk.{length-table, getD-table}
+use Rattle.layout.specs.Bytes.{part, put}
+use Rattle.layout.proofs.Bytes.{part-part, part-put, part-all, length-put}
+use Rattle.layout.proofs.Field.{field-part}
+use Rattle.book.specs.Parts.{blockAt, account, curveCount, tradeBlocks, curveBlocks, curvesIn, curvesOf, recordCount, tradeCount, recordAt, records, recordPlace}
+
+-- ---- the header's fields, in its block
+
+pub head-account : (s : List ℕ) → account (blockAt s 0) ≡ account s
+head-account s = field-part 4 s 0 512 4 (omega arith)
+
+pub head-curves : (s : List ℕ) → curveCount (blockAt s 0) ≡ curveCount s
+head-curves s = field-part 2 s 0 512 8 (omega arith)
+
+pub head-trades : (s : List ℕ) → tradeBlocks (blockAt s 0) ≡ tradeBlocks s
+head-trades s = field-part 2 s 0 512 10 (omega arith)
+
+-- ---- curves
+
+pub length-curveBlocks : (s : List ℕ) → length (curveBlocks s) ≡ curveCount s
+unfolding curveBlocks
+length-curveBlocks s = length-table (blockAt s) 1 (curveCount s)
+
+pub curve-block : (s : List ℕ) (k : ℕ) → k < curveCount s → getD (curveBlocks s) k [] ≡ blockAt s (1 + k)
+unfolding curveBlocks
+curve-block s k h = getD-table (blockAt s) 1 (curveCount s) k [] h
+
+pub no-curve-block : (s : List ℕ) (k : ℕ) → curveCount s ≤ k → getD (curveBlocks s) k [] ≡ []
+no-curve-block s k h = List·getD-eq-default (curveBlocks s) [] (rw (length-curveBlocks s) h)
+
+pub curves-count : (s : List ℕ) → curvesOf s .count ≡ curveCount s
+unfolding curvesIn
+curves-count s = length-curveBlocks s
+
+-- ---- how many records
+
+pub no-trades : (s : List ℕ) → tradeBlocks s ≡ 0 → tradeCount s ≡ 0
+unfolding tradeCount
+no-trades s e = rw (eq-eqb (tradeBlocks s) 0 e)
+
+-- where there are trades, the last block holds what the others leave
+pub last-trades : (s : List ℕ) → 0 < tradeBlocks s → tradeCount s ≡ (tradeBlocks s - 1) * 9 + recordCount (blockAt s (1 + curveCount s + (tradeBlocks s - 1)))
+unfolding tradeCount
+last-trades s l =
+    let e : curveCount s + tradeBlocks s ≡ 1 + curveCount s + (tradeBlocks s - 1) = omega arith in
+    rw (ne-eqb (tradeBlocks s) 0 (λ z. omega arith), e)
+
+-- ---- records
+
+pub length-records : (s : List ℕ) → length (records s) ≡ tradeCount s
+unfolding records
+length-records s = length-table (recordAt s) 0 (tradeCount s)
+
+pub record-of : (s : List ℕ) (i : ℕ) → i < tradeCount s → getD (records s) i [] ≡ recordAt s i
+unfolding records
+record-of s i l = getD-table (recordAt s) 0 (tradeCount s) i [] l ∙ ap (recordAt s) (zero-add i)
+
+-- a list written over one of its own length
+pub put-whole : (s bs : List ℕ) → length bs ≡ length s → put s 0 bs ≡ bs
+put-whole s bs h =
+    let l : 0 + length bs ≤ length s = omega arith in
+    let e : length (put s 0 bs) ≡ length bs = length-put s 0 bs ∙ sym h in
+    sym (part-all (put s 0 bs)) ∙ rw e (part-put s 0 bs l)
+
+-- a record's bytes, straight from the book's
+pub record-part : (s : List ℕ) (i : ℕ) → (1 + curveCount s + i / 9) * 512 + 512 ≤ length s
+    → recordAt s i ≡ part s ((1 + curveCount s + i / 9) * 512 + recordPlace (i % 9)) 56
+unfolding recordAt
+record-part s i h = part-part s ((1 + curveCount s + i / 9) * 512) 512 (recordPlace (i % 9)) 56 h (omega arith)

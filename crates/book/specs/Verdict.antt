@@ -1,0 +1,53 @@
+-- The verdict on a book (document 01: "length first, then block by block, records in order within a block"). Assumes nothing.
+use Prim.Native.Nat.{ℕ, _+_, _/_}
+use mathlib.Core.Bool.{Bool, true, false, cond}
+use mathlib.Core.List.{List}
+use lib.Dec.{eqb, leb}
+use lib.ListN.{length}
+use Rattle.laws.specs.Walk.{over}
+use Rattle.ground.specs.declared.Ground.the-variants.{Length, Check, Place, Header, TradeBlock}
+use Rattle.ground.specs.declared.Verdict.{Verdict}
+use Rattle.ground.specs.declared.Verdict.the-variants.{Accepted, Refused}
+use Rattle.ground.specs.Verdicts.{orElse, unless}
+use Rattle.layout.specs.Check.{breaksCheck, breaksPlace}
+use Rattle.curve_block.specs.Verdict.{curveVerdict}
+use Rattle.record.specs.declared.Curves.{Curves}
+use Rattle.flows.specs.Verdict.{recordVerdict}
+use Rattle.book.specs.Parts.{blockAt, curveCount, curvesOf, recordCount, recordIn}
+use Rattle.book.specs.Rules.{breaksLength, breaksHeader, breaksTradeBlock}
+
+abbrev pub isAccepted : Verdict → Bool
+isAccepted Accepted = true
+isAccepted (Refused g k) = false
+
+-- the first refusal among the numbers from i on, n of them
+unfoldable pub firstOf : (ℕ → Verdict) → ℕ → ℕ → Verdict
+firstOf f i n = over (λ (k : ℕ) (next : Verdict). orElse (f k) next) Accepted i n
+
+-- the header of a book of so many blocks: grounds 2, 3 and 4
+unfoldable pub headerVerdict : List ℕ → ℕ → Verdict
+headerVerdict b blocks =
+    unless (breaksCheck b) Check 0
+    (unless (breaksPlace b 1 0) Place 0
+    (unless (breaksHeader b blocks) Header 0 Accepted))
+
+-- the records of a block of trades, each by 8 to 12
+unfoldable pub recordsVerdict : Curves → List ℕ → ℕ → Verdict
+recordsVerdict curves b k = firstOf (λ (i : ℕ). recordVerdict curves (recordIn b i) k) 0 (recordCount b)
+
+-- block k, of trades: grounds 2, 3 and 7, then its records
+unfoldable pub tradesVerdict : Curves → List ℕ → ℕ → Bool → Verdict
+tradesVerdict curves b k last =
+    unless (breaksCheck b) Check k
+    (unless (breaksPlace b 3 k) Place k
+    (unless (breaksTradeBlock b last) TradeBlock k (recordsVerdict curves b k)))
+
+-- block k of so many, by its place: the header, a curve or trades
+unfoldable pub blockVerdict : List ℕ → ℕ → ℕ → Verdict
+blockVerdict s blocks k =
+    cond (eqb k 0) (headerVerdict (blockAt s 0) blocks)
+    (cond (leb k (curveCount s)) (curveVerdict (blockAt s k) k)
+    (tradesVerdict (curvesOf s) (blockAt s k) k (eqb (k + 1) blocks)))
+
+unfoldable pub verdict : List ℕ → ℕ → Verdict
+verdict s used = unless (breaksLength used (length s)) Length 0 (firstOf (blockVerdict s (used / 512)) 0 (used / 512))

@@ -1,0 +1,46 @@
+// A book: its parts, and the verdict on it.
+mod blocks;
+pub mod parts;
+mod rules;
+
+use ground::Ground;
+use ground::Verdict;
+use record::Curves;
+ghost use mathlib.Core.Path.{_≡_};
+ghost use Prim.Native.Nat.{_-_, _*_, _≤_};
+ghost use lib.ListN.{length};
+ghost use Rattle.book.specs.Parts.{curvesOf};
+ghost use Rattle.book.specs.Verdict.{firstOf, blockVerdict, verdict};
+
+// The first refusal of the blocks behind the header.
+fn blocks_verdict(book: &[u8], curves: Curves, n: usize) -> Verdict
+    requires { ⌜ (n ≤ 128) × (n * 512 ≤ length (now book)) ⌝ }
+    requires { ⌜ curves ≡ curvesOf (now book) ⌝ }
+    ensures { λ r. ⌜ r ≡ firstOf (blockVerdict (now (book .entry)) n) 1 (n - 1) ⌝ }
+{
+    let mut k: usize = 1;
+    while k < n {
+        let v = blocks::block_verdict(book, curves, n, k);
+        if !blocks::is_accepted(v) {
+            return v;
+        }
+        k += 1;
+    }
+    Verdict::Accepted
+}
+
+// The verdict on a lent book and its used length: whatever is lent has an answer. The curves are looked at only once the header has
+// said that they are there.
+pub fn check(book: &[u8], used: usize) -> Verdict
+    ensures { λ r. ⌜ r ≡ verdict (now (book .entry)) used ⌝ }
+{
+    if rules::breaks_length(used, book.len()) {
+        return Verdict::Refused(Ground::Length, 0);
+    }
+    let n = used / 512;
+    let first = blocks::header_verdict(parts::block_at(book, 0), n);
+    if !blocks::is_accepted(first) {
+        return first;
+    }
+    blocks_verdict(book, parts::curves_of(book), n)
+}

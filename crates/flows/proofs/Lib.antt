@@ -1,0 +1,7 @@
+pub mod Bounds
+mod Table
+pub mod Capped
+pub mod Above
+pub mod Numbered
+pub mod Reach
+pub mod Accepted
