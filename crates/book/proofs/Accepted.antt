@@ -13,10 +13,9 @@ use Rattle.ground.specs.declared.Verdict.the-variants.{Accepted}
 use Rattle.layout.proofs.Bytes.{length-part}
 use Rattle.layout.proofs.Verdicts.{unless-accepted}
 use Rattle.curve_block.specs.Verdict.{curveVerdict}
-use Rattle.flows.specs.Verdict.{recordVerdict}
 use Rattle.book.specs.Parts.{blockAt, curveCount, tradeBlocks, curvesOf, recordCount, recordPlace, tradeCount, recordAt}
 use Rattle.book.specs.Rules.{breaksLength}
-use Rattle.book.specs.Verdict.{firstOf, blockVerdict, verdict}
+use Rattle.book.specs.Verdict.{bytesVerdict, firstOf, blockVerdict, verdict}
 use Rattle.book.specs.Encode.{blocksFor}
 use Rattle.book.proofs.First.{first-at}
 use Rattle.book.proofs.Sound.{Long, long}
@@ -122,7 +121,7 @@ module _ (s : List ℕ) (used : ℕ) (b : Sound s used) where
       (p, omega (arith, held (i / 9) p))
 
   -- every record is accepted, in its block
-  pub accepted-record : (i : ℕ) → i < tradeCount s → recordVerdict (curvesOf s) (recordAt s i) (1 + curveCount s + i / 9) ≡ Accepted
+  pub accepted-record : (i : ℕ) → i < tradeCount s → bytesVerdict (curvesOf s) (recordAt s i) (1 + curveCount s + i / 9) ≡ Accepted
   unfolding recordAt
   accepted-record i l = let p = place-held i l in b .trades (i / 9) (p .0) .each (i % 9) (p .1)
 

@@ -14,9 +14,8 @@ use Rattle.laws.proofs.Walk.{length-table, getD-table}
 use Rattle.laws.proofs.Tables.{Each, length-flatten, part-flatten, table-same, table-of}
 use Rattle.ground.specs.declared.Verdict.the-variants.{Accepted}
 use Rattle.curve_block.specs.Verdict.{curveVerdict}
-use Rattle.flows.specs.Verdict.{recordVerdict}
 use Rattle.book.specs.Parts.{blockAt, account, curveCount, tradeBlocks, curveBlocks, curvesIn, curvesOf, tradeCount, recordAt, records}
-use Rattle.book.specs.Verdict.{blockVerdict, verdict}
+use Rattle.book.specs.Verdict.{bytesVerdict, blockVerdict, verdict}
 use Rattle.book.specs.Encode.{headerBlock, tradeBlock, blocksFor, recordsOfBlock, tradeBlocksOf, blocks, encode}
 use Rattle.book.proofs.First.{first-of}
 use Rattle.book.proofs.Sound.{length-sound}
@@ -37,7 +36,7 @@ pub record Encodable (a : ℕ) (cs rs : List (List ℕ)) : Type 0 where
 -- and what it must be made of: curve blocks and records that are accepted, a record in whatever block
 pub record Acceptable (cs rs : List (List ℕ)) : Type 0 where
   pub curves : (k : ℕ) → k < length cs → curveVerdict (getD cs k []) (1 + k) ≡ Accepted
-  pub trades : (i : ℕ) → i < length rs → (block : ℕ) → recordVerdict (curvesIn cs) (getD rs i []) block ≡ Accepted
+  pub trades : (i : ℕ) → i < length rs → (block : ℕ) → bytesVerdict (curvesIn cs) (getD rs i []) block ≡ Accepted
 
 -- ---- nine records to a block
 

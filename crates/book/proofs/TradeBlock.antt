@@ -13,8 +13,8 @@ use Rattle.layout.specs.Bytes.{part, AreBytes}
 use Rattle.layout.proofs.Bytes.{length-part, part-part}
 use Rattle.layout.proofs.Sealed.{sound-sealed}
 use Rattle.record.specs.declared.Curves.{Curves}
-use Rattle.flows.specs.Verdict.{recordVerdict}
 use Rattle.book.specs.Parts.{recordCount, recordIn}
+use Rattle.book.specs.Verdict.{bytesVerdict}
 use Rattle.book.specs.Encode.{block, tradeBlock}
 use Rattle.book.proofs.Sound.{Counted}
 use Rattle.book.proofs.Laid.{length-block, block-count, block-named, block-zeros, block-checked, block-placed, block-of}
@@ -47,7 +47,7 @@ module _ (number : ℕ) (rs : List (List ℕ)) where
         ∙ rw named (rw append-nil at (part-flatten 56 rs [] each i l))
 
     pub trades-break-nothing : (curves : Curves) (last : Bool) → number < 65536 → Counted (length rs) last
-        → ((i : ℕ) → i < length rs → recordVerdict curves (getD rs i []) number ≡ Accepted)
+        → ((i : ℕ) → i < length rs → bytesVerdict curves (getD rs i []) number ≡ Accepted)
         → TradesSound curves (tradeBlock number rs) number last
     trades-break-nothing curves last h counted accepted =
         record {

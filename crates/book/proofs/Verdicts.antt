@@ -8,17 +8,20 @@ use native.Mathlib.Omega.{arith}
 use borrow.Author.Tests.{ne-eqb, le-leb, lt-leb}
 use lib.Dec.{eqb}
 use lib.ListN.{length}
-use Rattle.ground.specs.declared.Ground.the-variants.{Check, Place, Header, TradeBlock, Form}
+use Rattle.ground.specs.declared.Ground.the-variants.{Check, Place, Header, TradeBlock, Form, Days, Amounts, Currency, FlowLimit}
 use Rattle.ground.specs.declared.Verdict.the-variants.{Accepted}
-use Rattle.layout.specs.Bytes.{byteAt}
 use Rattle.layout.proofs.Verdicts.{unless-accepted}
 use Rattle.layout.specs.Check.{breaksCheck, breaksPlace}
 use Rattle.curve_block.specs.Verdict.{curveVerdict}
 use Rattle.record.specs.declared.Curves.{Curves}
+use Rattle.record.specs.Bytes.{fieldsOf}
+use Rattle.record.specs.Rules.{breaksForm, breaksDays, breaksAmounts, breaksCurrency}
+use Rattle.trade.specs.Read.{tradeOf}
+use Rattle.flows.specs.Legs.{breaksFlowLimit}
 use Rattle.flows.specs.Verdict.{recordVerdict}
 use Rattle.book.specs.Parts.{blockAt, curveCount, curvesOf, recordCount, recordIn}
 use Rattle.book.specs.Rules.{breaksLength, breaksHeader, breaksTradeBlock}
-use Rattle.book.specs.Verdict.{isAccepted, firstOf, headerVerdict, recordsVerdict, tradesVerdict, blockVerdict, verdict}
+use Rattle.book.specs.Verdict.{bytesVerdict, isAccepted, firstOf, headerVerdict, recordsVerdict, tradesVerdict, blockVerdict, verdict}
 use Rattle.book.proofs.First.{first-passed, first-stopped, first-at, first-of}
 use Rattle.book.proofs.Sound.{Headed, headed, header-sound, Traded, traded, trade-block-sound}
 
@@ -47,7 +50,7 @@ pub record TradesSound (curves : Curves) (b : List ℕ) (k : ℕ) (last : Bool) 
   pub checked : breaksCheck b ≡ false
   pub placed : breaksPlace b 3 k ≡ false
   pub counts : Traded b last
-  pub each : (i : ℕ) → i < recordCount b → recordVerdict curves (recordIn b i) k ≡ Accepted
+  pub each : (i : ℕ) → i < recordCount b → bytesVerdict curves (recordIn b i) k ≡ Accepted
 
 pub trades-accepted : (curves : Curves) (b : List ℕ) (k : ℕ) (last : Bool) → tradesVerdict curves b k last ≡ Accepted → TradesSound curves b k last
 unfolding tradesVerdict recordsVerdict
@@ -59,14 +62,14 @@ trades-accepted curves b k last h =
       checked = p .0;
       placed = q .0;
       counts = traded b last (r .0);
-      each = λ i l. first-at (λ (j : ℕ). recordVerdict curves (recordIn b j) k) 0 (recordCount b) (r .1) i (omega arith) (omega arith);
+      each = λ i l. first-at (λ (j : ℕ). bytesVerdict curves (recordIn b j) k) 0 (recordCount b) (r .1) i (omega arith) (omega arith);
     }
 
 pub accepted-trades : (curves : Curves) (b : List ℕ) (k : ℕ) (last : Bool) → TradesSound curves b k last → tradesVerdict curves b k last ≡ Accepted
 unfolding tradesVerdict recordsVerdict
 accepted-trades curves b k last h =
     rw (h .checked, h .placed, trade-block-sound b last (h .counts))
-    (first-of (λ (j : ℕ). recordVerdict curves (recordIn b j) k) 0 (recordCount b) (λ i l m. h .each i (omega arith)))
+    (first-of (λ (j : ℕ). bytesVerdict curves (recordIn b j) k) 0 (recordCount b) (λ i l m. h .each i (omega arith)))
 
 -- ---- a block, by its place
 
@@ -100,6 +103,13 @@ unfolding verdict
 verdict-blocks s used h = rw h
 
 -- a record that is accepted in one block is accepted in any
-pub any-block : (curves : Curves) (r : List ℕ) (k m : ℕ) → recordVerdict curves r k ≡ Accepted → recordVerdict curves r m ≡ Accepted
+pub any-block : (curves : Curves) (r : List ℕ) (k m : ℕ) → bytesVerdict curves r k ≡ Accepted → bytesVerdict curves r m ≡ Accepted
 unfolding recordVerdict
-any-block curves r k m h = rw (unless-accepted (eqb (byteAt r 0) 0) Form k Accepted h .0)
+any-block curves r k m h =
+    let f = fieldsOf r in
+    let p = unless-accepted (breaksForm curves (f .form)) Form k _ h in
+    let q = unless-accepted (breaksDays (f .form) (f .days)) Days k _ (p .1) in
+    let t = unless-accepted (breaksAmounts (f .form) (f .days) (f .amounts)) Amounts k _ (q .1) in
+    let u = unless-accepted (breaksCurrency curves (f .form)) Currency k _ (t .1) in
+    let v = unless-accepted (breaksFlowLimit (tradeOf f)) FlowLimit k _ (u .1) in
+    rw (p .0, q .0, t .0, u .0, v .0)

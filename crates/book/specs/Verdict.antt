@@ -12,6 +12,7 @@ use Rattle.ground.specs.Verdicts.{orElse, unless}
 use Rattle.layout.specs.Check.{breaksCheck, breaksPlace}
 use Rattle.curve_block.specs.Verdict.{curveVerdict}
 use Rattle.record.specs.declared.Curves.{Curves}
+use Rattle.record.specs.Bytes.{fieldsOf}
 use Rattle.flows.specs.Verdict.{recordVerdict}
 use Rattle.book.specs.Parts.{blockAt, curveCount, curvesOf, recordCount, recordIn}
 use Rattle.book.specs.Rules.{breaksLength, breaksHeader, breaksTradeBlock}
@@ -24,6 +25,10 @@ isAccepted (Refused g k) = false
 unfoldable pub firstOf : (ℕ → Verdict) → ℕ → ℕ → Verdict
 firstOf f i n = over (λ (k : ℕ) (next : Verdict). orElse (f k) next) Accepted i n
 
+-- the 56 bytes of a record of block k: grounds 8 to 12
+abbrev pub bytesVerdict : Curves → List ℕ → ℕ → Verdict
+bytesVerdict curves r k = recordVerdict curves (fieldsOf r) k
+
 -- the header of a book of so many blocks: grounds 2, 3 and 4
 unfoldable pub headerVerdict : List ℕ → ℕ → Verdict
 headerVerdict b blocks =
@@ -31,9 +36,9 @@ headerVerdict b blocks =
     (unless (breaksPlace b 1 0) Place 0
     (unless (breaksHeader b blocks) Header 0 Accepted))
 
--- the records of a block of trades, each by 8 to 12
+-- the records of a block of trades, in order
 unfoldable pub recordsVerdict : Curves → List ℕ → ℕ → Verdict
-recordsVerdict curves b k = firstOf (λ (i : ℕ). recordVerdict curves (recordIn b i) k) 0 (recordCount b)
+recordsVerdict curves b k = firstOf (λ (i : ℕ). bytesVerdict curves (recordIn b i) k) 0 (recordCount b)
 
 -- block k, of trades: grounds 2, 3 and 7, then its records
 unfoldable pub tradesVerdict : Curves → List ℕ → ℕ → Bool → Verdict

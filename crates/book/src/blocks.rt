@@ -49,7 +49,8 @@ fn records_verdict(curves: Curves, b: &[u8], k: u64) -> Verdict
     let n = record_count(b);
     let mut i: usize = 0;
     while i < n {
-        let v = flows::record_verdict(curves, record_in(b, i), k);
+        let f = record::bytes::fields_of(record_in(b, i));
+        let v = flows::verdict::record_verdict(curves, f, k);
         if !is_accepted(v) {
             return v;
         }

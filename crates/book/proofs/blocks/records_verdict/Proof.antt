@@ -5,16 +5,15 @@ use native.Mathlib.Nat.{sub-zero}
 use native.Mathlib.Omega.{arith}
 use borrow.Author.Needs.{needs}
 use borrow.Author.Tests.{not-true, not-false}
-use Rattle.flows.specs.Verdict.{recordVerdict}
 use Rattle.book.specs.Parts.{recordIn}
-use Rattle.book.specs.Verdict.{firstOf, recordsVerdict}
+use Rattle.book.specs.Verdict.{bytesVerdict, firstOf, recordsVerdict}
 use Rattle.book.proofs.First.{first-passed, first-stopped, first-end}
 use Rattle.book.proofs.blocks.records_verdict.Statement.{statement}
 use Rattle.book.proofs.blocks.records_verdict.Tie as tie
 
 abbrev Inv-loop : tie.InvT-loop
 Inv-loop curves b k n i₀ i =
-    (i ≤ n) × (recordsVerdict curves b k ≡ firstOf (λ (j : ℕ). recordVerdict curves (recordIn b j) k) i (n - i))
+    (i ≤ n) × (recordsVerdict curves b k ≡ firstOf (λ (j : ℕ). bytesVerdict curves (recordIn b j) k) i (n - i))
 
 abbrev μ-loop : tie.MeasureT-loop
 μ-loop curves b k n i₀ i = n - i
@@ -25,18 +24,18 @@ loop-holds c = (omega arith, rw (sub-zero, c .record-count .ensures .0))
 
 returns : tie.Need-returns Inv-loop μ-loop
 returns c =
-    let at-loop = c .before .before .before .before .before in
-    let e = rw (c .before .before .before .record-in .ensures .0) at (c .before .before .record-verdict .ensures) in
+    let at-loop = c .before .before .before .before .before .before in
+    let e = rw (c .before .before .before .fields-of .ensures, c .before .before .before .before .record-in .ensures .0) at (c .before .before .record-verdict .ensures) in
     let stop = rw e at (sym (c .before .is-accepted .ensures) ∙ not-true _ (c .if1 .taken)) in
-    e ∙ sym (at-loop .loop .inv .1 ∙ first-stopped _ (at-loop .loop .i) _ (c .before .before .before .before .loop-test .taken) stop)
+    e ∙ sym (at-loop .loop .inv .1 ∙ first-stopped _ (at-loop .loop .i) _ (c .before .before .before .before .before .loop-test .taken) stop)
 
 loop-again : tie.Need-loop-again Inv-loop μ-loop
 loop-again c =
-    let at-loop = c .before .before .before .before .before in
-    let e = rw (c .before .before .before .record-in .ensures .0) at (c .before .before .record-verdict .ensures) in
+    let at-loop = c .before .before .before .before .before .before in
+    let e = rw (c .before .before .before .fields-of .ensures, c .before .before .before .before .record-in .ensures .0) at (c .before .before .record-verdict .ensures) in
     let pass = rw e at (sym (c .before .is-accepted .ensures) ∙ not-false _ (c .if1 .left)) in (
       omega arith,
-      at-loop .loop .inv .1 ∙ first-passed _ (at-loop .loop .i) _ (c .before .before .before .before .loop-test .taken) pass,
+      at-loop .loop .inv .1 ∙ first-passed _ (at-loop .loop .i) _ (c .before .before .before .before .before .loop-test .taken) pass,
     )
 
 returns-2 : tie.Need-returns-2 Inv-loop μ-loop
@@ -50,6 +49,7 @@ records-verdict-spec =
     μ-loop
     (λ c κs. search needs)
     loop-holds
+    (λ c κs. search needs)
     (λ c κs. search needs)
     (λ c κs. search needs)
     (λ c κs. search needs)
