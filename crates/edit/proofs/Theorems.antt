@@ -76,8 +76,10 @@ module _ (a : ℕ) (cs rs : List (List ℕ)) (rest : List ℕ) (fine : Encodable
   struck-start i l =
       let fewer = encode a cs (without rs i) in
       let zeros : List ℕ = replicate (size - length fewer) 0 in
-      rw (position-encoded i true (lt-ltb i (length rs) l), struck-book i, append-assoc fewer zeros (drop size book))
-      (take-at fewer (zeros ++ drop size book) (length fewer) refl)
+      let written : struck book size i ≡ struckBook book i ++ replicate (size - length (struckBook book i)) 0 ++ drop size book =
+      rw (position-encoded i true (lt-ltb i (length rs) l)) in
+      let laid : struck book size i ≡ fewer ++ (zeros ++ drop size book) = written ∙ rw (struck-book i) (append-assoc fewer zeros (drop size book)) in
+      ap (take (length fewer)) laid ∙ take-at fewer (zeros ++ drop size book) (length fewer) refl
 
 -- ---- a refused call: the bytes and the used length stay
 
