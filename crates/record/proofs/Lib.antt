@@ -1,0 +1,4 @@
+pub mod Limits
+pub mod Facts
+pub mod RoundTrip
+mod Written

@@ -1,0 +1,12 @@
+-- `record::rules::breaks_amounts` meets its contract. Assumes nothing.
+use Rattle.record.specs.Rules.{breaksAmounts}
+use borrow.Author.Needs.{needs}
+use Rattle.record.proofs.rules.breaks_amounts.Statement.{statement}
+use Rattle.record.proofs.rules.breaks_amounts.Tie as tie
+
+returns : tie.Need-returns
+unfolding breaksAmounts
+returns c = cc
+
+pub breaks-amounts-spec : {M : Type 1} → statement M
+breaks-amounts-spec = tie.close (tie.spec (λ c κs. search needs) (λ c κs. search needs) (λ c κs. search needs) (λ c κs. search needs) (λ c κs. search needs) returns)

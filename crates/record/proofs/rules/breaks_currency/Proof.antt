@@ -1,0 +1,12 @@
+-- `record::rules::breaks_currency` meets its contract. Assumes nothing.
+use Rattle.record.specs.Rules.{breaksCurrency}
+use borrow.Author.Needs.{needs}
+use Rattle.record.proofs.rules.breaks_currency.Statement.{statement}
+use Rattle.record.proofs.rules.breaks_currency.Tie as tie
+
+returns : tie.Need-returns
+unfolding breaksCurrency
+returns c = cc
+
+pub breaks-currency-spec : {M : Type 1} → statement M
+breaks-currency-spec = tie.close (tie.spec (λ c κs. search needs) (λ c κs. search needs) (λ c κs. search needs) returns)

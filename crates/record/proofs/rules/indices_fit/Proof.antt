@@ -1,0 +1,10 @@
+-- `record::rules::indices_fit` meets its contract. Assumes nothing.
+use borrow.Author.Needs.{needs}
+use Rattle.record.proofs.rules.indices_fit.Statement.{statement}
+use Rattle.record.proofs.rules.indices_fit.Tie as tie
+
+returns : tie.Need-returns
+returns c = cc
+
+pub indices-fit-spec : {M : Type 1} → statement M
+indices-fit-spec = tie.close (tie.spec (λ c κs. search needs) (λ c κs. search needs) (λ c κs. search needs) (λ c κs. search needs) returns)

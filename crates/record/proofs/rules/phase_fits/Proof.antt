@@ -1,0 +1,10 @@
+-- `record::rules::phase_fits` meets its contract. Assumes nothing.
+use borrow.Author.Needs.{needs}
+use Rattle.record.proofs.rules.phase_fits.Statement.{statement}
+use Rattle.record.proofs.rules.phase_fits.Tie as tie
+
+returns : tie.Need-returns
+returns c = cc
+
+pub phase-fits-spec : {M : Type 1} → statement M
+phase-fits-spec = tie.close (tie.spec (λ c κs. search needs) (λ c κs. search needs) (λ c κs. search needs) (λ c κs. search needs) (λ c κs. search needs) returns)

@@ -1,0 +1,10 @@
+-- `record::rules::principals_fit` meets its contract. Assumes nothing.
+use borrow.Author.Needs.{needs}
+use Rattle.record.proofs.rules.principals_fit.Statement.{statement}
+use Rattle.record.proofs.rules.principals_fit.Tie as tie
+
+returns : tie.Need-returns
+returns c = cc
+
+pub principals-fit-spec : {M : Type 1} → statement M
+principals-fit-spec = tie.close (tie.spec (λ c κs. search needs) (λ c κs. search needs) (λ c κs. search needs) (λ c κs. search needs) returns)

@@ -1,0 +1,10 @@
+-- `record::rules::security_fits` meets its contract. Assumes nothing.
+use borrow.Author.Needs.{needs}
+use Rattle.record.proofs.rules.security_fits.Statement.{statement}
+use Rattle.record.proofs.rules.security_fits.Tie as tie
+
+returns : tie.Need-returns
+returns c = cc
+
+pub security-fits-spec : {M : Type 1} → statement M
+security-fits-spec = tie.close (tie.spec (λ c κs. search needs) (λ c κs. search needs) returns)

@@ -1,0 +1,274 @@
+// The rules 8 to 11 on a record: for each a function of its fields that answers whether it is broken, in straight-line code over bools.
+use crate::Amounts;
+use crate::Curves;
+use crate::Days;
+use crate::Form;
+ghost use mathlib.Core.Path.{_≡_};
+ghost use mathlib.Core.Bool.{true, cond};
+ghost use Prim.Native.Nat.{_+_, _-_, _*_};
+ghost use Rattle.record.specs.Uses.{within, usedWithin, asked, isOutright, isPool, isSpecified, hasSettled, hasSecurity, hasCoupons, isIndexed};
+ghost use Rattle.record.specs.Rules.{phaseFits, securityFits, curvesFit, breaksForm};
+ghost use Rattle.record.specs.Rules.{inReach, legsAhead, secondLegAhead, valueDaysFit, firstPaymentFits, countsFit, couponDaysFit, breaksDays};
+ghost use Rattle.record.specs.Rules.{unusedDaysFit, principalsFit, priceFits, couponsFit, indicesFit, breaksAmounts};
+ghost use Rattle.record.specs.Rules.{currencyOf, breaksCurrency};
+
+fn within(least: u64, x: u64, most: u64) -> bool
+    ensures { λ r. ⌜ r ≡ within least x most ⌝ }
+{
+    (least <= x) & (x <= most)
+}
+
+fn pick(test: bool, yes: bool, no: bool) -> bool
+    ensures { λ r. ⌜ r ≡ cond test yes no ⌝ }
+{
+    test & yes | !test & no
+}
+
+fn used_within(used: bool, least: u64, x: u64, most: u64) -> bool
+    ensures { λ r. ⌜ r ≡ usedWithin used least x most ⌝ }
+{
+    pick(used, within(least, x, most), x == 0)
+}
+
+fn asked(used: bool, rule: bool) -> bool
+    ensures { λ r. ⌜ r ≡ asked used rule ⌝ }
+{
+    !used | rule
+}
+
+fn is_outright(kind: u64) -> bool
+    ensures { λ r. ⌜ r ≡ isOutright kind ⌝ }
+{
+    kind == 1
+}
+
+fn is_pool(kind: u64) -> bool
+    ensures { λ r. ⌜ r ≡ isPool kind ⌝ }
+{
+    kind == 2
+}
+
+fn is_specified(kind: u64) -> bool
+    ensures { λ r. ⌜ r ≡ isSpecified kind ⌝ }
+{
+    kind == 3
+}
+
+fn has_settled(kind: u64, phase: u64) -> bool
+    ensures { λ r. ⌜ r ≡ hasSettled kind phase ⌝ }
+{
+    is_pool(kind) & (phase == 3) | is_specified(kind) & (phase == 2)
+}
+
+fn has_security(security: u64) -> bool
+    ensures { λ r. ⌜ r ≡ hasSecurity security ⌝ }
+{
+    !(security == 0)
+}
+
+fn has_coupons(security: u64) -> bool
+    ensures { λ r. ⌜ r ≡ hasCoupons security ⌝ }
+{
+    within(2, security, 3)
+}
+
+fn is_indexed(security: u64) -> bool
+    ensures { λ r. ⌜ r ≡ isIndexed security ⌝ }
+{
+    security == 3
+}
+
+// ---- 8
+
+fn phase_fits(kind: u64, phase: u64) -> bool
+    ensures { λ r. ⌜ r ≡ phaseFits kind phase ⌝ }
+{
+    is_outright(kind) & (phase == 0)
+        | is_pool(kind) & within(1, phase, 3)
+        | is_specified(kind) & within(1, phase, 2)
+}
+
+fn security_fits(f: Form) -> bool
+    ensures { λ r. ⌜ r ≡ securityFits f ⌝ }
+{
+    used_within(!(is_pool(f.kind) & (f.phase == 1)), 1, f.security, 3)
+}
+
+fn curves_fit(count: u64, f: Form) -> bool
+    ensures { λ r. ⌜ r ≡ curvesFit count f ⌝ }
+{
+    within(1, f.cashcurve, count) & used_within(has_security(f.security), 1, f.securitycurve, count)
+}
+
+pub fn breaks_form(curves: Curves, f: Form) -> bool
+    ensures { λ r. ⌜ r ≡ breaksForm curves f ⌝ }
+{
+    !(phase_fits(f.kind, f.phase)
+        & within(1, f.side, 2)
+        & security_fits(f)
+        & curves_fit(curves.count, f))
+}
+
+// ---- 9
+
+fn in_reach(day: u64) -> bool
+    ensures { λ r. ⌜ r ≡ inReach day ⌝ }
+{
+    day <= 10_950
+}
+
+// The difference, 0 where it would be negative.
+fn minus(a: u64, b: u64) -> u64
+    ensures { λ r. ⌜ r ≡ a - b ⌝ }
+{
+    if b <= a { a - b } else { 0 }
+}
+
+fn legs_ahead(d: Days) -> bool
+    ensures { λ r. ⌜ r ≡ legsAhead d ⌝ }
+{
+    within(1, d.term, 730)
+        & (d.day1 < d.day2)
+        & (minus(d.day2, d.day1) == d.term)
+        & in_reach(d.day2)
+}
+
+fn second_leg_ahead(d: Days) -> bool
+    ensures { λ r. ⌜ r ≡ secondLegAhead d ⌝ }
+{
+    within(1, d.term, 730) & (d.day2 <= d.term)
+}
+
+fn value_days_fit(f: Form, d: Days) -> bool
+    ensures { λ r. ⌜ r ≡ valueDaysFit f d ⌝ }
+{
+    pick(
+        is_outright(f.kind),
+        in_reach(d.day1),
+        pick(
+            has_settled(f.kind, f.phase),
+            second_leg_ahead(d),
+            legs_ahead(d),
+        ),
+    )
+}
+
+fn first_payment_fits(f: Form, d: Days) -> bool
+    ensures { λ r. ⌜ r ≡ firstPaymentFits f d ⌝ }
+{
+    pick(is_outright(f.kind), d.day1 < d.first, d.day2 < d.first) & in_reach(d.first)
+}
+
+fn counts_fit(period: u64, payments: u64) -> bool
+    ensures { λ r. ⌜ r ≡ countsFit period payments ⌝ }
+{
+    within(1, period, 366) & within(1, payments, 120)
+}
+
+// The span from the first payment to the last.
+fn span(period: u64, payments: u64) -> u64
+    requires { ⌜ countsFit period payments ≡ true ⌝ }
+    ensures { λ r. ⌜ r ≡ (payments - 1) * period ⌝ }
+{
+    (payments - 1) * period
+}
+
+// The days are added only where they are known to fit.
+fn coupon_days_fit(first: u64, period: u64, payments: u64) -> bool
+    ensures { λ r. ⌜ r ≡ couponDaysFit first period payments ⌝ }
+{
+    if !counts_fit(period, payments) {
+        return false;
+    }
+    if !in_reach(first) {
+        return false;
+    }
+    in_reach(first + span(period, payments))
+}
+
+pub fn breaks_days(f: Form, d: Days) -> bool
+    ensures { λ r. ⌜ r ≡ breaksDays f d ⌝ }
+{
+    !(value_days_fit(f, d)
+        & asked(has_security(f.security), first_payment_fits(f, d))
+        & asked(
+            has_coupons(f.security),
+            coupon_days_fit(d.first, d.period, d.payments),
+        ))
+}
+
+// ---- 10
+
+fn unused_days_fit(f: Form, d: Days) -> bool
+    ensures { λ r. ⌜ r ≡ unusedDaysFit f d ⌝ }
+{
+    asked(is_outright(f.kind), (d.day2 == 0) & (d.term == 0))
+        & asked(has_settled(f.kind, f.phase), d.day1 == 0)
+        & asked(!has_security(f.security), d.first == 0)
+        & asked(
+            !has_coupons(f.security),
+            (d.period == 0) & (d.payments == 0),
+        )
+}
+
+fn principals_fit(f: Form, a: Amounts) -> bool
+    ensures { λ r. ⌜ r ≡ principalsFit f a ⌝ }
+{
+    used_within(has_security(f.security), 1, a.nominal, 1_000_000_000_000)
+        & used_within(!is_outright(f.kind), 1, a.cash, 1_000_000_000_000)
+}
+
+fn price_fits(f: Form, a: Amounts) -> bool
+    ensures { λ r. ⌜ r ≡ priceFits f a ⌝ }
+{
+    pick(
+        is_outright(f.kind),
+        within(1, a.price, 4_000_000),
+        a.price <= 1_000_000,
+    )
+}
+
+fn coupons_fit(f: Form, a: Amounts) -> bool
+    ensures { λ r. ⌜ r ≡ couponsFit f a ⌝ }
+{
+    used_within(is_outright(f.kind), 0, a.accrued, 1_000_000)
+        & used_within(has_coupons(f.security), 0, a.coupon, 1_000_000)
+}
+
+fn indices_fit(f: Form, a: Amounts) -> bool
+    ensures { λ r. ⌜ r ≡ indicesFit f a ⌝ }
+{
+    used_within(is_indexed(f.security), 1, a.index, 10_000_000)
+        & used_within(is_indexed(f.security), 1, a.issue, 10_000_000)
+}
+
+pub fn breaks_amounts(f: Form, d: Days, a: Amounts) -> bool
+    ensures { λ r. ⌜ r ≡ breaksAmounts f d a ⌝ }
+{
+    !((f.blank == 0)
+        & unused_days_fit(f, d)
+        & principals_fit(f, a)
+        & price_fits(f, a)
+        & coupons_fit(f, a)
+        & indices_fit(f, a))
+}
+
+// ---- 11
+
+// A curve id's currency, 0 for an id that no book has.
+fn currency_of(curves: Curves, id: u64) -> u64
+    ensures { λ r. ⌜ r ≡ currencyOf curves id ⌝ }
+{
+    if within(1, id, 8) {
+        let at = (id - 1) as usize;
+        return curves.currency[at];
+    }
+    0
+}
+
+pub fn breaks_currency(curves: Curves, f: Form) -> bool
+    ensures { λ r. ⌜ r ≡ breaksCurrency curves f ⌝ }
+{
+    has_security(f.security)
+        & !(currency_of(curves, f.securitycurve) == currency_of(curves, f.cashcurve))
+}

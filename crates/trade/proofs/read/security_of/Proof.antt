@@ -1,0 +1,19 @@
+-- `trade::read::security_of` meets its contract. Assumes nothing.
+use Rattle.trade.specs.Read.{securityOf}
+use borrow.Author.Needs.{needs}
+use Rattle.trade.proofs.read.security_of.Statement.{statement}
+use Rattle.trade.proofs.read.security_of.Tie as tie
+
+returns : tie.Need-returns
+unfolding securityOf
+returns c = cc
+
+pub security-of-spec : {M : Type 1} → statement M
+security-of-spec =
+    tie.close
+    (tie.spec
+    (λ c κs. search needs)
+    (λ c κs. search needs)
+    (λ c κs. search needs)
+    (λ c κs. search needs)
+    returns)
