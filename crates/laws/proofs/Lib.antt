@@ -6,3 +6,4 @@ pub mod Lists
 pub mod Bools
 pub mod Every
 pub mod Worst
+pub mod Tests

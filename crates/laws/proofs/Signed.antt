@@ -117,3 +117,7 @@ back z h = toZ-ofZ {w = w64} {z = z} (record { sfits = h })
 -- what a cast to u64 asks, of a number that is not negative
 pub to-u64 : (z : ℤ) → z ≡ pos (natAbs z) → natAbs z < 2 ^ 63 → T (nonNeg (read z)) × Fits w64 (natAbs (read z))
 to-u64 z e h = rw (read-is z h) (rw e tt, record { fits = omega arith })
+
+-- what a test on z as it is read back says of z
+pub tested : (z : ℤ) (f : ℤ → Bool) (t : Bool) → SFits w64 z → f (read z) ≡ t → f z ≡ t
+tested z f t h e = ap f (sym (toZ-ofZ {w = w64} {z = z} h)) ∙ e

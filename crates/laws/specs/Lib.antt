@@ -3,3 +3,4 @@ pub mod Distance
 pub mod Walk
 pub mod Every
 pub mod Worst
+pub mod Tests

@@ -1,12 +1,14 @@
 -- The laws of fields, over the width. Assumes nothing.
 use mathlib.Core.Path.{_≡_, refl, sym, _∙_, ap}
+use mathlib.Core.Bool.{Bool, true, false, cond}
 use mathlib.Core.Logic.{_⊎_, inl, inr}
 use mathlib.Core.List.{List, [], _∷_, _++_}
 use Prim.Native.Nat.{ℕ, zero, suc, _+_, _-_, _*_, _/_, _%_, _^_, _≤_, _<_}
 use native.Mathlib.Nat.{zero-add, add-zero, one-mul, pow-zero, pow-suc}
 use native.Mathlib.Omega.{arith}
 use borrow.Author.Tests.{lt-ltb, le-ltb}
-use lib.IntN.{ℤ, pos, negsuc}
+use lib.Dec.{ltb}
+use lib.IntN.{ℤ, pos, negsuc, _-ℤ_}
 use lib.Signed.{mag}
 use lib.ListN.{length, set, drop, List·getD-append}
 use lib.Seq.{getD-drop, getD-append-add, drop-cons}
@@ -25,6 +27,16 @@ field-same (suc n) s at t place same =
     let low : byteAt s at ≡ byteAt t place = simp add-zero at (same 0 (omega arith)) in
     let high = field-same n s (suc at) t (suc place) (λ k l. ap (byteAt s) (omega arith) ∙ same (suc k) (omega arith) ∙ ap (byteAt t) (omega arith)) in
     rw (low, high)
+
+-- and its number settles them
+pub field-settles : (n : ℕ) (s : List ℕ) (at : ℕ) (t : List ℕ) (place : ℕ) → AreBytes s → AreBytes t
+    → numberAt n s at ≡ numberAt n t place → (k : ℕ) → k < n → byteAt s (at + k) ≡ byteAt t (place + k)
+unfolding numberAt
+field-settles zero s at t place hs ht e k l = absurd (omega arith)
+field-settles (suc n) s at t place hs ht e zero l = rw (add-zero at, add-zero place) (omega (arith, hs at, ht place))
+field-settles (suc n) s at t place hs ht e (suc k) l =
+    let rest : numberAt n s (suc at) ≡ numberAt n t (suc place) = omega (arith, hs at, ht place) in
+    ap (byteAt s) (omega arith) ∙ field-settles n s (suc at) t (suc place) hs ht rest k (omega arith) ∙ ap (byteAt t) (omega arith)
 
 -- a field of m + n bytes: the low m, and the n behind them
 pub field-add : (m n : ℕ) (s : List ℕ) (at : ℕ) → numberAt (m + n) s at ≡ numberAt m s at + 256 ^ m * numberAt n s (at + m)
@@ -137,6 +149,25 @@ signed-twos (pos n) h = rw (lt-ltb n (2 ^ 63) h)
 signed-twos (negsuc n) h =
     let back : 2 ^ 64 - (2 ^ 64 - suc n) ≡ suc n = omega arith in
     rw (le-ltb (2 ^ 64 - suc n) (2 ^ 63) (omega arith)) (sub-down (2 ^ 64 - suc n) (2 ^ 64) (omega arith) ∙ rw back)
+
+-- the number of so many bits that stands for a signed one
+unsigned : ℕ → ℤ → ℕ
+unsigned bits (pos n) = n
+unsigned bits (negsuc n) = 2 ^ bits - suc n
+
+unsigned-signed : (bits n : ℕ) → n < 2 ^ bits → unsigned bits (signedOf bits n) ≡ n
+unfolding unsigned signedOf
+unsigned-signed bits n h = go (ltb n (2 ^ (bits - 1)))
+  where
+    go : (t : Bool) → unsigned bits (cond t (pos n) (pos n -ℤ pos (2 ^ bits))) ≡ n
+    go true = refl
+    go false =
+        let e : 2 ^ bits - n ≡ suc (2 ^ bits - n - 1) = omega arith in
+        rw (sub-down n (2 ^ bits) (omega arith), e) (omega arith)
+
+-- a signed field settles its bits
+pub signed-settles : (bits m n : ℕ) → m < 2 ^ bits → n < 2 ^ bits → signedOf bits m ≡ signedOf bits n → m ≡ n
+signed-settles bits m n hm hn e = sym (unsigned-signed bits m hm) ∙ ap (unsigned bits) e ∙ unsigned-signed bits n hn
 
 pub i64-put : (s : List ℕ) (at : ℕ) (z : ℤ) → at + 8 ≤ length s → mag z < 2 ^ 63 → i64At (put s at (bytesOf 8 (twos z))) at ≡ z
 i64-put s at z h b = rw (field-put 8 s at (twos z) h (twos-bound z b)) (signed-twos z b)

@@ -2,3 +2,4 @@ pub mod Bytes
 pub mod Field
 pub mod Sealed
 pub mod Signed
+pub mod Verdicts

@@ -1,7 +1,7 @@
--- The laws of the check. Assumes nothing.
+-- The laws of the check and of the place. Assumes nothing.
 use mathlib.Core.Path.{_≡_, refl, sym, _∙_}
 use mathlib.Core.Logic.{_⊎_, inl}
-use mathlib.Core.Bool.{false}
+use mathlib.Core.Bool.{false, _&&_}
 use mathlib.Core.List.{List}
 use Prim.Native.Nat.{ℕ, zero, suc, _+_, _*_, _^_, _≤_, _<_}
 use native.Mathlib.Nat.{mod-lt}
@@ -9,9 +9,10 @@ use native.Mathlib.Omega.{arith}
 use borrow.Author.Tests.{eq-eqb, eqb-true, not-false}
 use lib.Dec.{eqb}
 use lib.ListN.{length}
+use Rattle.laws.proofs.Bools.{both}
 use Rattle.layout.specs.Bytes.{byteAt, part, put, AreBytes}
-use Rattle.layout.specs.Field.{numberAt, u32At, bytesOf}
-use Rattle.layout.specs.Check.{words, checkOf, sealed, breaksCheck}
+use Rattle.layout.specs.Field.{numberAt, u16At, u32At, bytesOf}
+use Rattle.layout.specs.Check.{words, checkOf, sealed, breaksCheck, breaksPlace}
 use Rattle.layout.proofs.Bytes.{length-put, byte-apart, part-apart, bytes-put, put-again}
 use Rattle.layout.proofs.Field.{field-same, field-apart, field-put, put-field, length-bytes, bytes-bytes}
 
@@ -69,12 +70,14 @@ pub sealed-sound : (b : List ℕ) → 512 ≤ length b → breaksCheck (sealed b
 unfolding breaksCheck
 sealed-sound b h = rw (eq-eqb (u32At (sealed b) 508) (checkOf (sealed b)) (last-word b h ∙ sym (check-sealed b)))
 
+pub check-kept : (b : List ℕ) → breaksCheck b ≡ false → u32At b 508 ≡ checkOf b
+unfolding breaksCheck
+check-kept b sound = eqb-true (u32At b 508) (checkOf b) (not-false (eqb (u32At b 508) (checkOf b)) sound)
+
 -- and a block that does not break the check is sealed already
 pub sound-sealed : (b : List ℕ) → AreBytes b → 512 ≤ length b → breaksCheck b ≡ false → sealed b ≡ b
-unfolding breaksCheck sealed
-sound-sealed b bytes h sound =
-    let e = eqb-true (u32At b 508) (checkOf b) (not-false (eqb (u32At b 508) (checkOf b)) sound) in
-    rw (← e) (put-field 4 b 508 bytes h)
+unfolding sealed
+sound-sealed b bytes h sound = rw (← check-kept b sound) (put-field 4 b 508 bytes h)
 
 sealed-again : (b : List ℕ) → 512 ≤ length b → put (sealed b) 508 (bytesOf 4 (checkOf b)) ≡ sealed b
 unfolding sealed
@@ -86,3 +89,11 @@ is-sealed b = refl
 
 pub sealed-sealed : (b : List ℕ) → 512 ≤ length b → sealed (sealed b) ≡ sealed b
 sealed-sealed b h = is-sealed (sealed b) ∙ rw (check-sealed b) (sealed-again b h)
+
+-- ---- the place
+
+pub place-kept : (b : List ℕ) (kind number : ℕ) → breaksPlace b kind number ≡ false → (byteAt b 0 ≡ kind) × (u16At b 2 ≡ number)
+unfolding breaksPlace
+place-kept b kind number sound =
+    let t = both (eqb (byteAt b 0) kind) (eqb (u16At b 2) number) (not-false (eqb (byteAt b 0) kind && eqb (u16At b 2) number) sound) in
+    (eqb-true (byteAt b 0) kind (t .0), eqb-true (u16At b 2) number (t .1))

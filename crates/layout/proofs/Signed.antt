@@ -1,7 +1,7 @@
 -- The 64 bits of a signed number, by the code's test of its sign. Assumes nothing.
-use mathlib.Core.Path.{_≡_, refl, sym, _∙_, ap}
-use mathlib.Core.Bool.{Bool, true, false}
-use Prim.Native.Nat.{ℕ, suc, _-_, _^_, _<_}
+use mathlib.Core.Path.{_≡_, refl, _∙_, ap}
+use mathlib.Core.Bool.{true, false, true≢false}
+use Prim.Native.Nat.{suc, _-_, _^_, _<_}
 use native.Mathlib.Omega.{arith}
 use borrow.Author.Tests.{ltb-true}
 use lib.IntN.{ℤ, pos, negsuc, natAbs, _-ℤ_}
@@ -9,12 +9,10 @@ use lib.Signed.{mag, ltZ}
 use mir.Syntax.{w64}
 use mir.Val.{SFits}
 use mir.Facts.{toZ-ofZ}
-use Rattle.laws.proofs.Signed.{read, read-is, sub-up}
+use Rattle.laws.proofs.Signed.{read, read-is, sub-up, tested}
 use Rattle.layout.specs.Field.{twos}
 
-bool-clash : _≡_ {A = Bool} false true → _≡_ {A = ℕ} 0 1
-bool-clash e = cc
-
+-- what the code computes of a number below 0, and of any other
 pub record Negative (v : ℤ) : Type 0 where
   pub flip : negsuc 0 -ℤ v ≡ pos (mag v)
   pub bits : twos v ≡ 2 ^ 64 - suc (mag v)
@@ -27,11 +25,7 @@ negative (negsuc n) e = record { flip = sub-up (suc n) 1 (omega arith) ∙ ap po
 pub natural : (v : ℤ) → ltZ v (pos 0) ≡ false → (v ≡ pos (natAbs v)) × (natAbs v ≡ twos v) × (natAbs v ≡ mag v)
 unfolding twos
 natural (pos n) e = (refl, refl, refl)
-natural (negsuc n) e = let z : _≡_ {A = ℕ} 0 1 = bool-clash (sym e) in absurd (omega arith)
-
--- what a test on z as it is read back says of z
-tested : (z : ℤ) (f : ℤ → Bool) (t : Bool) → SFits w64 z → f (read z) ≡ t → f z ≡ t
-tested z f t h e = ap f (sym (toZ-ofZ {w = w64} {z = z} h)) ∙ e
+natural (negsuc n) e = absurd (true≢false e)
 
 module _ (v : ℤ) (f : SFits w64 v) where
   pub code-read : read v ≡ v

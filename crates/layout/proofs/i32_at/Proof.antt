@@ -8,8 +8,8 @@ use lib.IntN.{pos, natAbs, _-ℤ_}
 use mir.Syntax.{w64}
 use mir.Val.{toZ}
 use mir.Facts.{toZ-pos, toZ-ofZ}
-use Rattle.layout.specs.Field.{signedOf}
 use Rattle.laws.proofs.Signed.{fits, abs-sub}
+use Rattle.layout.specs.Field.{signedOf}
 use Rattle.layout.proofs.i32_at.Statement.{statement}
 use Rattle.layout.proofs.i32_at.Tie as tie
 

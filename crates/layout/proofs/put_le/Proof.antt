@@ -1,8 +1,8 @@
 -- `layout::put_le` meets its contract: what is written and what is left to write are together all. Assumes nothing.
-use borrow.Author.Needs.{needs}
 use mathlib.Core.Path.{_≡_, refl, sym, _∙_}
 use Prim.Native.Nat.{suc, _+_, _-_, _≤_}
 use native.Mathlib.Omega.{arith}
+use borrow.Author.Needs.{needs}
 use lib.ListN.{length, length-set}
 use Rattle.layout.specs.Bytes.{put}
 use Rattle.layout.specs.Field.{bytesOf}

@@ -1,7 +1,7 @@
 -- `layout::u16_at` meets its contract: a field is its bytes. Assumes nothing.
-use borrow.Author.Needs.{needs}
 use Prim.Native.Nat.{_+_}
 use native.Mathlib.Omega.{arith}
+use borrow.Author.Needs.{needs}
 use Rattle.layout.proofs.Field.{field-add, field-byte}
 use Rattle.layout.proofs.u16_at.Statement.{statement}
 use Rattle.layout.proofs.u16_at.Tie as tie

@@ -1,6 +1,6 @@
 -- `layout::u64_at` meets its contract: a field is its two halves. Assumes nothing.
-use borrow.Author.Needs.{needs}
 use native.Mathlib.Omega.{arith}
+use borrow.Author.Needs.{needs}
 use Rattle.layout.proofs.Field.{field-add}
 use Rattle.layout.proofs.u64_at.Statement.{statement}
 use Rattle.layout.proofs.u64_at.Tie as tie

@@ -1,6 +1,6 @@
 -- `layout::check::breaks_check` meets its contract. Assumes nothing.
-use Rattle.layout.specs.Check.{breaksCheck}
 use borrow.Author.Needs.{needs}
+use Rattle.layout.specs.Check.{breaksCheck}
 use Rattle.layout.proofs.check.breaks_check.Statement.{statement}
 use Rattle.layout.proofs.check.breaks_check.Tie as tie
 

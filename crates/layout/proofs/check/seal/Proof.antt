@@ -1,6 +1,6 @@
 -- `layout::check::seal` meets its contract. Assumes nothing.
-use Rattle.layout.specs.Check.{sealed}
 use borrow.Author.Needs.{needs}
+use Rattle.layout.specs.Check.{sealed}
 use Rattle.layout.proofs.check.seal.Statement.{statement}
 use Rattle.layout.proofs.check.seal.Tie as tie
 

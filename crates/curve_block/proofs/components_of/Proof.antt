@@ -1,0 +1,24 @@
+-- `curve_block::components_of` meets its contract. Assumes nothing.
+use borrow.Author.Needs.{needs}
+use Rattle.curve_block.specs.Parts.{componentsOf}
+use Rattle.curve_block.proofs.components_of.Statement.{statement}
+use Rattle.curve_block.proofs.components_of.Tie as tie
+
+returns : tie.Need-returns
+unfolding componentsOf
+returns c = cc
+
+pub components-of-spec : {M : Type 1} → statement M
+components-of-spec =
+    tie.close
+    (tie.spec
+    (λ c. search needs)
+    (λ c κs. search needs)
+    (λ c κs. search needs)
+    (λ c. search needs)
+    (λ c κs. search needs)
+    (λ c κs. search needs)
+    (λ c. search needs)
+    (λ c κs. search needs)
+    (λ c κs. search needs)
+    returns)

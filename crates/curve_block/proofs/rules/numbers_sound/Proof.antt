@@ -1,0 +1,23 @@
+-- `curve_block::rules::numbers_sound` meets its contract. Assumes nothing.
+use borrow.Author.Needs.{needs}
+use Rattle.curve_block.specs.Rules.{numbersSound}
+use Rattle.curve_block.proofs.rules.numbers_sound.Statement.{statement}
+use Rattle.curve_block.proofs.rules.numbers_sound.Tie as tie
+
+returns : tie.Need-returns
+unfolding numbersSound
+returns c = cc
+
+pub numbers-sound-spec : {M : Type 1} → statement M
+numbers-sound-spec =
+    tie.close
+    (tie.spec
+    (λ c κs. search needs)
+    (λ c κs. search needs)
+    (λ c κs. search needs)
+    (λ c. search needs)
+    (λ c κs. search needs)
+    (λ c κs. search needs)
+    (λ c κs. search needs)
+    (λ c κs. search needs)
+    returns)

@@ -1,0 +1,22 @@
+-- `curve_block::rules::unnamed_zero` meets its contract. Assumes nothing.
+use borrow.Author.Needs.{needs}
+use Rattle.curve_block.specs.Rules.{unnamedZero}
+use Rattle.curve_block.proofs.rules.unnamed_zero.Statement.{statement}
+use Rattle.curve_block.proofs.rules.unnamed_zero.Tie as tie
+
+returns : tie.Need-returns
+unfolding unnamedZero
+returns c = cc
+
+pub unnamed-zero-spec : {M : Type 1} → statement M
+unnamed-zero-spec =
+    tie.close
+    (tie.spec
+    (λ c κs. search needs)
+    (λ c. search needs)
+    (λ c κs. search needs)
+    (λ c κs. search needs)
+    (λ c κs. search needs)
+    (λ c κs. search needs)
+    (λ c κs. search needs)
+    returns)

@@ -1,0 +1,3 @@
+pub mod Parts
+pub mod Rules
+pub mod Verdict

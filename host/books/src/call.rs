@@ -1,0 +1,235 @@
+//! Calls drawn at random, and what an engine makes of them.
+
+use crate::book::{assemble, draw_book};
+use crate::damage::{book_grounds, damage_anywhere, damage_book, draw_bad_used};
+use crate::draw::Draw;
+use crate::record::draw_record;
+use crate::record_damage::{damage_record, record_grounds};
+use seddolki_model::accept::Book;
+use seddolki_model::block::{seal, BLOCK};
+use seddolki_model::layout::Layout;
+use seddolki_model::limits::{MAX_AMOUNT, MAX_BLOCKS, MAX_DAY, MAX_RATE, PAYMENTS};
+use seddolki_model::record::RECORD;
+use seddolki_model::Answer;
+
+/// The six calls, so that two engines can be given the same case.
+pub trait Engine {
+    fn check(&self, book: &[u8], used: usize) -> Answer;
+    fn margin(&self, book: &[u8], used: usize, report: &mut [u8]) -> Answer;
+    fn append(&self, book: &mut [u8], used: usize, record: &[u8; RECORD]) -> Answer;
+    fn strike(&self, book: &mut [u8], used: usize, position: usize) -> Answer;
+    fn read(&self, book: &[u8], used: usize, position: usize, record: &mut [u8; RECORD]) -> Answer;
+    fn present_value(&self, amount: u64, rate: u64, day: u64, tolerance: &mut u64) -> Answer;
+}
+
+/// The second implementation.
+pub struct Model;
+
+impl Engine for Model {
+    fn check(&self, book: &[u8], used: usize) -> Answer {
+        seddolki_model::check(book, used)
+    }
+
+    fn margin(&self, book: &[u8], used: usize, report: &mut [u8]) -> Answer {
+        seddolki_model::margin(book, used, report)
+    }
+
+    fn append(&self, book: &mut [u8], used: usize, record: &[u8; RECORD]) -> Answer {
+        seddolki_model::append(book, used, record)
+    }
+
+    fn strike(&self, book: &mut [u8], used: usize, position: usize) -> Answer {
+        seddolki_model::strike(book, used, position)
+    }
+
+    fn read(&self, book: &[u8], used: usize, position: usize, record: &mut [u8; RECORD]) -> Answer {
+        seddolki_model::read(book, used, position, record)
+    }
+
+    fn present_value(&self, amount: u64, rate: u64, day: u64, tolerance: &mut u64) -> Answer {
+        seddolki_model::present_value(amount, rate, day, tolerance)
+    }
+}
+
+/// A call with what it is given beside the book, lent bytes included.
+#[derive(Clone, Debug, PartialEq, Eq)]
+pub enum Call {
+    Check,
+    Margin {
+        report: Vec<u8>,
+    },
+    Append {
+        record: [u8; RECORD],
+    },
+    Strike {
+        position: usize,
+    },
+    Read {
+        position: usize,
+        record: [u8; RECORD],
+    },
+    PresentValue {
+        amount: u64,
+        rate: u64,
+        day: u64,
+        tolerance: u64,
+    },
+}
+
+/// A call and the book that it is lent.
+#[derive(Clone, Debug, PartialEq, Eq)]
+pub struct Case {
+    pub lent: Vec<u8>,
+    pub used: usize,
+    pub call: Call,
+}
+
+/// The answer, and the case with all that was lent as the call left it.
+#[derive(Clone, Debug, PartialEq, Eq)]
+pub struct Outcome {
+    pub answer: Answer,
+    pub after: Case,
+}
+
+impl Case {
+    pub fn run(&self, engine: &impl Engine) -> Outcome {
+        let mut after = self.clone();
+        let (lent, used) = (&mut after.lent, after.used);
+        let answer = match &mut after.call {
+            Call::Check => engine.check(lent, used),
+            Call::Margin { report } => engine.margin(lent, used, report),
+            Call::Append { record } => engine.append(lent, used, record),
+            Call::Strike { position } => engine.strike(lent, used, *position),
+            Call::Read { position, record } => engine.read(lent, used, *position, record),
+            Call::PresentValue {
+                amount,
+                rate,
+                day,
+                tolerance,
+            } => engine.present_value(*amount, *rate, *day, tolerance),
+        };
+        Outcome { answer, after }
+    }
+}
+
+/// Any call on any book, whole or spoiled. `work` is as in `draw_book`.
+pub fn draw_case(draw: &mut Draw, work: usize) -> Case {
+    let book = draw_book(draw, work);
+    let mut lent = draw_bytes(draw, &book);
+    let length = lent.len();
+    let behind = draw.within(0..=2 * BLOCK as u64) as usize;
+    let behind = draw.pick(&[0, BLOCK - 1, BLOCK, BLOCK + 1, behind]);
+    lent.extend(draw.bytes(behind));
+    let used = match draw.within(0..=19) {
+        0 => draw_bad_used(draw, lent.len()),
+        1 => draw.place(MAX_BLOCKS + 3) * BLOCK,
+        2 => draw.place(lent.len() + BLOCK),
+        _ => length,
+    };
+    let call = draw_call(draw, &book);
+    Case { lent, used, call }
+}
+
+/// The bytes of the book, half of the time spoiled.
+fn draw_bytes(draw: &mut Draw, book: &Book) -> Vec<u8> {
+    let mut bytes = assemble(book);
+    match draw.within(0..=7) {
+        0..=3 => bytes,
+        4 | 5 => {
+            let ground = draw.pick(book_grounds());
+            let spoiled = damage_book(draw, book, ground);
+            spoiled.map_or(bytes, |(spoiled, _)| spoiled)
+        }
+        6 => {
+            damage_anywhere(draw, &mut bytes);
+            bytes
+        }
+        _ => draw_noise(draw),
+    }
+}
+
+/// Random bytes, often whole blocks with right checks.
+fn draw_noise(draw: &mut Draw) -> Vec<u8> {
+    if draw.once_in(3) {
+        let length = draw.place(4 * BLOCK);
+        return draw.bytes(length);
+    }
+    let length = draw.place(5) * BLOCK;
+    let mut bytes = draw.bytes(length);
+    for block in bytes.chunks_mut(BLOCK) {
+        block[0] = draw.within(0..=4) as u8;
+        seal(block);
+    }
+    bytes
+}
+
+fn draw_call(draw: &mut Draw, book: &Book) -> Call {
+    match draw.within(0..=5) {
+        0 => Call::Check,
+        1 => Call::Margin {
+            report: draw_report_space(draw),
+        },
+        2 => Call::Append {
+            record: draw_record_bytes(draw, book),
+        },
+        3 => Call::Strike {
+            position: draw_position(draw, book),
+        },
+        4 => Call::Read {
+            position: draw_position(draw, book),
+            record: [draw.number() as u8; RECORD],
+        },
+        _ => draw_present_value(draw),
+    }
+}
+
+fn draw_report_space(draw: &mut Draw) -> Vec<u8> {
+    let length = draw.pick(&[BLOCK, BLOCK, BLOCK + 1, 2 * BLOCK, BLOCK - 1, 1, 0]);
+    draw.bytes(length)
+}
+
+fn draw_position(draw: &mut Draw, book: &Book) -> usize {
+    let count = book.trades.len();
+    let within = draw.place(count.max(1));
+    let last = count.saturating_sub(1);
+    let beyond = draw.pick(&[count, count + 1, usize::MAX]);
+    draw.pick(&[0, last, within, within, within, beyond])
+}
+
+/// A record accepted, spoiled, or of random bytes.
+fn draw_record_bytes(draw: &mut Draw, book: &Book) -> [u8; RECORD] {
+    let mut record = draw_record(draw, &book.curves, (*PAYMENTS.end()).into());
+    match draw.within(0..=7) {
+        0..=3 => record.to_bytes(),
+        4..=6 => {
+            let ground = draw.pick(record_grounds());
+            if let Some(spoiled) = damage_record(draw, &record, &book.curves, ground) {
+                record = spoiled;
+            }
+            record.to_bytes()
+        }
+        _ => {
+            let random = draw.bytes(RECORD);
+            let mut bytes = record.to_bytes();
+            let start = draw.place(RECORD);
+            bytes[start..].copy_from_slice(&random[start..]);
+            bytes
+        }
+    }
+}
+
+fn draw_present_value(draw: &mut Draw) -> Call {
+    let limits = [MAX_AMOUNT, MAX_RATE, MAX_DAY];
+    let mut asked = limits.map(|limit| draw.edge(0..=limit));
+    if draw.once_in(4) {
+        let place = draw.place(limits.len());
+        asked[place] = draw.edge(limits[place] + 1..=u64::MAX);
+    }
+    let [amount, rate, day] = asked;
+    Call::PresentValue {
+        amount,
+        rate,
+        day,
+        tolerance: draw.number(),
+    }
+}

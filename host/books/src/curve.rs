@@ -1,0 +1,77 @@
+//! Curves drawn at random.
+
+use crate::draw::Draw;
+use seddolki_model::block::{Curve, Node, CURVE};
+use seddolki_model::limits::{
+    CURVES, MAX_COMPONENT, MAX_CURRENCIES, MAX_DAY, MAX_RANGE, MAX_RATE, MAX_STEPS, NODES,
+};
+use std::collections::BTreeSet;
+
+/// One to eight curves, often of one currency.
+pub fn draw_curves(draw: &mut Draw) -> Vec<Curve> {
+    let count = draw.edge(u64::from(*CURVES.start())..=u64::from(*CURVES.end()));
+    let one_currency = draw.once_in(3).then(|| draw_currency(draw));
+    (1..=count)
+        .map(|id| {
+            let currency = one_currency.unwrap_or_else(|| draw_currency(draw));
+            draw_curve(draw, id as u8, currency)
+        })
+        .collect()
+}
+
+fn draw_currency(draw: &mut Draw) -> u8 {
+    draw.within(1..=MAX_CURRENCIES as u64) as u8
+}
+
+fn draw_curve(draw: &mut Draw, id: u8, currency: u8) -> Curve {
+    let mut curve = Curve {
+        kind: CURVE,
+        number: id.into(),
+        id,
+        currency,
+        ..Curve::default()
+    };
+    for component in 0..curve.steps.len() {
+        curve.steps[component] = draw.within(0..=MAX_STEPS.into()) as u8;
+        curve.ranges[component] = draw.edge(0..=MAX_RANGE.into()) as u16;
+    }
+    let days = draw_node_days(draw);
+    curve.node_count = days.len() as u8;
+    for (place, day) in curve.places.iter_mut().zip(days) {
+        *place = draw_node(draw, day);
+    }
+    curve
+}
+
+/// Rising days, now and then with day 0 or the last day of all.
+fn draw_node_days(draw: &mut Draw) -> BTreeSet<u16> {
+    let count = draw.edge(u64::from(*NODES.start())..=u64::from(*NODES.end())) as usize;
+    let furthest = draw.edge(count as u64..=MAX_DAY);
+    let mut days = BTreeSet::new();
+    if draw.once_in(4) {
+        days.insert(furthest as u16);
+    }
+    if draw.once_in(4) {
+        days.insert(0);
+    }
+    while days.len() < count {
+        days.insert(draw.within(0..=furthest) as u16);
+    }
+    days
+}
+
+fn draw_node(draw: &mut Draw, day: u16) -> Node {
+    let components = [(); 3].map(|()| {
+        let size = draw.edge(0..=MAX_COMPONENT as u64) as i32;
+        if draw.once_in(2) {
+            size
+        } else {
+            -size
+        }
+    });
+    Node {
+        day,
+        rate: draw.edge(0..=MAX_RATE) as u32,
+        components,
+    }
+}

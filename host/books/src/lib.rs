@@ -1,0 +1,21 @@
+//! Books, records and calls drawn at random, the same from the same seed,
+//! and the books of document 01's examples.
+
+#![forbid(unsafe_code)]
+
+pub mod book;
+pub mod call;
+pub mod curve;
+pub mod damage;
+pub mod draw;
+pub mod examples;
+pub mod record;
+pub mod record_damage;
+
+pub use book::{assemble, draw_book};
+pub use call::{draw_case, Call, Case, Engine, Model, Outcome};
+pub use damage::{book_grounds, damage_anywhere, damage_book, draw_bad_used};
+pub use draw::Draw;
+pub use examples::{buyer, seller};
+pub use record::draw_record;
+pub use record_damage::{damage_record, record_grounds};

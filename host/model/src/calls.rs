@@ -1,0 +1,82 @@
+//! The six calls over lent bytes.
+
+use crate::accept::{accept, Book};
+use crate::answer::{Answer, Ground, Refusal};
+use crate::block::{sealed, BLOCK};
+use crate::discount;
+use crate::edit::rewrite;
+use crate::layout::Layout;
+use crate::limits::{FULL_BLOCK, MAX_AMOUNT, MAX_BLOCKS, MAX_DAY, MAX_RATE};
+use crate::margin::report;
+use crate::record::{Record, RECORD};
+use crate::rules::accept_record;
+
+/// Whether the book is accepted.
+pub fn check(book: &[u8], used: usize) -> Answer {
+    accept(book, used).map(|_| 0).into()
+}
+
+/// Fills the report's first block.
+pub fn margin(book: &[u8], used: usize, report: &mut [u8]) -> Answer {
+    try_margin(book, used, report).into()
+}
+
+fn try_margin(lent: &[u8], used: usize, space: &mut [u8]) -> Result<u64, Refusal> {
+    let book = accept(lent, used)?;
+    let block = space.get_mut(..BLOCK).ok_or(Ground::ReportSpace.alone())?;
+    block.copy_from_slice(&sealed(&report(&book)));
+    Ok(0)
+}
+
+/// Adds a record behind the last; the value is the new used length.
+pub fn append(book: &mut [u8], used: usize, record: &[u8; RECORD]) -> Answer {
+    try_append(book, used, record).into()
+}
+
+fn try_append(lent: &mut [u8], used: usize, record: &[u8; RECORD]) -> Result<u64, Refusal> {
+    let mut book = accept(lent, used)?;
+    let record = Record::decode(record);
+    let needs_block = book.trades.len().is_multiple_of(FULL_BLOCK);
+    let end = if needs_block { used + BLOCK } else { used };
+    accept_record(&record, &book.curves).map_err(|ground| ground.in_block(end / BLOCK - 1))?;
+    if end > MAX_BLOCKS * BLOCK || end > lent.len() {
+        return Err(Ground::NoRoom.alone());
+    }
+    book.trades.push(record);
+    Ok(rewrite(lent, used, &book))
+}
+
+/// Removes a record; the value is the new used length.
+pub fn strike(book: &mut [u8], used: usize, position: usize) -> Answer {
+    try_strike(book, used, position).into()
+}
+
+fn try_strike(lent: &mut [u8], used: usize, position: usize) -> Result<u64, Refusal> {
+    let mut book = accept(lent, used)?;
+    trade_at(&book, position)?;
+    book.trades.remove(position);
+    Ok(rewrite(lent, used, &book))
+}
+
+/// Gives the record at a position; 0 bytes if refused.
+pub fn read(book: &[u8], used: usize, position: usize, record: &mut [u8; RECORD]) -> Answer {
+    let trade = accept(book, used).and_then(|book| trade_at(&book, position));
+    *record = trade.unwrap_or_default().to_bytes();
+    trade.map(|_| 0).into()
+}
+
+fn trade_at(book: &Book, position: usize) -> Result<Record, Refusal> {
+    let trade = book.trades.get(position).copied();
+    trade.ok_or(Ground::Position.alone())
+}
+
+/// One present value and its tolerance; tolerance 0 if refused.
+pub fn present_value(amount: u64, rate: u64, day: u64, tolerance: &mut u64) -> Answer {
+    *tolerance = 0;
+    if amount > MAX_AMOUNT || rate > MAX_RATE || day > MAX_DAY {
+        return Err(Ground::Request.alone()).into();
+    }
+    *tolerance = discount::tolerance(amount.into(), day);
+    let factor = discount::discount_factor(rate, day);
+    Ok(discount::present_value(amount.into(), factor)).into()
+}

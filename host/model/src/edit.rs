@@ -1,0 +1,22 @@
+//! Writing an edited book back.
+
+use crate::accept::Book;
+use crate::block::{sealed, Header, TradeBlock, BLOCK};
+use crate::layout::Layout;
+use crate::limits::FULL_BLOCK;
+
+/// Writes the trades of an edited book, with the header's count; a block
+/// left empty becomes zeros. Gives the new used length.
+pub fn rewrite(lent: &mut [u8], used: usize, book: &Book) -> u64 {
+    let mut header = Header::decode(lent);
+    header.trade_blocks = book.trades.len().div_ceil(FULL_BLOCK) as u16;
+    lent[..BLOCK].copy_from_slice(&sealed(&header));
+    let mut end = (1 + book.curves.len()) * BLOCK;
+    for trades in book.trades.chunks(FULL_BLOCK) {
+        let block = sealed(&TradeBlock::new(trades, end / BLOCK));
+        lent[end..end + BLOCK].copy_from_slice(&block);
+        end += BLOCK;
+    }
+    lent[end..used.max(end)].fill(0);
+    end as u64
+}

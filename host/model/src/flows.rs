@@ -1,0 +1,162 @@
+//! The dated cash flows of a trade.
+
+use crate::record::{
+    Record, COUPONS, FIRST_SIDE, INDEXED_COUPONS, OUTRIGHT, POOL, SECOND_SIDE, SINGLE_PAYMENT,
+    SPECIFIED,
+};
+use crate::units::{ONE, YEAR};
+
+const WITHHOLDING_PERCENT: u128 = 15;
+
+#[derive(Clone, Copy, Debug, PartialEq, Eq)]
+pub struct CashFlow {
+    /// Id of the curve that it stands on.
+    pub curve: u8,
+    pub day: u64,
+    /// Without sign.
+    pub amount: u128,
+    /// 1 in, -1 out.
+    pub sign: i64,
+}
+
+/// Signs of a trade's flows: 1 in, -1 out, 0 none.
+#[derive(Clone, Copy, Debug, PartialEq, Eq)]
+pub struct Signs {
+    pub first_leg: i64,
+    pub second_leg: i64,
+    pub payments: i64,
+}
+
+const fn signs(first_leg: i64, second_leg: i64, payments: i64) -> Signs {
+    Signs {
+        first_leg,
+        second_leg,
+        payments,
+    }
+}
+
+/// The table of kind, phase, side and signs. What it lacks is not allowed.
+pub const TABLE: [(u8, u8, u8, Signs); 12] = [
+    (OUTRIGHT, 0, FIRST_SIDE, signs(-1, 0, 1)),
+    (OUTRIGHT, 0, SECOND_SIDE, signs(1, 0, -1)),
+    (POOL, 1, FIRST_SIDE, signs(1, -1, 0)),
+    (POOL, 1, SECOND_SIDE, signs(-1, 1, 0)),
+    (POOL, 2, FIRST_SIDE, signs(1, -1, 0)),
+    (POOL, 2, SECOND_SIDE, signs(-1, 1, 0)),
+    (POOL, 3, FIRST_SIDE, signs(0, -1, 1)),
+    (POOL, 3, SECOND_SIDE, signs(0, 0, 0)),
+    (SPECIFIED, 1, FIRST_SIDE, signs(1, -1, 0)),
+    (SPECIFIED, 1, SECOND_SIDE, signs(-1, 1, 0)),
+    (SPECIFIED, 2, FIRST_SIDE, signs(0, -1, 1)),
+    (SPECIFIED, 2, SECOND_SIDE, signs(0, 1, -1)),
+];
+
+/// The table's line for a trade.
+pub fn signs_of(record: &Record) -> Option<Signs> {
+    TABLE
+        .iter()
+        .find(|line| (line.0, line.1, line.2) == (record.kind, record.phase, record.side))
+        .map(|line| line.3)
+}
+
+/// Nearest whole number, halves up.
+pub fn half_up(numerator: u128, denominator: u128) -> u128 {
+    (2 * numerator + denominator) / (2 * denominator)
+}
+
+/// A quoted price, without what has accrued.
+#[derive(Clone, Copy, Debug)]
+pub struct Clean(pub u32);
+
+/// The price that is settled.
+#[derive(Clone, Copy, Debug)]
+pub struct Dirty(u128);
+
+impl Clean {
+    pub fn plus_accrued(self, accrued: u32) -> Dirty {
+        Dirty(u128::from(self.0) + u128::from(accrued))
+    }
+}
+
+pub fn settlement_cash(nominal: u64, price: Dirty) -> u128 {
+    half_up(u128::from(nominal) * price.0, ONE.into())
+}
+
+/// Interest and withholding of a repo.
+pub fn interest_and_withholding(cash: u64, rate: u32, term: u16) -> (u128, u128) {
+    let yearly = u128::from(cash) * u128::from(rate);
+    let interest = half_up(yearly * u128::from(term), (YEAR * ONE).into());
+    (interest, half_up(interest * WITHHOLDING_PERCENT, 100))
+}
+
+/// What a repo pays back.
+pub fn second_leg(cash: u64, rate: u32, term: u16) -> u128 {
+    let (interest, withholding) = interest_and_withholding(cash, rate, term);
+    u128::from(cash) + interest - withholding
+}
+
+/// Days and amounts of the security's payments. The record has passed
+/// grounds 8 to 10.
+pub fn payments(record: &Record) -> Vec<(u64, u128)> {
+    match record.security {
+        SINGLE_PAYMENT => vec![(record.first_payment_day.into(), record.nominal.into())],
+        COUPONS | INDEXED_COUPONS => (0..record.payments)
+            .map(|i| coupon_payment(record, i))
+            .collect(),
+        _ => vec![],
+    }
+}
+
+fn coupon_payment(record: &Record, i: u16) -> (u64, u128) {
+    let day = u64::from(record.first_payment_day) + u64::from(i) * u64::from(record.period);
+    let nominal = u128::from(record.nominal);
+    let mut amount = half_up(nominal * u128::from(record.coupon), ONE.into());
+    if i + 1 == record.payments {
+        amount += nominal;
+    }
+    if record.is_indexed() {
+        let indexed = amount * u128::from(record.settlement_index);
+        amount = half_up(indexed, record.issue_index.into());
+    }
+    (day, amount)
+}
+
+/// The flows that the table gives a trade. The record has passed grounds 8
+/// to 10.
+pub fn cash_flows(record: &Record) -> Vec<CashFlow> {
+    let Some(signs) = signs_of(record) else {
+        return vec![];
+    };
+    let cash_flow = |sign, day: u16, amount| CashFlow {
+        curve: record.cash_curve,
+        day: day.into(),
+        amount,
+        sign,
+    };
+    let mut flows = vec![];
+    if signs.first_leg != 0 {
+        let cash = first_leg(record);
+        flows.push(cash_flow(signs.first_leg, record.value_day_1, cash));
+    }
+    if signs.second_leg != 0 {
+        let cash = second_leg(record.repo_cash, record.price_or_rate, record.term);
+        flows.push(cash_flow(signs.second_leg, record.value_day_2, cash));
+    }
+    if signs.payments != 0 {
+        flows.extend(payments(record).into_iter().map(|(day, amount)| CashFlow {
+            curve: record.security_curve,
+            day,
+            amount,
+            sign: signs.payments,
+        }));
+    }
+    flows
+}
+
+fn first_leg(record: &Record) -> u128 {
+    if record.is_repo() {
+        return record.repo_cash.into();
+    }
+    let price = Clean(record.price_or_rate).plus_accrued(record.accrued);
+    settlement_cash(record.nominal, price)
+}
