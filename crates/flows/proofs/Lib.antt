@@ -1,0 +1,3 @@
+pub mod Bounds
+mod Table
+pub mod Capped

@@ -1,0 +1,16 @@
+-- `flows::trade_legs::indexed_leg` meets its contract. Assumes nothing.
+use native.Mathlib.Omega.{arith}
+use borrow.Author.Needs.{needs}
+use Rattle.decimal.specs.Product.{unit}
+use Rattle.flows.proofs.trade_legs.indexed_leg.Statement.{statement}
+use Rattle.flows.proofs.trade_legs.indexed_leg.Tie as tie
+
+add-indexed-payment : tie.Need-add-indexed-payment
+unfolding unit
+add-indexed-payment c = omega (arith, c .before .before .coupon-of .ensures .1, c .before .before .before .before .pre .bond .nominal)
+
+returns : tie.Need-returns
+returns c = cc
+
+pub indexed-leg-spec : {M : Type 1} → statement M
+indexed-leg-spec = tie.close (tie.spec (λ c κs. search needs) (λ c κs. search needs) add-indexed-payment (λ c κs. search needs) (λ c κs. search needs) returns)

@@ -1,0 +1,5 @@
+pub mod Signs
+pub mod Amounts
+pub mod Legs
+pub mod Capped
+pub mod Limits

@@ -1,0 +1,73 @@
+-- What the numbers of a trade keep to, where the rules 8, 9 and 10 are not broken: none of its amounts then overflows. Assumes nothing.
+use Prim.Native.Nat.{ℕ, _+_, _-_, _*_, _≤_, _<_}
+use Rattle.decimal.specs.Product.{unit}
+use Rattle.trade.specs.declared.SinglePayment.{SinglePayment}
+use Rattle.trade.specs.declared.CouponBond.{CouponBond}
+use Rattle.trade.specs.declared.IndexedBond.{IndexedBond}
+use Rattle.trade.specs.declared.Security.{Security}
+use Rattle.trade.specs.declared.Security.the-variants.{Nothing, Single, Coupons, Indexed}
+use Rattle.trade.specs.declared.OutrightTrade.{OutrightTrade}
+use Rattle.trade.specs.declared.RepoTrade.{RepoTrade}
+use Rattle.trade.specs.declared.Trade.{Trade}
+use Rattle.trade.specs.declared.Trade.the-variants.{Outright, Pool, Specified}
+use Rattle.flows.specs.declared.Leg.{Leg}
+use Rattle.flows.specs.declared.Legs.{Legs}
+
+pub record BondLimits (b : CouponBond) : Type 0 where
+  pub nominal : b .nominal ≤ unit
+  pub coupon : b .coupon ≤ 1000000
+  pub few : b .payments ≤ 120
+  pub reach : b .first + (b .payments - 1) * b .period ≤ 10950
+
+pub record IndexLimits (i : IndexedBond) : Type 0 where
+  pub bond : BondLimits (i .bond)
+  pub some : 0 < i .index
+  pub index : i .index ≤ 10000000
+  pub issued : 0 < i .issue
+  pub issue : i .issue ≤ 10000000
+
+pub record SingleLimits (p : SinglePayment) : Type 0 where
+  pub nominal : p .nominal ≤ unit
+  pub reach : p .first ≤ 10950
+
+abbrev pub SecurityLimits : Security → Type 0
+SecurityLimits Nothing = Unit {0}
+SecurityLimits (Single p) = SingleLimits p
+SecurityLimits (Coupons b) = BondLimits b
+SecurityLimits (Indexed i) = IndexLimits i
+
+pub record Sides (side : ℕ) : Type 0 where
+  pub low : 1 ≤ side
+  pub high : side ≤ 2
+
+pub record OutrightLimits (t : OutrightTrade) : Type 0 where
+  pub sides : Sides (t .side)
+  pub reach : t .day1 ≤ 10950
+  pub price : t .price .0 ≤ 4000000
+  pub accrued : t .accrued ≤ 1000000
+  pub security : SecurityLimits (t .security)
+
+pub record RepoLimits (t : RepoTrade) : Type 0 where
+  pub sides : Sides (t .side)
+  pub phases : t .phase ≤ 3
+  pub reach1 : t .day1 ≤ 10950
+  pub reach2 : t .day2 ≤ 10950
+  pub cash : t .cash ≤ unit
+  pub rate : t .rate ≤ 1000000
+  pub term : t .term ≤ 730
+  pub security : SecurityLimits (t .security)
+
+abbrev pub TradeLimits : Trade → Type 0
+TradeLimits (Outright t) = OutrightLimits t
+TradeLimits (Pool t) = RepoLimits t
+TradeLimits (Specified t) = RepoLimits t
+
+-- a leg's flows are few, and all on days in reach
+pub record LegLimits (l : Leg) : Type 0 where
+  pub few : l .count ≤ 120
+  pub reach : l .first + (l .count - 1) * l .period ≤ 10950
+
+pub record LegsLimits (l : Legs) : Type 0 where
+  pub first : LegLimits (l .first)
+  pub second : LegLimits (l .second)
+  pub payments : LegLimits (l .payments)
