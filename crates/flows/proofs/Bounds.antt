@@ -1,6 +1,6 @@
 -- How large the amounts of flows can be. Assumes nothing.
-use Prim.Native.Nat.{ℕ, _+_, _-_, _*_, _≤_}
-use native.Mathlib.Nat.{mul-le-mul, mul-le-mul-left}
+use Prim.Native.Nat.{ℕ, _*_, _≤_}
+use native.Mathlib.Nat.{mul-le-mul}
 use native.Mathlib.Omega.{arith}
 use Rattle.decimal.specs.Product.{unit}
 use Rattle.decimal.specs.HalfUp.{millionthsOf, interestOn, withholdingOn}

@@ -107,6 +107,10 @@ flowOf l k = record {
   amount = cond (eqb (k + 1) (l .count)) (l .last) (l .each);
 }
 
+-- what stands past the last flow
+abbrev pub noFlow : Flow
+noFlow = record { curve = 0; day = 0; received = true; amount = 0 }
+
 unfoldable pub legFlows : Leg → List Flow
 legFlows l = table (flowOf l) 0 (l .count)
 

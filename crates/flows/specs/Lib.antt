@@ -3,3 +3,4 @@ pub mod Amounts
 pub mod Legs
 pub mod Capped
 pub mod Limits
+pub mod Verdict

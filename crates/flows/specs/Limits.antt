@@ -1,5 +1,7 @@
 -- What the numbers of a trade keep to, where the rules 8, 9 and 10 are not broken: none of its amounts then overflows. Assumes nothing.
 use Prim.Native.Nat.{ℕ, _+_, _-_, _*_, _≤_, _<_}
+use mathlib.Core.Path.{_≡_}
+use mathlib.Core.Bool.{false}
 use Rattle.decimal.specs.Product.{unit}
 use Rattle.trade.specs.declared.SinglePayment.{SinglePayment}
 use Rattle.trade.specs.declared.CouponBond.{CouponBond}
@@ -12,6 +14,7 @@ use Rattle.trade.specs.declared.Trade.{Trade}
 use Rattle.trade.specs.declared.Trade.the-variants.{Outright, Pool, Specified}
 use Rattle.flows.specs.declared.Leg.{Leg}
 use Rattle.flows.specs.declared.Legs.{Legs}
+use Rattle.flows.specs.Legs.{breaksFlowLimit}
 
 pub record BondLimits (b : CouponBond) : Type 0 where
   pub nominal : b .nominal ≤ unit
@@ -61,6 +64,11 @@ abbrev pub TradeLimits : Trade → Type 0
 TradeLimits (Outright t) = OutrightLimits t
 TradeLimits (Pool t) = RepoLimits t
 TradeLimits (Specified t) = RepoLimits t
+
+-- and rule 12 is not broken either: its flows can be valued
+pub record Valued (t : Trade) : Type 0 where
+  pub limits : TradeLimits t
+  pub within : breaksFlowLimit t ≡ false
 
 -- a leg's flows are few, and all on days in reach
 pub record LegLimits (l : Leg) : Type 0 where

@@ -2,7 +2,7 @@
 use Prim.Native.Nat.{ℕ}
 use mathlib.Core.Bool.{Bool, _&&_, _||_, cond}
 use lib.Dec.{eqb}
-use lib.IntN.{ℤ, pos, negsuc, negℤ}
+use lib.IntN.{pos, negsuc, negℤ}
 use Rattle.record.specs.Uses.{within, isOutright, isPool, isSpecified, hasSettled}
 use Rattle.flows.specs.declared.signs.Signs.{Signs}
 

@@ -2,7 +2,7 @@
 use trade::CouponBond;
 use trade::price::Dirty;
 ghost use mathlib.Core.Path.{_≡_};
-ghost use Prim.Native.Nat.{_*_, _≤_};
+ghost use Prim.Native.Nat.{_≤_};
 ghost use Rattle.decimal.specs.Product.{unit};
 ghost use Rattle.flows.specs.Amounts.{settlementCash, secondLegCash, couponOf};
 

@@ -2,6 +2,8 @@
 pub mod amounts;
 pub mod signs;
 pub mod trade_legs;
+pub mod verdict;
+pub mod walk;
 
 // Flows of one kind on one curve: `count` of them from the day `first` on, `period` days apart, all received or all paid. Each is of the
 // amount `each`, but the last is of the amount `last`.

@@ -7,3 +7,4 @@ pub mod Bools
 pub mod Every
 pub mod Worst
 pub mod Tests
+pub mod All

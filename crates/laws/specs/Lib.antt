@@ -4,3 +4,4 @@ pub mod Walk
 pub mod Every
 pub mod Worst
 pub mod Tests
+pub mod All

@@ -1,0 +1,25 @@
+-- `flows::walk::breaks_flow_limit` meets its contract. Assumes nothing.
+use Rattle.flows.specs.Legs.{legsOf, flowsOf, breaksFlowLimit}
+use Rattle.flows.proofs.Above.{any-capped, any-legs}
+use borrow.Author.Needs.{needs}
+use Rattle.flows.proofs.walk.breaks_flow_limit.Statement.{statement}
+use Rattle.flows.proofs.walk.breaks_flow_limit.Tie as tie
+
+returns : tie.Need-returns
+unfolding breaksFlowLimit flowsOf
+returns c =
+    let legs = c .before .before .before .before .before .before .capped-legs .ensures in
+    let l = legsOf (c .before .before .before .before .before .before .before .args .t) in
+    rw (
+      any-legs l,
+      c .before .before .leg-above .ensures,
+      c .before .leg-above2 .ensures,
+      c .leg-above3 .ensures,
+      legs,
+      any-capped (l .first),
+      any-capped (l .second),
+      any-capped (l .payments),
+    )
+
+pub breaks-flow-limit-spec : {M : Type 1} → statement M
+breaks-flow-limit-spec = tie.close (tie.spec (λ c κs. search needs) (λ c κs. search needs) (λ c κs. search needs) (λ c κs. search needs) returns)
