@@ -1,0 +1,12 @@
+-- `figures::worked::rate` meets its contract. Assumes nothing.
+use borrow.Author.Needs.{needs}
+use Rattle.discount.specs.Discount.{million}
+use Rattle.figures.proofs.worked.rate.Statement.{statement}
+use Rattle.figures.proofs.worked.rate.Tie as tie
+
+returns : tie.Need-returns
+unfolding million
+returns c = search needs
+
+pub rate-spec : {M : Type 1} → statement M
+rate-spec = tie.close (tie.spec (λ c κs. search needs) returns)
