@@ -7,14 +7,8 @@ use seddolki_format::block::{assemble, Curve, Header, BLOCK};
 use seddolki_format::layout::Layout;
 
 /// The columns as they are asked after: what follows from another column
-/// before that other one.
+/// before that other one, and the form of the trade last.
 const ASKED: [&str; 19] = [
-    "security_curve",
-    "cash_curve",
-    "security",
-    "phase",
-    "side",
-    "kind",
     "term",
     "first_payment_day",
     "period",
@@ -28,6 +22,12 @@ const ASKED: [&str; 19] = [
     "accrued",
     "settlement_index",
     "issue_index",
+    "security_curve",
+    "cash_curve",
+    "security",
+    "phase",
+    "side",
+    "kind",
 ];
 
 /// The name of the column; none if no column alone is at fault.
@@ -77,4 +77,52 @@ fn likely_values(record: &Record) -> Vec<u64> {
     values.extend([day_1, day_1 + 1, day_1 + term, day_2, day_2 + 1]);
     values.extend([day_2.saturating_sub(day_1), day_2.saturating_sub(term)]);
     values
+}
+
+#[cfg(test)]
+mod tests {
+    use super::column_at_fault;
+    use seddolki::{Book, Ground, Record};
+    use seddolki_books::{assemble, damage_record, draw_book, draw_record, Draw};
+    use seddolki_format::record::RECORD;
+
+    /// Whether the two differ within eight bytes, as one field would.
+    fn one_field_differs(a: &Record, b: &Record) -> bool {
+        let bytes = |record: &Record| <[u8; RECORD]>::from(*record);
+        let places = (0..RECORD).filter(|&i| bytes(a)[i] != bytes(b)[i]);
+        let places: Vec<usize> = places.collect();
+        places
+            .last()
+            .zip(places.first())
+            .is_some_and(|(last, first)| last - first < 2)
+    }
+
+    #[test]
+    fn a_spoiled_field_is_found() {
+        let mut found = 0;
+        for seed in 0..400 {
+            let mut draw = Draw::new(seed);
+            let mut book = draw_book(&mut draw, 100);
+            book.trades.clear();
+            let lent = Book::from_bytes(assemble(&book));
+            let whole = draw_record(&mut draw, &book.curves, 12);
+            for ground in [
+                Ground::Form,
+                Ground::Days,
+                Ground::Amounts,
+                Ground::Currency,
+            ] {
+                let spoiled = damage_record(&mut draw, &whole, &book.curves, ground);
+                let Some(spoiled) = spoiled.filter(|r| one_field_differs(r, &whole)) else {
+                    continue;
+                };
+                if spoiled.zero == 0 {
+                    let column = column_at_fault(&lent, &spoiled, ground);
+                    assert!(column.is_some(), "seed {seed}: {ground:?} {spoiled:?}");
+                    found += 1;
+                }
+            }
+        }
+        assert!(found > 400, "{found}");
+    }
 }
