@@ -12,6 +12,7 @@ pub mod draw;
 pub mod examples;
 pub mod record;
 pub mod record_damage;
+pub mod timing;
 
 pub use book::{assemble, draw_book};
 pub use call::{draw_case, Call, Case, Engine, Model, Outcome};
@@ -21,3 +22,4 @@ pub use draw::Draw;
 pub use examples::{buyer, seller};
 pub use record::draw_record;
 pub use record_damage::{damage_record, record_grounds};
+pub use timing::{full_book, small_book, typical_book};
