@@ -3,14 +3,22 @@
 use seddolki_books::Draw;
 use std::env;
 
+const BOOKS: u64 = 2_000;
+const CALLS: u64 = 20_000;
+
 /// Random books in one run.
 pub fn books() -> u64 {
-    setting("SEDDOLKI_BOOKS", 2_000)
+    setting("SEDDOLKI_BOOKS", BOOKS)
 }
 
 /// Random calls in one run.
 pub fn calls() -> u64 {
-    setting("SEDDOLKI_CALLS", 20_000)
+    setting("SEDDOLKI_CALLS", CALLS)
+}
+
+/// Whether a run is long enough to be held to reach every ground and form.
+pub fn is_whole() -> bool {
+    books() >= BOOKS && calls() >= CALLS
 }
 
 fn setting(name: &str, default: u64) -> u64 {

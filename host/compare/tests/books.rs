@@ -3,7 +3,7 @@
 use seddolki_books::{
     assemble, assert_demand_3, book_grounds, damage_book, draw_book, Call, Case, Draw,
 };
-use seddolki_compare::{assert_alike, books, Proved, Seeds};
+use seddolki_compare::{assert_alike, books, is_whole, Proved, Seeds};
 use seddolki_model::accept::Book;
 use seddolki_model::block::BLOCK;
 use seddolki_model::flows::{cash_flows, signs_of, TABLE};
@@ -108,7 +108,9 @@ fn margins_are_the_same_on_books_that_reach_every_form_and_boundary() {
         assert_eq!(outcome.answer.number, 0);
         reached.add(&book);
     }
-    reached.assert_all();
+    if is_whole() {
+        reached.assert_all();
+    }
 }
 
 #[test]
@@ -133,7 +135,7 @@ fn spoiled_books_are_refused_by_the_ground_they_were_spoiled_for() {
     }
     println!("{refused:?}");
     for ground in book_grounds() {
-        assert!(refused.contains_key(ground), "{ground:?}");
+        assert!(!is_whole() || refused.contains_key(ground), "{ground:?}");
     }
 }
 

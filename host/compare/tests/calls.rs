@@ -1,7 +1,7 @@
 //! Any call on any book, whole or spoiled.
 
 use seddolki_books::{draw_case, Call};
-use seddolki_compare::{assert_alike, calls, Seeds};
+use seddolki_compare::{assert_alike, calls, is_whole, Seeds};
 use seddolki_model::Ground;
 use std::collections::BTreeMap;
 
@@ -32,8 +32,10 @@ fn calls_answer_and_leave_the_same_and_reach_every_ground() {
         }
     }
     println!("answers {answered:?}, done {done:?}");
-    for ground in Ground::ALL {
-        assert!(answered.contains_key(&ground.number()), "{ground:?}");
+    if is_whole() {
+        for ground in Ground::ALL {
+            assert!(answered.contains_key(&ground.number()), "{ground:?}");
+        }
+        assert_eq!(done.len(), 6, "{done:?}");
     }
-    assert_eq!(done.len(), 6, "{done:?}");
 }
