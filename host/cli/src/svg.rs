@@ -51,9 +51,9 @@ impl Page {
     }
 
     /// A text that starts, is centred or ends at a place.
-    pub fn label(&mut self, x: f64, y: f64, anchor: &str, label: &str) {
+    pub fn label(&mut self, (x, y): (f64, f64), anchor: &str, colour: &str, label: &str) {
         self.add(&format!(
-            "<text x=\"{x:.1}\" y=\"{y:.1}\" text-anchor=\"{anchor}\">{label}</text>"
+            "<text x=\"{x:.1}\" y=\"{y:.1}\" text-anchor=\"{anchor}\" fill=\"{colour}\">{label}</text>"
         ));
     }
 
@@ -90,12 +90,12 @@ impl Page {
         for (value, label) in across {
             let x = panel.x(*value);
             self.grid_line((x, panel.top), (x, bottom));
-            self.label(x, bottom + 16.0, "middle", label);
+            self.label((x, bottom + 16.0), "middle", "black", label);
         }
         for (value, label) in up {
             let y = panel.y(*value);
             self.grid_line((panel.left, y), (right, y));
-            self.label(panel.left - 6.0, y + 4.0, "end", label);
+            self.label((panel.left - 6.0, y + 4.0), "end", "black", label);
         }
     }
 

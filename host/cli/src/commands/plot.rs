@@ -60,11 +60,18 @@ fn run(operands: &[String]) -> Result<String, String> {
 const WIDTH: u32 = 960;
 const HEIGHT: u32 = 640;
 
+/// Where both panels start and end across; the largest sum fits before them.
+const LEFT: f64 = 120.0;
+const RIGHT: f64 = 940.0;
+
+const BLACK: &str = "black";
+const WORST: &str = "#c00";
+
 impl Picture<'_> {
     fn draw(&self) -> String {
         let mut page = Page::new(WIDTH, HEIGHT);
-        page.label(80.0, 24.0, "start", &self.title());
-        page.label(80.0, 42.0, "start", &self.worst_line());
+        page.label((LEFT, 24.0), "start", BLACK, &self.title());
+        page.label((LEFT, 42.0), "start", WORST, &self.worst_line());
         self.draw_rates(&mut page);
         self.draw_ladder(&mut page);
         page.finish()
@@ -108,9 +115,9 @@ impl Picture<'_> {
         let highest = stressed.iter().flatten().chain(self.curve.nodes());
         let highest = highest.map(percent).fold(1.0, f64::max);
         let panel = Panel {
-            left: 80.0,
+            left: LEFT,
             top: 60.0,
-            width: 850.0,
+            width: RIGHT - LEFT,
             height: 300.0,
             across: self.days(),
             up: (0.0, highest * 1.05),
@@ -120,9 +127,9 @@ impl Picture<'_> {
         for nodes in &stressed {
             page.curve(&panel, &points(nodes), "#bbb", 0.6);
         }
-        page.curve(&panel, &points(self.curve.nodes()), "black", 2.0);
+        page.curve(&panel, &points(self.curve.nodes()), BLACK, 2.0);
         let worst = &stressed[self.figures.scenario as usize];
-        page.curve(&panel, &points(worst), "#c00", 2.0);
+        page.curve(&panel, &points(worst), WORST, 2.0);
     }
 
     /// The nodes, with the end nodes' rates carried on to both ends.
@@ -142,9 +149,9 @@ impl Picture<'_> {
         let largest = ins.values().chain(outs.values()).copied();
         let largest = largest.fold(1.0, f64::max) * 1.05;
         let panel = Panel {
-            left: 80.0,
+            left: LEFT,
             top: 410.0,
-            width: 850.0,
+            width: RIGHT - LEFT,
             height: 190.0,
             across: self.days(),
             up: (-largest, largest),
@@ -155,13 +162,9 @@ impl Picture<'_> {
                 page.bar(&panel, *day as f64, sign * sum, 3.0, colour);
             }
         }
-        page.label(
-            80.0,
-            402.0,
-            "start",
-            "cash flows by day: in above, out below",
-        );
-        page.label(930.0, 634.0, "end", "days from today");
+        let ladder = "cash flows by day: in above, out below";
+        page.label((LEFT, 402.0), "start", BLACK, ladder);
+        page.label((RIGHT, 634.0), "end", BLACK, "days from today");
     }
 
     /// Sums by day of the flows of a sign, in whole units of the currency.
