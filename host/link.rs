@@ -1,4 +1,4 @@
-// How a package links one of the engine's archives that `rt staticlib` writes; its build script includes this.
+// Links one of the engine's archives that `rt staticlib` writes; build scripts include this.
 fn link(archive: &str) {
     let here = std::env::var("CARGO_MANIFEST_DIR").unwrap();
     let archives = format!("{here}/../../target/staticlib");

@@ -1,4 +1,4 @@
-//! Safe calls of the inner functions that the crate `probe` exports, for the benchmarks and their tests.
+//! Safe calls of the inner functions that the crate `probe` exports, and how times are taken.
 
 mod timing;
 

@@ -53,7 +53,8 @@ impl Page {
     /// A text that starts, is centred or ends at a place.
     pub fn label(&mut self, (x, y): (f64, f64), anchor: &str, colour: &str, label: &str) {
         self.add(&format!(
-            "<text x=\"{x:.1}\" y=\"{y:.1}\" text-anchor=\"{anchor}\" fill=\"{colour}\">{label}</text>"
+            "<text x=\"{x:.1}\" y=\"{y:.1}\" text-anchor=\"{anchor}\" \
+             fill=\"{colour}\">{label}</text>"
         ));
     }
 

@@ -56,7 +56,8 @@ fn a_book_is_checked_and_shown() {
     );
     let text = desk.done(&["show", "buyer.book"]);
     assert!(text.ends_with(
-        "trade 0: buys 1,000.00 paid on day 365, at 70.0000% clean and 0.0000% accrued, value day 0\n\
+        "trade 0: buys 1,000.00 paid on day 365, at 70.0000% clean and 0.0000% accrued, \
+         value day 0\n\
          \x20   day 0  curve 1    -700.00  settlement cash\n\
          \x20 day 365  curve 1  +1,000.00  payment of the security\n"
     ));

@@ -14,19 +14,17 @@ pub fn assert_alike(case: &Case, number: u64) -> Outcome {
 }
 
 fn difference(case: &Case, proved: &Outcome, model: &Outcome) -> String {
+    let (name, lent, used) = (case.call.name(), case.lent.len(), case.used);
+    let asked = format!("{name} on {lent} lent bytes, {used} used");
     if proved.answer != model.answer {
-        return format!(
-            "the engine answers {:?}, the model {:?}; {:?} on {} lent bytes, {} used",
-            proved.answer,
-            model.answer,
-            case.call,
-            case.lent.len(),
-            case.used
-        );
+        let (proved, model) = (proved.answer, model.answer);
+        return format!("{asked}: the engine answers {proved:?}, the model {model:?}");
     }
     let (proved, model) = (lent_bytes(&proved.after), lent_bytes(&model.after));
-    let place = proved.iter().zip(&model).position(|(a, b)| a != b);
-    format!("{:?} leaves other bytes, first at {place:?}", case.call)
+    let differ = |place: &usize| proved[*place] != model[*place];
+    let places: Vec<usize> = (0..proved.len()).filter(differ).collect();
+    let (count, first) = (places.len(), places.first());
+    format!("{asked}: {count} lent bytes differ afterwards, the first is {first:?}")
 }
 
 /// The book's bytes, then those lent beside it.

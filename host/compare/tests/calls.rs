@@ -1,23 +1,12 @@
 //! Any call on any book, whole or spoiled.
 
-use seddolki_books::{draw_case, Call};
+use seddolki_books::draw_case;
 use seddolki_compare::{assert_alike, calls, is_whole, Seeds};
 use seddolki_model::Ground;
 use std::collections::BTreeMap;
 
 /// Bounds the time of a margin.
 const WORK: usize = 1_000;
-
-fn name(call: &Call) -> &'static str {
-    match call {
-        Call::Check => "check",
-        Call::Margin { .. } => "margin",
-        Call::Append { .. } => "append",
-        Call::Strike { .. } => "strike",
-        Call::Read { .. } => "read",
-        Call::PresentValue { .. } => "present value",
-    }
-}
 
 #[test]
 fn calls_answer_and_leave_the_same_and_reach_every_ground() {
@@ -28,7 +17,7 @@ fn calls_answer_and_leave_the_same_and_reach_every_ground() {
         let outcome = assert_alike(&case, number);
         *answered.entry(outcome.answer.number).or_insert(0) += 1;
         if outcome.answer.number == 0 {
-            *done.entry(name(&case.call)).or_insert(0) += 1;
+            *done.entry(case.call.name()).or_insert(0) += 1;
         }
     }
     println!("answers {answered:?}, done {done:?}");
