@@ -10,11 +10,11 @@ A file of curves has a line for each of these, words and numbers a blank apart;
 what follows a # is passed over.
 
   account NUMBER
-  curve CURRENCY           TRY, USD or EUR; the lines below it are its own
-  steps COUNT COUNT COUNT  steps of its three components, 0 to 3 each
-  ranges NUMBER x 3        the largest coefficient of each, as 1.50
-  node DAY RATE NUMBER x 3 day from today, rate in percent, and how far each
-                           component moves it, in percent
+  curve CURRENCY             TRY, USD or EUR; the lines below it are its own
+  steps COUNT COUNT COUNT    steps of its three components, 0 to 3 each
+  ranges NUMBER x 3          the largest coefficient of each, as 1.50
+  node DAY RATE NUMBER x 3   day from today, rate in percent, and how far each
+                             component moves it, in percent
 ";
 
 /// What a file of curves holds.

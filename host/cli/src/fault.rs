@@ -44,7 +44,8 @@ pub fn column_at_fault(book: &Book, record: &Record, ground: Ground) -> Option<&
             (column.set)(&mut changed, value).is_some() && gets_past(&changed)
         })
     };
-    let mut columns = ASKED.iter().filter_map(|name| Column::named(name));
+    let named = |name: &&str| Column::named(name).expect("every column asked after is there");
+    let mut columns = ASKED.iter().map(named);
     columns.find(at_fault).map(|column| name_in(column, record))
 }
 

@@ -56,7 +56,7 @@ fn line(record: &Record) -> String {
 }
 
 #[test]
-fn drawn_trades_are_imported_as_they_are() {
+fn drawn_trades_are_imported_as_they_are_and_shown() {
     for seed in 0..20 {
         let mut book = draw_book(&mut Draw::new(seed), 100);
         book.trades.truncate(200);
@@ -70,5 +70,9 @@ fn drawn_trades_are_imported_as_they_are() {
         let records: Vec<Record> = imported.records().unwrap().collect();
         assert_eq!(records, trades);
         desk.done(&["show", "a.book"]);
+        desk.done(&["margin", "a.book"]);
+        desk.done(&["plot", "a.book", "1", "a.svg"]);
+        let svg = String::from_utf8(desk.read("a.svg")).unwrap();
+        assert!(!svg.contains("NaN") && !svg.contains("inf"));
     }
 }

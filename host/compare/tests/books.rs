@@ -1,14 +1,15 @@
 //! Whole books, and the same books spoiled for every ground.
 
 use seddolki_books::{
-    assemble, assert_demand_3, book_grounds, damage_book, draw_book, Call, Case, Draw,
+    assemble, assert_demand_3, book_grounds, damage_book, draw_book, small_book, typical_book,
+    Call, Case, Draw,
 };
 use seddolki_compare::{assert_alike, books, is_whole, Proved, Seeds};
 use seddolki_model::accept::Book;
-use seddolki_model::block::BLOCK;
+use seddolki_model::block::{Node, BLOCK};
 use seddolki_model::flows::{cash_flows, signs_of, TABLE};
 use seddolki_model::layout::Layout;
-use seddolki_model::limits::{MAX_AMOUNT, MAX_BLOCKS, MAX_DAY};
+use seddolki_model::limits::{MAX_AMOUNT, MAX_BLOCKS, MAX_DAY, MAX_RATE, MAX_STEPS, NODES};
 use seddolki_model::record::Record;
 use seddolki_model::report::Report;
 use seddolki_model::Ground;
@@ -53,9 +54,20 @@ impl Reached {
         self.reach("128 blocks", blocks == MAX_BLOCKS);
         self.reach("no trade", book.trades.is_empty());
         self.reach("8 curves", book.curves.len() == 8);
-        let any_curve = |steps| book.curves.iter().any(|curve| curve.steps == [steps; 3]);
-        self.reach("343 scenarios", any_curve(3));
-        self.reach("one scenario", any_curve(0));
+        for curve in &book.curves {
+            let has_flows = !book.flows_on(curve).is_empty();
+            self.reach("343 scenarios", curve.steps == [MAX_STEPS; 3] && has_flows);
+            self.reach("one scenario", curve.steps == [0; 3] && has_flows);
+            self.add_nodes(curve.nodes());
+        }
+    }
+
+    fn add_nodes(&mut self, nodes: &[Node]) {
+        let any = |rate: u64| nodes.iter().any(|node| u64::from(node.rate) == rate);
+        self.reach("rate of 0", any(0));
+        self.reach("largest rate", any(MAX_RATE));
+        self.reach("fewest nodes", nodes.len() == usize::from(*NODES.start()));
+        self.reach("most nodes", nodes.len() == usize::from(*NODES.end()));
     }
 
     fn add_flows(&mut self, trade: &Record) {
@@ -93,7 +105,7 @@ impl Reached {
                 assert!(self.forms.contains(&(kind, phase, side, security)));
             }
         }
-        assert_eq!(self.boundaries.len(), 9, "{:?}", self.boundaries);
+        assert_eq!(self.boundaries.len(), 13, "{:?}", self.boundaries);
     }
 }
 
@@ -110,6 +122,15 @@ fn margins_are_the_same_on_books_that_reach_every_form_and_boundary() {
     }
     if is_whole() {
         reached.assert_all();
+    }
+}
+
+#[test]
+fn margins_are_the_same_on_the_books_that_times_are_taken_on() {
+    let mut draw = Draw::new(1);
+    for (number, book) in (1..).zip([small_book(), typical_book()]) {
+        let outcome = assert_alike(&margin_case(&mut draw, assemble(&book)), number);
+        assert_eq!(outcome.answer.number, 0);
     }
 }
 

@@ -30,6 +30,12 @@ fn every_call_on_a_full_book_keeps_to_its_stack() {
         },
         Call::Append { record },
         Call::Strike { position: 0 },
+        Call::PresentValue {
+            amount: 1_000,
+            rate: 132_500,
+            day: 10_949,
+            tolerance: 0,
+        },
     ] {
         let lent = full_book();
         let used = lent.len();
