@@ -1,4 +1,8 @@
-//! Safe calls of the inner functions that the crate `probe` exports, for the benchmark and its tests.
+//! Safe calls of the inner functions that the crate `probe` exports, and how times are taken.
+
+mod timing;
+
+pub use timing::best_time;
 
 mod ffi {
     unsafe extern "C" {

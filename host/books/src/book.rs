@@ -4,28 +4,13 @@ use crate::curve::draw_curves;
 use crate::draw::Draw;
 use crate::record::draw_record;
 use seddolki_model::accept::Book;
-use seddolki_model::block::{sealed, Curve, Header, TradeBlock, HEADER};
+use seddolki_model::block::{self, Curve};
 use seddolki_model::limits::{FULL_BLOCK, MAX_BLOCKS, PAYMENTS};
 use seddolki_model::scenario::scenarios;
 
 /// The bytes of a book.
 pub fn assemble(book: &Book) -> Vec<u8> {
-    let header = Header {
-        kind: HEADER,
-        account: book.account,
-        curves: book.curves.len() as u16,
-        trade_blocks: book.trades.len().div_ceil(FULL_BLOCK) as u16,
-        ..Header::default()
-    };
-    let mut bytes = sealed(&header).to_vec();
-    for curve in &book.curves {
-        bytes.extend(sealed(curve));
-    }
-    let first = 1 + book.curves.len();
-    for (number, trades) in (first..).zip(book.trades.chunks(FULL_BLOCK)) {
-        bytes.extend(sealed(&TradeBlock::new(trades, number)));
-    }
-    bytes
+    block::assemble(book.account, &book.curves, &book.trades)
 }
 
 /// An accepted book. Flows times scenarios, summed over the curves, stay

@@ -76,6 +76,19 @@ pub enum Call {
     },
 }
 
+impl Call {
+    pub fn name(&self) -> &'static str {
+        match self {
+            Call::Check => "check",
+            Call::Margin { .. } => "margin",
+            Call::Append { .. } => "append",
+            Call::Strike { .. } => "strike",
+            Call::Read { .. } => "read",
+            Call::PresentValue { .. } => "present value",
+        }
+    }
+}
+
 /// A call and the book that it is lent.
 #[derive(Clone, Debug, PartialEq, Eq)]
 pub struct Case {

@@ -28,9 +28,9 @@ pub fn damage_record(
         list: vec![],
     };
     match ground {
-        Ground::Combination => combination(&mut spoiled, curves.len() as u8),
-        Ground::Schedule => schedule(&mut spoiled),
-        Ground::Amount => amount(&mut spoiled),
+        Ground::Form => combination(&mut spoiled, curves.len() as u8),
+        Ground::Days => schedule(&mut spoiled),
+        Ground::Amounts => amount(&mut spoiled),
         Ground::Currency => currency(&mut spoiled, curves),
         Ground::FlowLimit => flow_limit(&mut spoiled, curves),
         _ => {}

@@ -42,7 +42,7 @@ fn an_appended_record_is_read_and_struck_again() {
         let answer = append(&mut bytes, used, &record.to_bytes());
         let position = book.trades.len();
         if position == (MAX_BLOCKS - 1 - book.curves.len()) * FULL_BLOCK {
-            assert_eq!(answer, Err(Ground::NoRoom.alone()).into());
+            assert_eq!(answer, Err(Ground::BookSpace.alone()).into());
             assert_eq!(bytes, before);
             continue;
         }
@@ -134,7 +134,7 @@ fn a_new_block_needs_lent_bytes() {
         let used = bytes.len();
         let without = append(&mut bytes, used, &record.to_bytes());
         if needs_block {
-            assert_eq!(without, Err(Ground::NoRoom.alone()).into());
+            assert_eq!(without, Err(Ground::BookSpace.alone()).into());
             bytes.resize(used + BLOCK - 1, 1);
             let short = append(&mut bytes, used, &record.to_bytes());
             assert_eq!(short, without);

@@ -1,12 +1,12 @@
 //! The report, and demand 3 on random books.
 
-use seddolki_books::{assemble, buyer, draw_book, seller, Draw};
-use seddolki_model::accept::{accept, Book};
-use seddolki_model::block::{check_of, CurveFigures, Report, BLOCK};
-use seddolki_model::exact::{exact_valuation, exact_value};
+use seddolki_books::{assemble, assert_demand_3, buyer, draw_book, seller, Draw};
+use seddolki_model::accept::accept;
+use seddolki_model::block::{check_of, BLOCK};
+use seddolki_model::exact::exact_value;
 use seddolki_model::layout::Layout;
 use seddolki_model::limits::{MAX_AMOUNT, MAX_DAY, MAX_RATE};
-use seddolki_model::valuation::Valuation;
+use seddolki_model::report::{CurveFigures, Report};
 use seddolki_model::{list, margin, present_value, Answer};
 
 fn report_of(bytes: &[u8]) -> Report {
@@ -57,47 +57,13 @@ fn the_report_has_its_head_and_no_absent_figures() {
     }
 }
 
-/// One curve's share of demand 3; `shown` is what the report holds.
-fn curve_holds(shown: &CurveFigures, exact: &Valuation, seed: u64) {
-    let tolerance = shown.tolerance as i64;
-    let base_gap = (shown.base - exact.base).abs();
-    assert!(base_gap <= tolerance, "seed {seed}");
-    let loss_gap = (shown.worst_loss - exact.worst_loss()).abs();
-    assert!(loss_gap <= 2 * tolerance, "seed {seed}");
-    let of_shown = exact.losses[shown.scenario as usize];
-    assert!(
-        exact.worst_loss() <= of_shown + 4 * tolerance,
-        "seed {seed}"
-    );
-}
-
-fn demand_3_holds(book: &Book, seed: u64) {
-    let report = report_of(&assemble(book));
-    let exact: Vec<Valuation> = book
-        .curves
-        .iter()
-        .map(|c| exact_valuation(book, c))
-        .collect();
-    for (shown, exact) in report.curves.iter().zip(&exact) {
-        curve_holds(shown, exact, seed);
-    }
-    for (currency, figures) in (1..).zip(&report.currencies) {
-        let own = || {
-            let pairs = report.curves.iter().zip(&exact);
-            pairs.filter(move |(shown, _)| shown.currency == currency)
-        };
-        let losses: i64 = own().map(|(_, exact)| exact.worst_loss()).sum();
-        let tolerances: i64 = own().map(|(shown, _)| shown.tolerance as i64).sum();
-        let gap = (figures.initial - losses).abs();
-        assert!(gap <= 2 * tolerances, "seed {seed}");
-    }
-}
-
 #[test]
 fn demand_3_holds_on_random_books() {
     for seed in 0..300 {
         let bytes = assemble(&draw_book(&mut Draw::new(seed), 10_000));
-        demand_3_holds(&accept(&bytes, bytes.len()).unwrap(), seed);
+        println!("seed {seed}");
+        let book = accept(&bytes, bytes.len()).unwrap();
+        assert_demand_3(&book, &report_of(&bytes));
     }
 }
 

@@ -62,12 +62,9 @@ fn an_earlier_record_answers_first() {
     let mut book = book();
     let block = 1 + book.curves.len();
     book.trades[5].kind = 9;
-    assert_eq!(
-        answer(&assemble(&book)),
-        refused(Ground::Combination, block)
-    );
+    assert_eq!(answer(&assemble(&book)), refused(Ground::Form, block));
     book.trades[4].zero = 1;
-    assert_eq!(answer(&assemble(&book)), refused(Ground::Amount, block));
+    assert_eq!(answer(&assemble(&book)), refused(Ground::Amounts, block));
     let mut bytes = assemble(&book);
     set(&mut bytes, block, 1, 8);
     assert_eq!(answer(&bytes), refused(Ground::TradeBlock, block));
@@ -81,7 +78,7 @@ fn the_book_answers_before_what_is_asked_of_it() {
     let block = used / BLOCK;
     assert_eq!(
         append(&mut bytes, used, &wrong),
-        refused(Ground::Combination, block)
+        refused(Ground::Form, block)
     );
     let position = refused(Ground::Position, 0);
     assert_eq!(strike(&mut bytes, used, 18), position);

@@ -1,6 +1,6 @@
 //! The drawn books are accepted and reach what they are meant to reach.
 
-use seddolki_books::{assemble, draw_book, Draw};
+use seddolki_books::{assemble, draw_book, full_book, small_book, typical_book, Draw};
 use seddolki_model::accept::{accept, Book};
 use seddolki_model::answer::Answer;
 use seddolki_model::block::BLOCK;
@@ -8,6 +8,7 @@ use seddolki_model::check;
 use seddolki_model::flows::{cash_flows, CashFlow, TABLE};
 use seddolki_model::limits::{FULL_BLOCK, MAX_AMOUNT, MAX_BLOCKS, MAX_DAY, MAX_RATE};
 use seddolki_model::record::Record;
+use seddolki_model::scenario::scenarios;
 use std::collections::BTreeSet;
 
 const SEEDS: u64 = 400;
@@ -110,4 +111,19 @@ fn books_reach_the_limits_of_a_trade() {
     assert!(books_with(any_trade(|r| r.term == 730)) >= 100);
     assert!(books_with(any_trade(|r| r.is_repo() && r.price_or_rate == 0)) >= 100);
     assert!(books_with(any_trade(|r| u64::from(r.price_or_rate) == MAX_RATE)) >= 100);
+}
+
+#[test]
+fn the_timed_books_are_accepted_and_of_their_sizes() {
+    for (book, curves, trades, blocks) in [
+        (small_book(), 1, 5, 3),
+        (typical_book(), 3, 200, 27),
+        (full_book(), 8, 1_071, 128),
+    ] {
+        let bytes = assemble(&book);
+        assert_eq!(check(&bytes, bytes.len()).number, 0);
+        assert_eq!((book.curves.len(), book.trades.len()), (curves, trades));
+        assert_eq!(bytes.len(), blocks * BLOCK);
+        assert!(book.curves.iter().all(|c| scenarios(c).len() == 343));
+    }
 }

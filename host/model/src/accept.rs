@@ -1,6 +1,6 @@
 //! Accepting a book, grounds 1 to 12, and what it holds.
 
-use crate::answer::{require, Ground, Refusal};
+use crate::answer::{Ground, Refusal};
 use crate::block::{check_of, Curve, Head, Header, Node, TradeBlock, BLOCK, CURVE, HEADER, TRADES};
 use crate::flows::{cash_flows, CashFlow};
 use crate::layout::Layout;
@@ -9,6 +9,7 @@ use crate::limits::{
     MAX_STEPS, NODES,
 };
 use crate::record::Record;
+use crate::require::require;
 use crate::rules::accept_record;
 
 /// What an accepted book holds.

@@ -40,7 +40,7 @@ fn try_append(lent: &mut [u8], used: usize, record: &[u8; RECORD]) -> Result<u64
     let end = if needs_block { used + BLOCK } else { used };
     accept_record(&record, &book.curves).map_err(|ground| ground.in_block(end / BLOCK - 1))?;
     if end > MAX_BLOCKS * BLOCK || end > lent.len() {
-        return Err(Ground::NoRoom.alone());
+        return Err(Ground::BookSpace.alone());
     }
     book.trades.push(record);
     Ok(rewrite(lent, used, &book))
@@ -74,7 +74,7 @@ fn trade_at(book: &Book, position: usize) -> Result<Record, Refusal> {
 pub fn present_value(amount: u64, rate: u64, day: u64, tolerance: &mut u64) -> Answer {
     *tolerance = 0;
     if amount > MAX_AMOUNT || rate > MAX_RATE || day > MAX_DAY {
-        return Err(Ground::Request.alone()).into();
+        return Err(Ground::ValueRange.alone()).into();
     }
     *tolerance = discount::tolerance(amount.into(), day);
     let factor = discount::discount_factor(rate, day);

@@ -4,9 +4,7 @@
 #![forbid(unsafe_code)]
 
 pub mod accept;
-pub mod answer;
 pub mod big;
-pub mod block;
 pub mod bounds;
 pub mod calls;
 pub mod curve;
@@ -14,18 +12,17 @@ pub mod discount;
 pub mod edit;
 pub mod exact;
 pub mod flows;
-pub mod layout;
-pub mod limits;
 pub mod list;
 pub mod margin;
 pub mod number;
-pub mod record;
+pub mod require;
 pub mod rules;
 pub mod scenario;
 pub mod search;
 pub mod units;
 pub mod valuation;
 
-pub use answer::{Answer, Ground, Refusal};
 pub use calls::{append, check, margin, present_value, read, strike};
 pub use list::list;
+pub use seddolki_format::{answer, block, layout, limits, record, report};
+pub use seddolki_format::{Answer, Ground, Refusal};

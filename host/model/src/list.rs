@@ -1,8 +1,8 @@
 //! The text of the list program.
 
 use crate::accept::accept;
-use crate::block::{Report, CURRENCIES};
 use crate::margin::report;
+use crate::report::{currency_name, Report};
 
 /// What the list program prints for a book's bytes.
 pub fn list(bytes: &[u8]) -> String {
@@ -14,24 +14,21 @@ pub fn list(bytes: &[u8]) -> String {
 
 fn lines(report: &Report) -> String {
     let mut text = format!("account {}\n", report.account);
-    let present = |currency: u32| report.curves.iter().any(|c| c.currency == currency);
-    for (id, curve) in (1..).zip(&report.curves).filter(|(_, c)| c.currency != 0) {
+    for (id, curve) in report.present_curves() {
         text += &format!(
             "curve {id} {} base {} loss {} scenario {} tolerance {}\n",
-            CURRENCIES[curve.currency as usize - 1],
+            currency_name(curve.currency),
             curve.base,
             curve.worst_loss,
             curve.scenario,
             curve.tolerance
         );
     }
-    for ((currency, name), figures) in (1..).zip(CURRENCIES).zip(&report.currencies) {
-        if present(currency) {
-            text += &format!(
-                "currency {name} initial {} variation {} total {}\n",
-                figures.initial, figures.variation, figures.total
-            );
-        }
+    for (name, figures) in report.present_currencies() {
+        text += &format!(
+            "currency {name} initial {} variation {} total {}\n",
+            figures.initial, figures.variation, figures.total
+        );
     }
     text
 }

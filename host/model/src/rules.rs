@@ -1,6 +1,6 @@
 //! The rules of a record, grounds 8 to 12.
 
-use crate::answer::{require, Ground};
+use crate::answer::Ground;
 use crate::block::Curve;
 use crate::flows::{cash_flows, signs_of};
 use crate::limits::{
@@ -8,14 +8,15 @@ use crate::limits::{
     PAYMENTS, PERIODS, TERMS,
 };
 use crate::record::Record;
+use crate::require::require;
 
 /// Tests a record of a book with these curves.
 pub fn accept_record(record: &Record, curves: &[Curve]) -> Result<(), Ground> {
-    require(allowed_together(record, curves.len()), Ground::Combination)?;
-    require(days_hold(record), Ground::Schedule)?;
+    require(allowed_together(record, curves.len()), Ground::Form)?;
+    require(days_hold(record), Ground::Days)?;
     require(
         amounts_hold(record) && unused_are_zero(record),
-        Ground::Amount,
+        Ground::Amounts,
     )?;
     require(one_currency(record, curves), Ground::Currency)?;
     require(flows_within_limit(record), Ground::FlowLimit)

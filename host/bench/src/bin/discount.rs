@@ -1,17 +1,10 @@
 //! Times of the discount engine: a product in a chain, a factor at a rate not seen before, and bisection beside it.
 use seddolki_bench::*;
 use std::hint::black_box;
-use std::time::Instant;
 
-/// The best of several rounds, in nanoseconds for each of `n` pieces of work.
-fn best(n: usize, mut work: impl FnMut() -> u64) -> f64 {
-    let mut least = f64::MAX;
-    for _ in 0..9 {
-        let start = Instant::now();
-        black_box(work());
-        least = least.min(start.elapsed().as_nanos() as f64 / n as f64);
-    }
-    least
+/// Nanoseconds for each of `n` pieces of work.
+fn best(n: usize, work: impl FnMut() -> u64) -> f64 {
+    best_time(work).as_nanos() as f64 / n as f64
 }
 
 fn main() {

@@ -1,6 +1,6 @@
 //! A trade's record.
 
-use crate::layout::layout;
+use crate::layout::{layout, Layout};
 use std::ops::RangeInclusive;
 
 pub const OUTRIGHT: u8 = 1;
@@ -21,12 +21,18 @@ pub const INDEXED_COUPONS: u8 = 3;
 pub const RECORD: usize = 56;
 
 layout! {
+    /// The 56 bytes of a record by their names. A field that the trade does
+    /// not use is 0.
     Record of 56 {
+        /// 1 outright, 2 pool repo, 3 specified repo.
         kind: u8 = 0,
+        /// 1 buyer or repo member, 2 seller or reverse-repo member.
         side: u8 = 1,
+        /// 0 for an outright, 1 to 3 for a pool repo, 1 to 2 for a specified one.
         phase: u8 = 2,
         security_curve: u8 = 3,
         cash_curve: u8 = 4,
+        /// 0 none, 1 single payment, 2 coupons, 3 indexed coupons.
         security: u8 = 5,
         /// Bytes 6-7, always due to be 0.
         zero: u16 = 6,
@@ -44,6 +50,18 @@ layout! {
         accrued: u32 = 44,
         settlement_index: u32 = 48,
         issue_index: u32 = 52,
+    }
+}
+
+impl From<[u8; RECORD]> for Record {
+    fn from(bytes: [u8; RECORD]) -> Self {
+        Record::decode(&bytes)
+    }
+}
+
+impl From<Record> for [u8; RECORD] {
+    fn from(record: Record) -> Self {
+        record.to_bytes()
     }
 }
 

@@ -1,6 +1,7 @@
-//! The blocks of a book, and the report.
+//! The blocks of a book.
 
 use crate::layout::{layout, Layout};
+use crate::limits::FULL_BLOCK;
 use crate::record::Record;
 
 pub const BLOCK: usize = 512;
@@ -8,10 +9,6 @@ pub const BLOCK: usize = 512;
 pub const HEADER: u8 = 1;
 pub const CURVE: u8 = 2;
 pub const TRADES: u8 = 3;
-pub const REPORT: u8 = 9;
-
-/// Names of currencies 1, 2 and 3.
-pub const CURRENCIES: [&str; 3] = ["TRY", "USD", "EUR"];
 
 layout! {
     /// What every block has.
@@ -86,36 +83,6 @@ impl TradeBlock {
     }
 }
 
-layout! {
-    /// A curve's figures; currency 0 where there is no curve.
-    CurveFigures of 32 {
-        base: i64 = 0,
-        worst_loss: i64 = 8,
-        scenario: u32 = 16,
-        currency: u32 = 20,
-        tolerance: u64 = 24,
-    }
-}
-
-layout! {
-    CurrencyFigures of 24 {
-        initial: i64 = 0,
-        variation: i64 = 8,
-        total: i64 = 16,
-    }
-}
-
-layout! {
-    Report of 512 {
-        kind: u8 = 0,
-        number: u16 = 2,
-        account: u32 = 4,
-        curves: [CurveFigures; 8] = 8,
-        currencies: [CurrencyFigures; 3] = 264,
-        check: u32 = 508,
-    }
-}
-
 /// The check that a block's first 127 words call for.
 pub fn check_of(block: &[u8]) -> u32 {
     block[..BLOCK - u32::SIZE]
@@ -133,4 +100,33 @@ pub fn sealed<T: Layout>(content: &T) -> [u8; BLOCK] {
     let mut block = content.to_bytes();
     seal(&mut block);
     block
+}
+
+/// The bytes of a book with these parts, whether or not they keep the rules.
+pub fn assemble(account: u32, curves: &[Curve], trades: &[Record]) -> Vec<u8> {
+    let header = Header {
+        kind: HEADER,
+        account,
+        curves: curves.len() as u16,
+        trade_blocks: trades.len().div_ceil(FULL_BLOCK) as u16,
+        ..Header::default()
+    };
+    let mut bytes = sealed(&header).to_vec();
+    for curve in curves {
+        bytes.extend(sealed(curve));
+    }
+    let first = 1 + curves.len();
+    for (number, trades) in (first..).zip(trades.chunks(FULL_BLOCK)) {
+        bytes.extend(sealed(&TradeBlock::new(trades, number)));
+    }
+    bytes
+}
+
+/// The trades of an accepted book's bytes, in order.
+pub fn trades(book: &[u8]) -> impl Iterator<Item = Record> + '_ {
+    let first = 1 + usize::from(Header::decode(book).curves);
+    book.chunks(BLOCK).skip(first).flat_map(|block| {
+        let block = TradeBlock::decode(block);
+        block.places.into_iter().take(block.count.into())
+    })
 }

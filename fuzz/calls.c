@@ -1,0 +1,187 @@
+/*
+ * The six calls on any bytes. An input is a head of 96 bytes, then the lent
+ * bytes. Whatever a call promises of the lent bytes is looked at after it.
+ */
+#include "lent.h"
+#include "seddolki.h"
+
+#include <stdio.h>
+#include <stdlib.h>
+#include <string.h>
+
+enum { HEAD = 96 };
+
+/* What an input asks for. */
+typedef struct {
+    uint32_t behind; /* lent bytes that the book does not use */
+    uint32_t position;
+    uint64_t amount, rate, day;
+    uint8_t record[SEDDOLKI_RECORD];
+    uint32_t report_len;
+    const uint8_t *lent;
+    size_t len, used;
+} input;
+
+/* libFuzzer keeps an input that raises one of these: a counter for each call, ground and block. */
+__attribute__((section("__libfuzzer_extra_counters"))) static uint8_t reached[6][17][16];
+
+/* The same over all inputs, without blocks. */
+static uint8_t ever[6][17];
+
+__attribute__((destructor)) static void print_ever(void) {
+    static const char *calls[] = {"check", "margin", "append", "strike", "read", "present value"};
+    for (int call = 0; call < 6; call++) {
+        fprintf(stderr, "%s answered", calls[call]);
+        for (int number = 0; number < 17; number++)
+            if (ever[call][number]) fprintf(stderr, " %d", number);
+        fprintf(stderr, "\n");
+    }
+}
+
+static void expect(int holds, const char *promise) {
+    if (holds) return;
+    fprintf(stderr, "broken: %s\n", promise);
+    abort();
+}
+
+static seddolki_answer seen(int call, seddolki_answer answer) {
+    expect(answer.number <= 16, "a number is 0 to 16");
+    int names_block = answer.number >= SEDDOLKI_CHECK && answer.number <= SEDDOLKI_FLOW_LIMIT;
+    expect(answer.number == 0 || names_block || answer.value == 0, "grounds 1 and 13 on: block 0");
+    expect(!names_block || answer.value <= 128, "a block is 0 to 128");
+    reached[call][answer.number][answer.number ? answer.value % 16 : 0] = 1;
+    ever[call][answer.number] = 1;
+    return answer;
+}
+
+static int same(seddolki_answer a, seddolki_answer b) {
+    return a.number == b.number && a.value == b.value;
+}
+
+static int all_zero(const uint8_t *bytes, size_t len) {
+    for (size_t i = 0; i < len; i++)
+        if (bytes[i]) return 0;
+    return 1;
+}
+
+static size_t field(const uint8_t *bytes) { return bytes[0] | (size_t)bytes[1] << 8; }
+
+/* Whether an accepted book's flows times scenarios are few. */
+static int is_quick(const uint8_t *book, size_t used) {
+    size_t curves = field(book + 8), flows = 0, scenarios = 0;
+    for (size_t i = 1; i <= curves; i++) {
+        const uint8_t *steps = book + i * SEDDOLKI_BLOCK + 7;
+        scenarios += (2 * steps[0] + 1) * (2 * steps[1] + 1) * (2 * steps[2] + 1);
+    }
+    for (size_t at = (1 + curves) * SEDDOLKI_BLOCK; at < used; at += SEDDOLKI_BLOCK)
+        for (size_t j = 0; j < book[at + 1]; j++)
+            flows += 2 + field(book + at + 4 + j * SEDDOLKI_RECORD + 16);
+    return flows * scenarios < 20000;
+}
+
+static void try_margin(const input *in, seddolki_answer checked) {
+    uint8_t *book = lend(0, in->lent, in->len);
+    if (checked.number == 0 && !is_quick(book, in->used)) return;
+    uint8_t before[2048];
+    memset(before, 0xa5, in->report_len);
+    uint8_t *report = lend(1, before, in->report_len);
+    seddolki_answer answer =
+        seen(1, seddolki_margin(book, in->len, in->used, report, in->report_len));
+    expect(!memcmp(book, in->lent, in->len), "margin leaves the book");
+    expect(!checked.number || same(answer, checked), "margin refuses what check refuses");
+    if (answer.number) {
+        expect(!memcmp(report, before, in->report_len), "a refused margin writes nothing");
+        return;
+    }
+    expect(report[0] == 9 && !memcmp(report + 4, book + 4, 4), "a report has its head");
+    uint32_t check = block_check(report);
+    for (int i = 0; i < 4; i++)
+        expect(report[508 + i] == (uint8_t)(check >> 8 * i), "a report has its check");
+    expect(!memcmp(report + SEDDOLKI_BLOCK, before, in->report_len - SEDDOLKI_BLOCK),
+           "bytes past the report stay");
+}
+
+static void try_read(const input *in, seddolki_answer checked) {
+    uint8_t *book = lend(0, in->lent, in->len);
+    uint8_t *record = lend(1, in->record, SEDDOLKI_RECORD);
+    seddolki_answer answer = seen(4, seddolki_read(book, in->len, in->used, in->position, record));
+    expect(!memcmp(book, in->lent, in->len), "read leaves the book");
+    expect(!checked.number || same(answer, checked), "read refuses what check refuses");
+    expect(!answer.number || all_zero(record, SEDDOLKI_RECORD), "a refused read gives zeros");
+}
+
+static void try_append(const input *in, seddolki_answer checked) {
+    uint8_t *book = lend(0, in->lent, in->len);
+    uint8_t *record = lend(1, in->record, SEDDOLKI_RECORD);
+    seddolki_answer answer = seen(2, seddolki_append(book, in->len, in->used, record));
+    expect(!memcmp(record, in->record, SEDDOLKI_RECORD), "append leaves the record");
+    expect(!checked.number || same(answer, checked), "append refuses what check refuses");
+    if (answer.number) {
+        expect(!memcmp(book, in->lent, in->len), "a refused append writes nothing");
+        return;
+    }
+    size_t used = answer.value;
+    expect(used == in->used || used == in->used + SEDDOLKI_BLOCK, "append adds at most a block");
+    expect(!memcmp(book + used, in->lent + used, in->len - used), "bytes behind stay");
+    expect(seddolki_check(book, in->len, used).number == 0, "an appended book is accepted");
+    size_t blocks = field(book + 10);
+    size_t last = (blocks - 1) * 9 + book[used - SEDDOLKI_BLOCK + 1] - 1;
+    uint8_t *again = lend(2, in->record, SEDDOLKI_RECORD);
+    memset(again, 0, SEDDOLKI_RECORD);
+    expect(seddolki_read(book, in->len, used, last, again).number == 0, "a new record is read");
+    expect(!memcmp(again, in->record, SEDDOLKI_RECORD), "a new record is the one given");
+    seddolki_answer struck = seddolki_strike(book, in->len, used, last);
+    expect(struck.number == 0 && struck.value == in->used, "a new record is struck");
+    expect(!memcmp(book, in->lent, in->used), "append and strike cancel");
+}
+
+static void try_strike(const input *in, seddolki_answer checked) {
+    uint8_t *book = lend(0, in->lent, in->len);
+    seddolki_answer answer = seen(3, seddolki_strike(book, in->len, in->used, in->position));
+    expect(!checked.number || same(answer, checked), "strike refuses what check refuses");
+    if (answer.number) {
+        expect(!memcmp(book, in->lent, in->len), "a refused strike writes nothing");
+        return;
+    }
+    size_t used = answer.value;
+    expect(used == in->used || used + SEDDOLKI_BLOCK == in->used, "strike frees at most a block");
+    expect(all_zero(book + used, in->used - used), "a block left empty becomes zeros");
+    expect(!memcmp(book + in->used, in->lent + in->used, in->len - in->used), "bytes behind stay");
+    expect(seddolki_check(book, in->len, used).number == 0, "a struck book is accepted");
+}
+
+static void try_present_value(const input *in) {
+    uint64_t tolerance = 7;
+    seddolki_answer answer =
+        seen(5, seddolki_present_value(in->amount, in->rate, in->day, &tolerance));
+    expect(!answer.number || tolerance == 0, "a refused present value has tolerance 0");
+    expect(answer.number || answer.value <= in->amount, "a present value is at most the amount");
+}
+
+static input parse(const uint8_t *data, size_t size) {
+    input in = {.lent = data + HEAD, .len = size - HEAD};
+    memcpy(&in.behind, data, 4);
+    memcpy(&in.position, data + 4, 4);
+    memcpy(&in.amount, data + 8, 8);
+    memcpy(&in.rate, data + 16, 8);
+    memcpy(&in.day, data + 24, 8);
+    memcpy(in.record, data + 32, SEDDOLKI_RECORD);
+    in.report_len = 512 + (data[88] | (uint32_t)(data[89] & 3) << 8) - (data[90] & 1) * 512;
+    in.used = in.len - in.behind;
+    return in;
+}
+
+int LLVMFuzzerTestOneInput(const uint8_t *data, size_t size) {
+    if (size < HEAD || size > LENT_MOST) return 0;
+    input in = parse(data, size);
+    uint8_t *book = lend(0, in.lent, in.len);
+    seddolki_answer checked = seen(0, seddolki_check(book, in.len, in.used));
+    expect(!memcmp(book, in.lent, in.len), "check leaves the book");
+    expect(checked.number || checked.value == 0, "an accepted book has value 0");
+    try_margin(&in, checked);
+    try_read(&in, checked);
+    try_append(&in, checked);
+    try_strike(&in, checked);
+    try_present_value(&in);
+    return 0;
+}

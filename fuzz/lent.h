@@ -1,0 +1,17 @@
+/* Bytes lent to a call, with a page behind them that nothing may touch. */
+#ifndef LENT_H
+#define LENT_H
+
+#include <stddef.h>
+#include <stdint.h>
+
+/* Most bytes that are lent at once. */
+#define LENT_MOST (1 << 20)
+
+/* Copies bytes to the end of one of four places and gives where they start. */
+uint8_t *lend(int place, const uint8_t *bytes, size_t len);
+
+/* The check that a block's first 127 words call for. */
+uint32_t block_check(const uint8_t *block);
+
+#endif

@@ -1,0 +1,95 @@
+//! Books to take times on, the same on every machine.
+
+use crate::draw::Draw;
+use crate::record::draw_record;
+use seddolki_model::accept::Book;
+use seddolki_model::block::{Curve, Node, CURVE};
+use seddolki_model::limits::{FULL_BLOCK, MAX_BLOCKS, MAX_CURRENCIES, MAX_STEPS, PAYMENTS};
+use seddolki_model::record::{Record, COUPONS, FIRST_SIDE, OUTRIGHT, SECOND_SIDE};
+
+const NODE_DAYS: [u16; 10] = [1, 30, 91, 182, 365, 730, 1_095, 1_825, 3_650, 7_300];
+
+/// One curve and a few trades.
+pub fn small_book() -> Book {
+    mixed_book(1, 5)
+}
+
+/// A curve for each currency, and trades of every kind.
+pub fn typical_book() -> Book {
+    mixed_book(3, 200)
+}
+
+/// As many blocks as a book can have, and as many payments as a trade can.
+pub fn full_book() -> Book {
+    let mut draw = Draw::new(8);
+    let curves = curves(&mut draw, 8);
+    let count = (MAX_BLOCKS - 1 - curves.len()) * FULL_BLOCK;
+    let trades = (0..count).map(|_| bond(&mut draw, &curves)).collect();
+    book(curves, trades)
+}
+
+fn book(curves: Vec<Curve>, trades: Vec<Record>) -> Book {
+    Book {
+        account: 42,
+        curves,
+        trades,
+    }
+}
+
+fn mixed_book(curve_count: u8, trade_count: usize) -> Book {
+    let mut draw = Draw::new(curve_count.into());
+    let curves = curves(&mut draw, curve_count);
+    let trades = (0..trade_count)
+        .map(|_| draw_record(&mut draw, &curves, 20))
+        .collect();
+    book(curves, trades)
+}
+
+/// Curves around 13%, each with all scenarios: its level, slope and bend.
+fn curves(draw: &mut Draw, count: u8) -> Vec<Curve> {
+    (1..=count).map(|id| curve(draw, id)).collect()
+}
+
+fn curve(draw: &mut Draw, id: u8) -> Curve {
+    let mut curve = Curve {
+        kind: CURVE,
+        number: id.into(),
+        id,
+        currency: (id - 1) % MAX_CURRENCIES as u8 + 1,
+        node_count: NODE_DAYS.len() as u8,
+        steps: [MAX_STEPS; 3],
+        ranges: [150, 100, 100],
+        ..Curve::default()
+    };
+    for ((place, day), i) in curve.places.iter_mut().zip(NODE_DAYS).zip(0..) {
+        *place = Node {
+            day,
+            rate: draw.within(123_000..=142_000) as u32,
+            components: [20_000, 3_000 * i - 15_000, 800 * i],
+        };
+    }
+    curve
+}
+
+/// A bond bought or sold, with as many coupons as there can be.
+fn bond(draw: &mut Draw, curves: &[Curve]) -> Record {
+    let security = draw.pick(curves);
+    let same = |curve: &&Curve| curve.currency == security.currency;
+    let cash: Vec<Curve> = curves.iter().filter(same).copied().collect();
+    Record {
+        kind: OUTRIGHT,
+        side: draw.pick(&[FIRST_SIDE, SECOND_SIDE]),
+        security: COUPONS,
+        security_curve: security.id,
+        cash_curve: draw.pick(&cash).id,
+        value_day_1: draw.within(1..=2) as u16,
+        first_payment_day: draw.within(3..=60) as u16,
+        period: draw.within(60..=80) as u16,
+        payments: *PAYMENTS.end(),
+        coupon: 30_000,
+        nominal: draw.within(100_000_000..=10_000_000_000),
+        price_or_rate: draw.within(920_000..=1_050_000) as u32,
+        accrued: draw.within(0..=40_000) as u32,
+        ..Record::default()
+    }
+}

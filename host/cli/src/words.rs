@@ -1,0 +1,125 @@
+//! Trades and their cash flows in plain words.
+
+use crate::decimal::{format as decimal, MONEY, PERCENT};
+use seddolki::Record;
+use seddolki_format::record::{COUPONS, FIRST_SIDE, INDEXED_COUPONS, POOL, SINGLE_PAYMENT};
+use seddolki_model::flows::{cash_flows, signs_of, CashFlow};
+
+/// A number of things.
+pub fn count(number: usize, thing: &str) -> String {
+    let plural = if number == 1 { "" } else { "s" };
+    let number = decimal(number as u64, 0);
+    format!("{number} {thing}{plural}")
+}
+
+fn money(amount: u64) -> String {
+    decimal(amount, MONEY)
+}
+
+fn percent(rate: u32) -> String {
+    decimal(rate, PERCENT) + "%"
+}
+
+fn day(day: u16) -> String {
+    decimal(day, 0)
+}
+
+/// A trade in one sentence.
+pub fn trade(record: &Record) -> String {
+    if record.is_repo() {
+        repo(record)
+    } else {
+        outright(record)
+    }
+}
+
+fn outright(record: &Record) -> String {
+    let verb = if record.side == FIRST_SIDE {
+        "buys"
+    } else {
+        "sells"
+    };
+    format!(
+        "{verb} {}, at {} clean and {} accrued, value day {}",
+        security(record),
+        percent(record.price_or_rate),
+        percent(record.accrued),
+        day(record.value_day_1)
+    )
+}
+
+fn repo(record: &Record) -> String {
+    let member = if record.side == FIRST_SIDE {
+        "repo member"
+    } else {
+        "reverse-repo member"
+    };
+    let kind = if record.kind == POOL {
+        "pool"
+    } else {
+        "specified"
+    };
+    let days = if record.first_leg_settled() {
+        format!(
+            "first leg settled, second leg on day {}",
+            day(record.value_day_2)
+        )
+    } else {
+        let (first, second) = (day(record.value_day_1), day(record.value_day_2));
+        format!("from day {first} to day {second}")
+    };
+    let against = if record.has_security() {
+        format!(", against {}", security(record))
+    } else {
+        String::new()
+    };
+    format!(
+        "{member} in a {kind} repo, phase {}: cash {} at {} for {}, {days}{against}",
+        record.phase,
+        money(record.repo_cash),
+        percent(record.price_or_rate),
+        count(record.term.into(), "day"),
+    )
+}
+
+fn security(record: &Record) -> String {
+    let nominal = money(record.nominal);
+    let coupons = || {
+        format!(
+            "{nominal} nominal with {} of {} each {} from day {}",
+            count(record.payments.into(), "coupon"),
+            percent(record.coupon),
+            count(record.period.into(), "day"),
+            day(record.first_payment_day)
+        )
+    };
+    match record.security {
+        SINGLE_PAYMENT => format!("{nominal} paid on day {}", day(record.first_payment_day)),
+        COUPONS => coupons(),
+        INDEXED_COUPONS => format!(
+            "{}, index {} over {}",
+            coupons(),
+            decimal(record.settlement_index, 0),
+            decimal(record.issue_index, 0)
+        ),
+        _ => String::from("no security"),
+    }
+}
+
+/// The dated cash flows of a trade, each with what it is.
+pub fn named_flows(record: &Record) -> Vec<(CashFlow, &'static str)> {
+    let mut names = vec![];
+    if let Some(signs) = signs_of(record) {
+        let first = if record.is_repo() {
+            "repo cash, first leg"
+        } else {
+            "settlement cash"
+        };
+        names.extend((signs.first_leg != 0).then_some(first));
+        let second = "repo cash and interest, second leg";
+        names.extend((signs.second_leg != 0).then_some(second));
+    }
+    let payments = std::iter::repeat("payment of the security");
+    let names = names.into_iter().chain(payments);
+    cash_flows(record).into_iter().zip(names).collect()
+}

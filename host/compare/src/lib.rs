@@ -1,0 +1,16 @@
+//! The proved engine beside its second implementation.
+//!
+//! How many random books and calls are compared, and which, is set by the
+//! environment: `SEDDOLKI_BOOKS`, `SEDDOLKI_CALLS` and `SEDDOLKI_SEED`. A run
+//! that is not shorter than the default one has to reach every ground of
+//! refusal and every form of trade.
+
+#![forbid(unsafe_code)]
+
+mod proved;
+mod settings;
+mod unlike;
+
+pub use proved::Proved;
+pub use settings::{books, calls, is_whole, Seeds};
+pub use unlike::assert_alike;

@@ -1,0 +1,34 @@
+//! The engine of the archive, as the random cases call it.
+
+use seddolki::{lent, Answer};
+use seddolki_books::Engine;
+use seddolki_model::record::RECORD;
+
+/// The proved engine.
+pub struct Proved;
+
+impl Engine for Proved {
+    fn check(&self, book: &[u8], used: usize) -> Answer {
+        lent::check(book, used)
+    }
+
+    fn margin(&self, book: &[u8], used: usize, report: &mut [u8]) -> Answer {
+        lent::margin(book, used, report)
+    }
+
+    fn append(&self, book: &mut [u8], used: usize, record: &[u8; RECORD]) -> Answer {
+        lent::append(book, used, record)
+    }
+
+    fn strike(&self, book: &mut [u8], used: usize, position: usize) -> Answer {
+        lent::strike(book, used, position)
+    }
+
+    fn read(&self, book: &[u8], used: usize, position: usize, record: &mut [u8; RECORD]) -> Answer {
+        lent::read(book, used, position, record)
+    }
+
+    fn present_value(&self, amount: u64, rate: u64, day: u64, tolerance: &mut u64) -> Answer {
+        lent::present_value(amount, rate, day, tolerance)
+    }
+}

@@ -1,0 +1,176 @@
+//! Whole books, and the same books spoiled for every ground.
+
+use seddolki_books::{
+    assemble, assert_demand_3, book_grounds, damage_book, draw_book, small_book, typical_book,
+    Call, Case, Draw,
+};
+use seddolki_compare::{assert_alike, books, is_whole, Proved, Seeds};
+use seddolki_model::accept::Book;
+use seddolki_model::block::{Node, BLOCK};
+use seddolki_model::flows::{cash_flows, signs_of, TABLE};
+use seddolki_model::layout::Layout;
+use seddolki_model::limits::{MAX_AMOUNT, MAX_BLOCKS, MAX_DAY, MAX_RATE, MAX_STEPS, NODES};
+use seddolki_model::record::Record;
+use seddolki_model::report::Report;
+use seddolki_model::Ground;
+use std::collections::{BTreeMap, BTreeSet};
+
+/// Bounds the time of a margin.
+const WORK: usize = 2_000;
+
+fn case(bytes: Vec<u8>, call: Call) -> Case {
+    Case {
+        used: bytes.len(),
+        lent: bytes,
+        call,
+    }
+}
+
+fn margin_case(draw: &mut Draw, bytes: Vec<u8>) -> Case {
+    let behind = draw.place(9);
+    let report = draw.bytes(BLOCK + behind);
+    case(bytes, Call::Margin { report })
+}
+
+/// What the books of a run have had in them.
+#[derive(Default)]
+struct Reached {
+    /// Kind, phase, side and security.
+    forms: BTreeSet<(u8, u8, u8, u8)>,
+    /// Kind, phase and side, with as many flows other than 0 as the table
+    /// gives legs.
+    with_flows: BTreeSet<(u8, u8, u8)>,
+    boundaries: BTreeSet<&'static str>,
+}
+
+impl Reached {
+    fn add(&mut self, book: &Book) {
+        for trade in &book.trades {
+            self.forms
+                .insert((trade.kind, trade.phase, trade.side, trade.security));
+            self.add_flows(trade);
+        }
+        let blocks = assemble(book).len() / BLOCK;
+        self.reach("128 blocks", blocks == MAX_BLOCKS);
+        self.reach("no trade", book.trades.is_empty());
+        self.reach("8 curves", book.curves.len() == 8);
+        for curve in &book.curves {
+            let has_flows = !book.flows_on(curve).is_empty();
+            self.reach("343 scenarios", curve.steps == [MAX_STEPS; 3] && has_flows);
+            self.reach("one scenario", curve.steps == [0; 3] && has_flows);
+            self.add_nodes(curve.nodes());
+        }
+    }
+
+    fn add_nodes(&mut self, nodes: &[Node]) {
+        let any = |rate: u64| nodes.iter().any(|node| u64::from(node.rate) == rate);
+        self.reach("rate of 0", any(0));
+        self.reach("largest rate", any(MAX_RATE));
+        self.reach("fewest nodes", nodes.len() == usize::from(*NODES.start()));
+        self.reach("most nodes", nodes.len() == usize::from(*NODES.end()));
+    }
+
+    fn add_flows(&mut self, trade: &Record) {
+        let flows = cash_flows(trade);
+        let signs = signs_of(trade).expect("the book was accepted");
+        let legs = [signs.first_leg, signs.second_leg, signs.payments];
+        let given = legs.iter().filter(|&&sign| sign != 0).count();
+        if flows.iter().filter(|flow| flow.amount != 0).count() >= given {
+            self.with_flows
+                .insert((trade.kind, trade.phase, trade.side));
+        }
+        let any = |amount: u128| flows.iter().any(|flow| flow.amount == amount);
+        self.reach("largest flow", any(MAX_AMOUNT.into()));
+        self.reach("flow of 0", any(0));
+        self.reach("last day", flows.iter().any(|flow| flow.day == MAX_DAY));
+        self.reach("today", flows.iter().any(|flow| flow.day == 0));
+    }
+
+    fn reach(&mut self, boundary: &'static str, reached: bool) {
+        if reached {
+            self.boundaries.insert(boundary);
+        }
+    }
+
+    fn assert_all(&self) {
+        for (kind, phase, side, _) in TABLE {
+            assert!(self.with_flows.contains(&(kind, phase, side)));
+            let trade = Record {
+                kind,
+                phase,
+                side,
+                ..Record::default()
+            };
+            for security in trade.securities() {
+                assert!(self.forms.contains(&(kind, phase, side, security)));
+            }
+        }
+        assert_eq!(self.boundaries.len(), 13, "{:?}", self.boundaries);
+    }
+}
+
+#[test]
+fn margins_are_the_same_on_books_that_reach_every_form_and_boundary() {
+    let seeds = Seeds::of_this_run();
+    let mut reached = Reached::default();
+    for number in 0..books() {
+        let mut draw = seeds.draw(number);
+        let book = draw_book(&mut draw, WORK);
+        let outcome = assert_alike(&margin_case(&mut draw, assemble(&book)), number);
+        assert_eq!(outcome.answer.number, 0);
+        reached.add(&book);
+    }
+    if is_whole() {
+        reached.assert_all();
+    }
+}
+
+#[test]
+fn margins_are_the_same_on_the_books_that_times_are_taken_on() {
+    let mut draw = Draw::new(1);
+    for (number, book) in (1..).zip([small_book(), typical_book()]) {
+        let outcome = assert_alike(&margin_case(&mut draw, assemble(&book)), number);
+        assert_eq!(outcome.answer.number, 0);
+    }
+}
+
+#[test]
+fn spoiled_books_are_refused_by_the_ground_they_were_spoiled_for() {
+    let seeds = Seeds::of_this_run();
+    let mut refused: BTreeMap<Ground, u64> = BTreeMap::new();
+    for number in 0..books() {
+        let mut draw = seeds.draw(number);
+        let book = draw_book(&mut draw, WORK);
+        let ground = draw.pick(book_grounds());
+        let Some((bytes, block)) = damage_book(&mut draw, &book, ground) else {
+            continue;
+        };
+        for case in [
+            case(bytes.clone(), Call::Check),
+            margin_case(&mut draw, bytes),
+        ] {
+            let outcome = assert_alike(&case, number);
+            assert_eq!(outcome.answer, Err(ground.in_block(block)).into());
+        }
+        *refused.entry(ground).or_default() += 1;
+    }
+    println!("{refused:?}");
+    for ground in book_grounds() {
+        assert!(!is_whole() || refused.contains_key(ground), "{ground:?}");
+    }
+}
+
+#[test]
+fn reports_keep_demand_3() {
+    let seeds = Seeds::of_this_run();
+    for number in 0..books() / 20 {
+        println!("book {number}");
+        let mut draw = seeds.draw(number);
+        let book = draw_book(&mut draw, 5 * WORK);
+        let after = margin_case(&mut draw, assemble(&book)).run(&Proved).after;
+        let Call::Margin { report } = after.call else {
+            unreachable!("a margin was asked for");
+        };
+        assert_demand_3(&book, &Report::decode(&report));
+    }
+}

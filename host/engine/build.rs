@@ -1,0 +1,5 @@
+include!("../link.rs");
+
+fn main() {
+    link("seddolki");
+}

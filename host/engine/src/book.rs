@@ -1,0 +1,135 @@
+//! A book that owns its bytes.
+
+use crate::ffi;
+use seddolki_format::block::{trades, BLOCK};
+use seddolki_format::layout::Layout;
+use seddolki_format::record::RECORD;
+use seddolki_format::{Answer, Record, Refusal, Report};
+
+/// The bytes of a book, and how many of them it uses.
+///
+/// Any bytes can be held. Each call looks at all of them first and is
+/// refused, nothing changed, where a rule is broken. An append or a strike
+/// leaves an accepted book accepted.
+///
+/// ```
+/// use seddolki::{Book, Record};
+/// # let bytes = include_bytes!("../../../examples/buyer.book");
+///
+/// let mut book = Book::from_bytes(bytes.to_vec());
+/// book.check()?;
+///
+/// let trade = book.read(0)?;
+/// let position = book.append(&Record { side: 2, ..trade })?;
+/// assert_eq!(position, 1);
+/// assert_eq!(book.records()?.count(), 2);
+///
+/// book.strike(position)?;
+/// assert_eq!(book.as_bytes(), bytes);
+/// # Ok::<(), seddolki::Refusal>(())
+/// ```
+#[derive(Clone, Debug)]
+pub struct Book {
+    bytes: Vec<u8>,
+    used: usize,
+}
+
+impl Book {
+    /// Holds the bytes, all of them used.
+    pub fn from_bytes(bytes: impl Into<Vec<u8>>) -> Self {
+        let bytes = bytes.into();
+        let used = bytes.len();
+        Book { bytes, used }
+    }
+
+    /// The bytes that the book uses.
+    pub fn as_bytes(&self) -> &[u8] {
+        &self.bytes[..self.used]
+    }
+
+    /// Whether every rule of a book is kept.
+    ///
+    /// # Errors
+    /// Grounds 1 to 12, as for every call of a book.
+    pub fn check(&self) -> Result<(), Refusal> {
+        done(ffi::check(&self.bytes, self.used))
+    }
+
+    /// The margin of the book.
+    ///
+    /// ```
+    /// # use seddolki::Book;
+    /// # let bytes = include_bytes!("../../../examples/buyer.book");
+    /// let report = Book::from_bytes(bytes.to_vec()).margin()?;
+    /// assert_eq!(report.account, 7);
+    ///
+    /// let (id, curve) = report.present_curves().next().unwrap();
+    /// assert_eq!((id, curve.base, curve.worst_loss), (1, 10_000, 30_000));
+    ///
+    /// let (name, currency) = report.present_currencies().next().unwrap();
+    /// assert_eq!((name, currency.total), ("TRY", -20_000));
+    /// # Ok::<(), seddolki::Refusal>(())
+    /// ```
+    ///
+    /// # Errors
+    /// Grounds 1 to 12.
+    pub fn margin(&self) -> Result<Report, Refusal> {
+        let mut space = [0; BLOCK];
+        done(ffi::margin(&self.bytes, self.used, &mut space))?;
+        Ok(Report::decode(&space))
+    }
+
+    /// Adds a trade behind the last and gives its position.
+    ///
+    /// # Errors
+    /// Grounds 8 to 12 for the record, with the block that it would take; 15
+    /// where the book is full.
+    pub fn append(&mut self, record: &Record) -> Result<usize, Refusal> {
+        let room = self.used.saturating_add(BLOCK);
+        if self.bytes.len() < room {
+            self.bytes.resize(room, 0);
+        }
+        let record: [u8; RECORD] = (*record).into();
+        let answer = ffi::append(&mut self.bytes, self.used, &record);
+        self.used = used_of(answer)?;
+        Ok(trades(self.as_bytes()).count() - 1)
+    }
+
+    /// Removes the trade at a position; those behind it move up.
+    ///
+    /// # Errors
+    /// Ground 14 where no trade has that position.
+    pub fn strike(&mut self, position: usize) -> Result<(), Refusal> {
+        let answer = ffi::strike(&mut self.bytes, self.used, position);
+        self.used = used_of(answer)?;
+        Ok(())
+    }
+
+    /// The trade at a position, counted from 0.
+    ///
+    /// # Errors
+    /// Ground 14 where no trade has that position.
+    pub fn read(&self, position: usize) -> Result<Record, Refusal> {
+        let mut record = [0; RECORD];
+        let answer = ffi::read(&self.bytes, self.used, position, &mut record);
+        done(answer).map(|()| record.into())
+    }
+
+    /// All trades in the order of their positions. The book is looked at
+    /// once, and not again for each trade.
+    ///
+    /// # Errors
+    /// Grounds 1 to 12.
+    pub fn records(&self) -> Result<impl Iterator<Item = Record> + '_, Refusal> {
+        self.check()?;
+        Ok(trades(self.as_bytes()))
+    }
+}
+
+fn done(answer: Answer) -> Result<(), Refusal> {
+    Result::from(answer).map(|_| ())
+}
+
+fn used_of(answer: Answer) -> Result<usize, Refusal> {
+    Result::from(answer).map(|used| used as usize)
+}

@@ -1,0 +1,79 @@
+//! The functions of the archive, each behind a safe one.
+
+use seddolki_format::record::RECORD;
+use seddolki_format::Answer;
+
+mod archive {
+    use super::{Answer, RECORD};
+
+    unsafe extern "C" {
+        pub unsafe fn seddolki_check(book: *const u8, len: usize, used: usize) -> Answer;
+        pub unsafe fn seddolki_margin(
+            book: *const u8,
+            len: usize,
+            used: usize,
+            report: *mut u8,
+            report_len: usize,
+        ) -> Answer;
+        pub unsafe fn seddolki_append(
+            book: *mut u8,
+            len: usize,
+            used: usize,
+            record: *const [u8; RECORD],
+        ) -> Answer;
+        pub unsafe fn seddolki_strike(
+            book: *mut u8,
+            len: usize,
+            used: usize,
+            position: usize,
+        ) -> Answer;
+        pub unsafe fn seddolki_read(
+            book: *const u8,
+            len: usize,
+            used: usize,
+            position: usize,
+            record: *mut [u8; RECORD],
+        ) -> Answer;
+        pub unsafe fn seddolki_present_value(
+            amount: u64,
+            rate: u64,
+            day: u64,
+            tolerance: *mut u64,
+        ) -> Answer;
+    }
+}
+
+// SAFETY, of all below: a pointer and a length come from one slice, which is
+// borrowed mutably where the call writes; the call keeps no pointer, and takes
+// any used length and any position.
+
+/// Whether every rule of a book is kept, grounds 1 to 12.
+pub fn check(book: &[u8], used: usize) -> Answer {
+    unsafe { archive::seddolki_check(book.as_ptr(), book.len(), used) }
+}
+
+/// Fills the first 512 bytes of the report.
+pub fn margin(book: &[u8], used: usize, report: &mut [u8]) -> Answer {
+    let (space, length) = (report.as_mut_ptr(), report.len());
+    unsafe { archive::seddolki_margin(book.as_ptr(), book.len(), used, space, length) }
+}
+
+/// Adds a record behind the last; the value is the new used length.
+pub fn append(book: &mut [u8], used: usize, record: &[u8; RECORD]) -> Answer {
+    unsafe { archive::seddolki_append(book.as_mut_ptr(), book.len(), used, record) }
+}
+
+/// Removes a record; the value is the new used length.
+pub fn strike(book: &mut [u8], used: usize, position: usize) -> Answer {
+    unsafe { archive::seddolki_strike(book.as_mut_ptr(), book.len(), used, position) }
+}
+
+/// Gives the record at a position; 0 bytes if refused.
+pub fn read(book: &[u8], used: usize, position: usize, record: &mut [u8; RECORD]) -> Answer {
+    unsafe { archive::seddolki_read(book.as_ptr(), book.len(), used, position, record) }
+}
+
+/// One present value, and its tolerance; tolerance 0 if refused.
+pub fn present_value(amount: u64, rate: u64, day: u64, tolerance: &mut u64) -> Answer {
+    unsafe { archive::seddolki_present_value(amount, rate, day, tolerance) }
+}

@@ -1,0 +1,185 @@
+//! What a call answers, and the grounds of refusal.
+
+use std::error::Error;
+use std::fmt::{self, Display, Formatter};
+
+/// Number 0 is done, and the value is the result; any other number is the
+/// ground of refusal, and the value is the block.
+#[derive(Clone, Copy, Debug, PartialEq, Eq)]
+#[repr(C)]
+pub struct Answer {
+    pub number: u64,
+    pub value: u64,
+}
+
+/// The grounds, numbered as in the document.
+#[derive(Clone, Copy, Debug, PartialEq, Eq, PartialOrd, Ord)]
+pub enum Ground {
+    Length = 1,
+    Check,
+    Place,
+    Header,
+    Curve,
+    Node,
+    TradeBlock,
+    Form,
+    Days,
+    Amounts,
+    Currency,
+    FlowLimit,
+    ReportSpace,
+    Position,
+    BookSpace,
+    ValueRange,
+}
+
+impl Ground {
+    /// In the order of their numbers, from 1.
+    pub const ALL: [Ground; 16] = [
+        Ground::Length,
+        Ground::Check,
+        Ground::Place,
+        Ground::Header,
+        Ground::Curve,
+        Ground::Node,
+        Ground::TradeBlock,
+        Ground::Form,
+        Ground::Days,
+        Ground::Amounts,
+        Ground::Currency,
+        Ground::FlowLimit,
+        Ground::ReportSpace,
+        Ground::Position,
+        Ground::BookSpace,
+        Ground::ValueRange,
+    ];
+
+    /// The ground of a number; none for 0 and above 16.
+    pub fn from_number(number: u64) -> Option<Ground> {
+        let place = usize::try_from(number).ok()?.checked_sub(1)?;
+        Ground::ALL.get(place).copied()
+    }
+
+    pub fn number(self) -> u64 {
+        self as u64
+    }
+
+    /// A short name.
+    pub fn name(self) -> &'static str {
+        match self {
+            Ground::Length => "length",
+            Ground::Check => "check",
+            Ground::Place => "place",
+            Ground::Header => "header",
+            Ground::Curve => "curve",
+            Ground::Node => "node",
+            Ground::TradeBlock => "trade block",
+            Ground::Form => "form",
+            Ground::Days => "days",
+            Ground::Amounts => "amounts",
+            Ground::Currency => "currency",
+            Ground::FlowLimit => "flow limit",
+            Ground::ReportSpace => "report space",
+            Ground::Position => "position",
+            Ground::BookSpace => "book space",
+            Ground::ValueRange => "value range",
+        }
+    }
+
+    /// What holds where this ground answers.
+    pub fn sentence(self) -> &'static str {
+        match self {
+            Ground::Length => {
+                "the used length is 0, no multiple of 512, above 65,536 or above the lent length"
+            }
+            Ground::Check => "the check of the block differs from its bytes",
+            Ground::Place => "the kind or number of the block is not the one its place calls for",
+            Ground::Header => "a header count or a header byte due to be 0 is wrong",
+            Ground::Curve => {
+                "a curve's id, currency, node count, steps, range or a byte due to be 0 is wrong"
+            }
+            Ground::Node => "a node's day, order, rate or component is out of limits",
+            Ground::TradeBlock => "a trade count or a byte behind the records is wrong",
+            Ground::Form => {
+                "the kind, side, phase, security or a curve id is none of those allowed together"
+            }
+            Ground::Days => {
+                "a day, period, payment count or term that the record uses breaks its rule"
+            }
+            Ground::Amounts => {
+                "an amount, price, rate, coupon, accrued or index is wrong, \
+                 or a field due to be 0 is not"
+            }
+            Ground::Currency => "the security curve and the cash curve differ in currency",
+            Ground::FlowLimit => "a cash flow of the trade exceeds 10,000,000,000.00",
+            Ground::ReportSpace => "the report space is under 512 bytes",
+            Ground::Position => "no trade has that position",
+            Ground::BookSpace => {
+                "a new block is needed, and the book has 128 or the lent bytes end too early"
+            }
+            Ground::ValueRange => {
+                "the amount exceeds 10,000,000,000.00, the rate 100% or the day 10,950"
+            }
+        }
+    }
+
+    pub fn in_block(self, block: usize) -> Refusal {
+        Refusal {
+            ground: self,
+            block,
+        }
+    }
+
+    /// For the grounds that name no block.
+    pub fn alone(self) -> Refusal {
+        self.in_block(0)
+    }
+
+    /// Whether a refusal by this ground names a block.
+    pub fn names_block(self) -> bool {
+        (Ground::Check..=Ground::FlowLimit).contains(&self)
+    }
+}
+
+/// The first ground that applies, and the block that it was found in; block
+/// 0 for a ground that names none.
+#[derive(Clone, Copy, Debug, PartialEq, Eq)]
+pub struct Refusal {
+    pub ground: Ground,
+    pub block: usize,
+}
+
+impl Display for Refusal {
+    fn fmt(&self, f: &mut Formatter<'_>) -> fmt::Result {
+        write!(f, "refused by ground {}", self.ground.number())?;
+        if self.ground.names_block() {
+            write!(f, " in block {}", self.block)?;
+        }
+        write!(f, ": {}", self.ground.sentence())
+    }
+}
+
+impl Error for Refusal {}
+
+impl From<Result<u64, Refusal>> for Answer {
+    fn from(result: Result<u64, Refusal>) -> Self {
+        match result {
+            Ok(value) => Answer { number: 0, value },
+            Err(refusal) => Answer {
+                number: refusal.ground.number(),
+                value: refusal.block as u64,
+            },
+        }
+    }
+}
+
+impl From<Answer> for Result<u64, Refusal> {
+    /// Panics on a number above 16, which no call answers.
+    fn from(answer: Answer) -> Self {
+        if answer.number == 0 {
+            return Ok(answer.value);
+        }
+        let ground = Ground::from_number(answer.number).expect("a ground has number 1 to 16");
+        Err(ground.in_block(answer.value as usize))
+    }
+}

@@ -1,0 +1,17 @@
+//! The forms of document 01: the bytes of books, records and reports, the
+//! limits of their fields, and the grounds of refusal. No rule is tested
+//! here and nothing is valued.
+
+#![forbid(unsafe_code)]
+
+pub mod answer;
+pub mod block;
+pub mod layout;
+pub mod limits;
+pub mod record;
+pub mod report;
+
+pub use answer::{Answer, Ground, Refusal};
+pub use block::assemble;
+pub use record::Record;
+pub use report::Report;
