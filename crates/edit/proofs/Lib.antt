@@ -1,0 +1,11 @@
+pub mod Joined
+pub mod Alike
+pub mod BlockLaws
+pub mod StepLaws
+pub mod Books
+pub mod Added
+pub mod Fewer
+pub mod Given
+pub mod Lent
+pub mod Theorems
+pub mod Space

@@ -1,0 +1,133 @@
+-- Ground 15 is given only where a new block is needed and none is to be had: the book's own grounds, and a record's, are 1 to 12.
+-- Assumes nothing.
+use mathlib.Core.Path.{_≡_, refl}
+use mathlib.Core.Logic.{_⊎_}
+use mathlib.Core.Bool.{Bool, true, false, cond}
+use mathlib.Core.List.{List}
+use Prim.Native.Nat.{ℕ, zero, suc, _+_, _/_, _%_, _≤_, _<_}
+use native.Mathlib.Omega.{arith}
+use lib.Dec.{eqb, leb}
+use lib.ListN.{length}
+use Rattle.laws.specs.Walk.{over}
+use Rattle.ground.specs.declared.Ground.{Ground}
+use Rattle.ground.specs.declared.Ground.the-variants.{Length, Check, Place, Header, Curve, Node, TradeBlock, Form, Days, Amounts, Currency, FlowLimit, BookSpace}
+use Rattle.ground.specs.declared.Verdict.{Verdict}
+use Rattle.ground.specs.declared.Verdict.the-variants.{Accepted, Refused}
+use Rattle.ground.specs.Number.{numberOf}
+use Rattle.ground.specs.Verdicts.{orElse, unless}
+use Rattle.layout.specs.Check.{breaksCheck, breaksPlace}
+use Rattle.curve_block.specs.Rules.{breaksCurve, breaksNode}
+use Rattle.curve_block.specs.Verdict.{curveVerdict}
+use Rattle.record.specs.declared.Curves.{Curves}
+use Rattle.record.specs.declared.Fields.{Fields}
+use Rattle.record.specs.Bytes.{fieldsOf}
+use Rattle.record.specs.Rules.{breaksForm, breaksDays, breaksAmounts, breaksCurrency}
+use Rattle.trade.specs.Read.{tradeOf}
+use Rattle.flows.specs.Legs.{breaksFlowLimit}
+use Rattle.flows.specs.Verdict.{recordVerdict}
+use Rattle.book.specs.Parts.{blockAt, curveCount, curvesOf, recordCount, recordIn, tradeCount}
+use Rattle.book.specs.Rules.{breaksLength, breaksHeader, breaksTradeBlock}
+use Rattle.book.specs.Verdict.{firstOf, bytesVerdict, headerVerdict, recordsVerdict, tradesVerdict, blockVerdict, verdict}
+use Rattle.edit.specs.declared.Edited.the-variants as edited
+use Rattle.edit.specs.Refusals.{blockOf, breaksBookSpace, newRecordVerdict, appendVerdict}
+use Rattle.edit.specs.Edits.{answerOf, appendedBook, appendAnswer}
+use Rattle.edit.proofs.Given.{no-room}
+
+-- a verdict by grounds 1 to 12
+
+abbrev numberIn : Verdict → ℕ
+numberIn Accepted = 0
+numberIn (Refused g k) = numberOf g
+
+pub record Tested (v : Verdict) : Type 0 where
+  pub low : numberIn v ≤ 12
+
+pass : Tested Accepted
+pass = record { low = omega arith }
+
+unless-tested : (broken : Bool) (g : Ground) (k : ℕ) (next : Verdict) → numberOf g ≤ 12 → Tested next → Tested (unless broken g k next)
+unless-tested true g k next h l = record { low = h }
+unless-tested false g k next h l = l
+
+orElse-tested : (v next : Verdict) → Tested v → Tested next → Tested (orElse v next)
+orElse-tested Accepted next h l = l
+orElse-tested (Refused g k) next h l = h
+
+cond-tested : (b : Bool) (v w : Verdict) → Tested v → Tested w → Tested (cond b v w)
+cond-tested true v w h l = h
+cond-tested false v w h l = l
+
+first-tested : (f : ℕ → Verdict) → ((k : ℕ) → Tested (f k)) → (i n : ℕ) → Tested (firstOf f i n)
+unfolding firstOf over
+first-tested f h i zero = pass
+first-tested f h i (suc n) = orElse-tested (f i) _ (h i) (first-tested f h (suc i) n)
+
+record-tested : (curves : Curves) (f : Fields) (k : ℕ) → Tested (recordVerdict curves f k)
+unfolding recordVerdict
+record-tested curves f k =
+    unless-tested (breaksForm curves (f .form)) Form k _ (omega arith)
+    (unless-tested (breaksDays (f .form) (f .days)) Days k _ (omega arith)
+    (unless-tested (breaksAmounts (f .form) (f .days) (f .amounts)) Amounts k _ (omega arith)
+    (unless-tested (breaksCurrency curves (f .form)) Currency k _ (omega arith)
+    (unless-tested (breaksFlowLimit (tradeOf f)) FlowLimit k Accepted (omega arith) pass))))
+
+header-tested : (b : List ℕ) (n : ℕ) → Tested (headerVerdict b n)
+unfolding headerVerdict
+header-tested b n =
+    unless-tested (breaksCheck b) Check 0 _ (omega arith)
+    (unless-tested (breaksPlace b 1 0) Place 0 _ (omega arith) (unless-tested (breaksHeader b n) Header 0 Accepted (omega arith) pass))
+
+curve-tested : (b : List ℕ) (k : ℕ) → Tested (curveVerdict b k)
+unfolding curveVerdict
+curve-tested b k =
+    unless-tested (breaksCheck b) Check k _ (omega arith)
+    (unless-tested (breaksPlace b 2 k) Place k _ (omega arith)
+    (unless-tested (breaksCurve b k) Curve k _ (omega arith) (unless-tested (breaksNode b) Node k Accepted (omega arith) pass)))
+
+trades-tested : (curves : Curves) (b : List ℕ) (k : ℕ) (last : Bool) → Tested (tradesVerdict curves b k last)
+unfolding tradesVerdict recordsVerdict
+trades-tested curves b k last =
+    unless-tested (breaksCheck b) Check k _ (omega arith)
+    (unless-tested (breaksPlace b 3 k) Place k _ (omega arith)
+    (unless-tested (breaksTradeBlock b last) TradeBlock k _ (omega arith)
+    (first-tested (λ (i : ℕ). bytesVerdict curves (recordIn b i) k) (λ i. record-tested curves (fieldsOf (recordIn b i)) k) 0 (recordCount b))))
+
+at-block : (s : List ℕ) (n k : ℕ) → Tested (blockVerdict s n k)
+unfolding blockVerdict
+at-block s n k =
+    cond-tested (eqb k 0) (headerVerdict (blockAt s 0) n) _ (header-tested (blockAt s 0) n)
+    (cond-tested (leb k (curveCount s)) (curveVerdict (blockAt s k) k) _ (curve-tested (blockAt s k) k)
+    (trades-tested (curvesOf s) (blockAt s k) k (eqb (k + 1) n)))
+
+-- the check of a book answers by 1 to 12 alone
+pub verdict-tested : (s : List ℕ) (used : ℕ) → Tested (verdict s used)
+unfolding verdict
+verdict-tested s used = unless-tested (breaksLength used (length s)) Length 0 _ (omega arith) (first-tested (blockVerdict s (used / 512)) block-tested 0 (used / 512))
+  where
+    block-tested : (k : ℕ) → Tested (blockVerdict s (used / 512) k)
+    block-tested k = at-block s (used / 512) k
+
+-- ---- 15
+
+is-space : (g : Ground) (m k : ℕ) → Refused g m ≡ Refused BookSpace k → numberOf g ≡ 15
+is-space g m k e = let z : g ≡ BookSpace = cc in rw z
+
+by-space : (v w : Verdict) (b : Bool) (k : ℕ) → Tested v → Tested w → orElse v (orElse w (unless b BookSpace 0 Accepted)) ≡ Refused BookSpace k → b ≡ true
+by-space Accepted Accepted true k h l e = refl
+by-space Accepted Accepted false k h l e = let z : _≡_ {A = ℕ} 0 1 = cc in absurd (omega arith)
+by-space Accepted (Refused g m) b k h l e = absurd (omega (arith, is-space g m k e, l .low))
+by-space (Refused g m) w b k h l e = absurd (omega (arith, is-space g m k e, h .low))
+
+answered : (v : Verdict) (n k : ℕ) → answerOf v n ≡ edited.Refused BookSpace k → v ≡ Refused BookSpace k
+answered Accepted n k e = let z : _≡_ {A = ℕ} 0 1 = cc in absurd (omega arith)
+answered (Refused g m) n k e = cc
+
+-- an append is refused by 15 only where a new block is needed, and the book has 128 or the lent bytes end before that block does
+pub append-space : (s : List ℕ) (used : ℕ) (r : List ℕ) (k : ℕ) → appendAnswer s used r ≡ edited.Refused BookSpace k
+    → (tradeCount s % 9 ≡ 0) × ((used / 512 ≡ 128) ⊎ (length s < used + 512))
+unfolding appendAnswer appendVerdict newRecordVerdict
+append-space s used r k e =
+    no-room (tradeCount s) used (length s)
+    (by-space (verdict s used) (bytesVerdict (curvesOf s) r (blockOf s (tradeCount s))) (breaksBookSpace (tradeCount s) used (length s)) k
+    (verdict-tested s used) (record-tested (curvesOf s) (fieldsOf r) (blockOf s (tradeCount s)))
+    (answered (appendVerdict s used r) (length (appendedBook s r)) k e))

@@ -1,0 +1,37 @@
+-- `edit::append` meets its contract. Assumes nothing.
+use mathlib.Core.Path.{sym, _∙_}
+use Rattle.edit.specs.Edits.{appendAnswer, appended}
+use borrow.Author.Needs.{needs}
+use Rattle.edit.proofs.append.Statement.{statement}
+use Rattle.edit.proofs.append.Tie as tie
+
+enum-told : tie.Need-enum-told
+enum-told c = search needs
+
+add-requires : tie.Need-add-requires
+add-requires c κs = sym (c .before .before .before .append-verdict .ensures) ∙ c .before .enum-told .given .1
+
+returns : tie.Need-returns
+unfolding appendAnswer appended
+returns c =
+    let e = sym (c .before .before .before .append-verdict .ensures) ∙ c .before .v .given .1 in
+    (rw e, rw e)
+
+returns-2 : tie.Need-returns-2
+unfolding appendAnswer appended
+returns-2 c =
+    let e = sym (c .before .before .before .before .before .before .append-verdict .ensures) ∙ c .before .before .before .before .enum-told .given .1 in
+    (rw (e, c .before .before .add .ensures .0), rw e (c .before .before .add .ensures .1))
+
+pub append-spec : {M : Type 1} → statement M
+append-spec =
+    tie.close
+    (tie.spec
+    (λ c κs. search needs)
+    (λ c. search needs)
+    enum-told
+    add-requires
+    (λ c. search needs)
+    returns
+    (λ c. search needs)
+    returns-2)

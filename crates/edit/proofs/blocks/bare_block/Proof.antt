@@ -1,0 +1,12 @@
+-- `edit::blocks::bare_block` meets its contract. Assumes nothing.
+use Rattle.edit.specs.Blocks.{bareBlock}
+use borrow.Author.Needs.{needs}
+use Rattle.edit.proofs.blocks.bare_block.Statement.{statement}
+use Rattle.edit.proofs.blocks.bare_block.Tie as tie
+
+returns : tie.Need-returns
+unfolding bareBlock
+returns c = c .before .put-le .ensures
+
+pub bare-block-spec : {M : Type 1} → statement M
+bare-block-spec = tie.close (tie.spec (λ c. search needs) (λ c. search needs) (λ c κs. search needs) returns)

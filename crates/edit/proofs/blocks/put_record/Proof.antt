@@ -1,0 +1,32 @@
+-- `edit::blocks::put_record` meets its contract. Assumes nothing.
+use mathlib.Core.Path.{_∙_}
+use lib.ListN.{length-set}
+use Rattle.edit.specs.Blocks.{withRecord}
+use borrow.Author.Needs.{needs}
+use Rattle.edit.proofs.blocks.put_record.Statement.{statement}
+use Rattle.edit.proofs.blocks.put_record.Tie as tie
+
+seal-requires : tie.Need-seal-requires
+seal-requires c κs = rw length-set (c .before .before .before .copy-in .kept .0 ∙ c .before .before .before .before .before .before .before .pre .0)
+
+same-length : tie.Need-same-length
+same-length c = c .before .before .seal .kept .0 ∙ rw length-set (c .before .before .before .before .before .before .copy-in .kept .0)
+
+returns : tie.Need-returns
+unfolding withRecord
+returns c = rw (c .before .before .seal .ensures, c .before .before .before .before .before .before .copy-in .ensures)
+
+pub put-record-spec : {M : Type 1} → statement M
+put-record-spec =
+    tie.close
+    (tie.spec
+    (λ c. search needs)
+    (λ c. search needs)
+    (λ c. search needs)
+    (λ c κs. search needs)
+    (λ c. search needs)
+    (λ c. search needs)
+    (λ c. search needs)
+    seal-requires
+    same-length
+    returns)

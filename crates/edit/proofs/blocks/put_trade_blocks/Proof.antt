@@ -1,0 +1,12 @@
+-- `edit::blocks::put_trade_blocks` meets its contract. Assumes nothing.
+use Rattle.edit.specs.Blocks.{withTradeBlocks}
+use borrow.Author.Needs.{needs}
+use Rattle.edit.proofs.blocks.put_trade_blocks.Statement.{statement}
+use Rattle.edit.proofs.blocks.put_trade_blocks.Tie as tie
+
+returns : tie.Need-returns
+unfolding withTradeBlocks
+returns c = rw (c .before .before .seal .ensures, c .before .before .before .before .before .before .put-le .ensures)
+
+pub put-trade-blocks-spec : {M : Type 1} → statement M
+put-trade-blocks-spec = tie.close (tie.spec (λ c κs. search needs) (λ c κs. search needs) (λ c. search needs) returns)

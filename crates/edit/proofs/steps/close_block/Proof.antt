@@ -1,0 +1,39 @@
+-- `edit::steps::close_block` meets its contract. Assumes nothing.
+use native.Mathlib.Omega.{arith}
+use native.Mathlib.Nat.{add-sub-cancel-left}
+use Rattle.edit.proofs.StepLaws.{close-left}
+use borrow.Author.Needs.{needs}
+use Rattle.edit.proofs.steps.close_block.Statement.{statement}
+use Rattle.edit.proofs.steps.close_block.Tie as tie
+
+returns : tie.Need-returns
+returns c =
+    let start = c .before .before .before .before .before .before .before .before .before .before .before in
+    rw add-sub-cancel-left
+    (close-left (start .args .book .now) (start .args .position) (start .args .left) (start .args .j) (omega (arith, start .pre, c .before .before .before .before .before .before .before .before .curve-count .ensures .0))
+    (c .before .before .before .before .before .before .before .before .curve-count .ensures .0)
+    (c .before .before .before .before .before .before .moved-up .ensures)
+    (c .before .before .before .before .before .gap-in .ensures)
+    (c .before .before .before .before .at-most-nine .ensures)
+    (rw add-sub-cancel-left at (c .before .before .close-up .ensures)))
+
+pub close-block-spec : {M : Type 1} → statement M
+close-block-spec =
+    tie.close
+    (tie.spec
+    (λ c κs. search needs)
+    (λ c. search needs)
+    (λ c. search needs)
+    (λ c. search needs)
+    (λ c κs. search needs)
+    (λ c κs. search needs)
+    (λ c. search needs)
+    (λ c. search needs)
+    (λ c κs. search needs)
+    (λ c. search needs)
+    (λ c. search needs)
+    (λ c. search needs)
+    (λ c. search needs)
+    (λ c κs. search needs)
+    (λ c. search needs)
+    returns)

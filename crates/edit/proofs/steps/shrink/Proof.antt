@@ -1,0 +1,30 @@
+-- `edit::steps::shrink` meets its contract. Assumes nothing.
+use native.Mathlib.Omega.{arith}
+use Rattle.edit.proofs.StepLaws.{shrink-left}
+use borrow.Author.Needs.{needs}
+use Rattle.edit.proofs.steps.shrink.Statement.{statement}
+use Rattle.edit.proofs.steps.shrink.Tie as tie
+
+returns : tie.Need-returns
+returns c =
+    let start = c .before .before .before .before .before .before .before .before .before .before .before .before in
+    shrink-left (start .args .book .now) (start .args .used) (omega (arith, start .pre))
+    (c .before .before .before .before .before .before .before .before .before .trade-blocks .ensures .0)
+    (c .before .before .before .before .before .before .copy-in .ensures)
+    (c .before .before .put-trade-blocks .ensures)
+
+pub shrink-spec : {M : Type 1} → statement M
+shrink-spec =
+    tie.close
+    (tie.spec
+    (λ c κs. search needs)
+    (λ c. search needs)
+    (λ c. search needs)
+    (λ c κs. search needs)
+    (λ c. search needs)
+    (λ c. search needs)
+    (λ c. search needs)
+    (λ c. search needs)
+    (λ c κs. search needs)
+    (λ c. search needs)
+    returns)

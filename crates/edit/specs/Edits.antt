@@ -1,0 +1,75 @@
+-- What a read, an append and a strike answer, and every lent byte afterwards (document 01, "Editing and smaller entries").
+-- Assumes nothing.
+use Prim.Native.Nat.{ℕ, _+_, _-_}
+use mathlib.Core.List.{List, [], _∷_, _++_}
+use lib.ListN.{length, take, drop, replicate}
+use Rattle.ground.specs.declared.Verdict.{Verdict}
+use Rattle.ground.specs.declared.Verdict.the-variants as verdict
+use Rattle.book.specs.Parts.{account, curveBlocks, recordAt, records}
+use Rattle.book.specs.Encode.{encode}
+use Rattle.edit.specs.declared.Edited.{Edited}
+use Rattle.edit.specs.declared.Edited.the-variants.{Used, Refused}
+use Rattle.edit.specs.declared.Found.{Found}
+use Rattle.edit.specs.Refusals.{positionVerdict, appendVerdict}
+
+-- "Append and strike return the new used length"
+abbrev pub answerOf : Verdict → ℕ → Edited
+answerOf verdict.Accepted used = Used used
+answerOf (verdict.Refused g k) used = Refused g k
+
+-- the used length after a call
+abbrev pub usedAfter : Edited → ℕ → ℕ
+usedAfter (Used n) used = n
+usedAfter (Refused g k) used = used
+
+-- the lent bytes where the call is not refused; "nothing lent is written" where it is
+abbrev pub bytesAfter : Verdict → List ℕ → List ℕ → List ℕ
+bytesAfter verdict.Accepted before after = after
+bytesAfter (verdict.Refused g k) before after = before
+
+-- the book with other records
+abbrev pub bookOf : List ℕ → List (List ℕ) → List ℕ
+bookOf s records = encode (account s) (curveBlocks s) records
+
+-- ---- read
+
+-- "all 0 from a refused read"
+abbrev pub recordFound : Verdict → List ℕ → List ℕ
+recordFound verdict.Accepted r = r
+recordFound (verdict.Refused g k) r = replicate 56 0
+
+-- "Read gives the record at a position from 0."
+unfoldable pub found : List ℕ → ℕ → ℕ → Found
+found s used position =
+    record { verdict = positionVerdict s used position; bytes = recordFound (positionVerdict s used position) (recordAt s position) }
+
+-- ---- append
+
+-- "Append adds a record behind the last"
+unfoldable pub appendedBook : List ℕ → List ℕ → List ℕ
+appendedBook s r = bookOf s (records s ++ r ∷ [])
+
+unfoldable pub appendAnswer : List ℕ → ℕ → List ℕ → Edited
+appendAnswer s used r = answerOf (appendVerdict s used r) (length (appendedBook s r))
+
+-- "bytes behind the book, save a new block's, stay"
+unfoldable pub appended : List ℕ → ℕ → List ℕ → List ℕ
+appended s used r = bytesAfter (appendVerdict s used r) s (appendedBook s r ++ drop (length (appendedBook s r)) s)
+
+-- ---- strike
+
+abbrev pub without : List (List ℕ) → ℕ → List (List ℕ)
+without rs position = take position rs ++ drop (position + 1) rs
+
+-- "Strike closes the gap"
+unfoldable pub struckBook : List ℕ → ℕ → List ℕ
+struckBook s position = bookOf s (without (records s) position)
+
+unfoldable pub strikeAnswer : List ℕ → ℕ → ℕ → Edited
+strikeAnswer s used position = answerOf (positionVerdict s used position) (length (struckBook s position))
+
+-- "a block left empty becomes zeros and the used length falls by 512"; bytes behind the book stay
+unfoldable pub struck : List ℕ → ℕ → ℕ → List ℕ
+struck s used position =
+    bytesAfter (positionVerdict s used position) s
+    (struckBook s position ++ replicate (used - length (struckBook s position)) 0 ++ drop used s)

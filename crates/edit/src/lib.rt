@@ -1,0 +1,103 @@
+// Reading, appending and striking records of a book. First it is decided whether a call is refused, from the bytes as they are; then it is
+// done. A refusal writes nothing.
+mod blocks;
+mod refusals;
+mod steps;
+
+use book::parts::record_at;
+use book::parts::trade_count;
+use ground::Ground;
+use ground::Verdict;
+ghost use mathlib.Core.Path.{_≡_};
+ghost use mathlib.Core.List.{_++_};
+ghost use Prim.Native.Nat.{_-_};
+ghost use lib.ListN.{length, drop, replicate};
+ghost use Rattle.ground.specs.declared.Verdict.the-variants.{Accepted};
+ghost use Rattle.edit.specs.Refusals.{positionVerdict, appendVerdict};
+ghost use Rattle.edit.specs.Edits.{found, appendedBook, appendAnswer, appended, struckBook, strikeAnswer, struck};
+
+// The answer of an append or a strike: the new used length, or the ground and the block.
+pub enum Edited {
+    Used(usize),
+    Refused(Ground, u64),
+}
+
+// The answer of a read: the verdict, and the record, all 0 where refused.
+pub struct Found {
+    pub verdict: Verdict,
+    pub bytes: [u8; 56],
+}
+
+// The record at a position from 0.
+pub fn read(book: &[u8], used: usize, position: usize) -> Found
+    ensures { λ r. ⌜ r ≡ found (now (book .entry)) used position ⌝ }
+{
+    let v = refusals::position_verdict(book, used, position);
+    match v {
+        Verdict::Refused(g, k) => Found {
+            verdict: Verdict::Refused(g, k),
+            bytes: [0u8; 56],
+        },
+        Verdict::Accepted => {
+            let bytes = record_at(book, position);
+            Found {
+                verdict: Verdict::Accepted,
+                bytes: bytes,
+            }
+        }
+    }
+}
+
+// Adds a record behind the last of a book that takes it: in the last block, or in a new one if that is full or there is none.
+fn add(book: &mut [u8], used: usize, r: [u8; 56]) -> usize
+    requires { ⌜ appendVerdict (now book) used r ≡ Accepted ⌝ }
+    ensures { λ n. ⌜ n ≡ length (appendedBook (now (book .entry)) r) ⌝ }
+    ensures { λ _. ⌜ now (book .exit) ≡ appendedBook (now (book .entry)) r ++ drop (length (appendedBook (now (book .entry)) r)) (now (book .entry)) ⌝ }
+{
+    let place = trade_count(&book[..]) % 9;
+    if place == 0 {
+        steps::grow(book, used, r);
+        return used + 512;
+    }
+    blocks::put_record(&mut book[used - 512..used], place, r);
+    used
+}
+
+// Appends a record to the book of a used length.
+pub fn append(book: &mut [u8], used: usize, r: [u8; 56]) -> Edited
+    ensures { λ a. ⌜ a ≡ appendAnswer (now (book .entry)) used r ⌝ }
+    ensures { λ _. ⌜ now (book .exit) ≡ appended (now (book .entry)) used r ⌝ }
+{
+    let v = refusals::append_verdict(&book[..], used, r);
+    match v {
+        Verdict::Refused(g, k) => Edited::Refused(g, k),
+        Verdict::Accepted => Edited::Used(add(book, used, r)),
+    }
+}
+
+// Takes the record at a position out of a book that has it.
+fn remove(book: &mut [u8], used: usize, position: usize) -> usize
+    requires { ⌜ positionVerdict (now book) used position ≡ Accepted ⌝ }
+    ensures { λ n. ⌜ n ≡ length (struckBook (now (book .entry)) position) ⌝ }
+    ensures { λ _. ⌜ now (book .exit) ≡ struckBook (now (book .entry)) position ++ replicate (used - length (struckBook (now (book .entry)) position)) 0 ++ drop used (now (book .entry)) ⌝ }
+{
+    let left = trade_count(&book[..]) - 1;
+    steps::close_gap(book, position, left);
+    if left % 9 == 0 {
+        steps::shrink(book, used);
+        return used - 512;
+    }
+    used
+}
+
+// Strikes the record at a position from the book of a used length.
+pub fn strike(book: &mut [u8], used: usize, position: usize) -> Edited
+    ensures { λ a. ⌜ a ≡ strikeAnswer (now (book .entry)) used position ⌝ }
+    ensures { λ _. ⌜ now (book .exit) ≡ struck (now (book .entry)) used position ⌝ }
+{
+    let v = refusals::position_verdict(&book[..], used, position);
+    match v {
+        Verdict::Refused(g, k) => Edited::Refused(g, k),
+        Verdict::Accepted => Edited::Used(remove(book, used, position)),
+    }
+}

@@ -1,0 +1,76 @@
+// What refuses a read, an append or a strike.
+use book::parts::curve_count;
+use book::parts::curves_of;
+use book::parts::trade_count;
+use ground::Ground;
+use ground::Verdict;
+ghost use mathlib.Core.Path.{_≡_};
+ghost use Prim.Native.Nat.{_+_, _*_, _≤_};
+ghost use lib.ListN.{length};
+ghost use Rattle.ground.specs.declared.Verdict.the-variants.{Accepted};
+ghost use Rattle.book.specs.Parts.{curveCount, tradeBlocks};
+ghost use Rattle.book.specs.Verdict.{verdict};
+ghost use Rattle.edit.specs.Refusals.{breaksPosition, breaksBookSpace, positionVerdict, newRecordVerdict, appendVerdict};
+
+// Ground 14.
+fn breaks_position(book: &[u8], position: usize) -> bool
+    requires { ⌜ (1 + curveCount (now book) + tradeBlocks (now book)) * 512 ≤ length (now book) ⌝ }
+    ensures { λ r. ⌜ r ≡ breaksPosition (now (book .entry)) position ⌝ }
+{
+    !(position < trade_count(book))
+}
+
+// Ground 15.
+fn breaks_book_space(trades: usize, used: usize, lent: usize) -> bool
+    requires { ⌜ used ≤ 65536 ⌝ }
+    ensures { λ r. ⌜ r ≡ breaksBookSpace trades used lent ⌝ }
+{
+    (trades % 9 == 0) & ((used / 512 == 128) | (lent < used + 512))
+}
+
+// A read or a strike: the book's own grounds, then 14.
+pub fn position_verdict(book: &[u8], used: usize, position: usize) -> Verdict
+    ensures { λ r. ⌜ r ≡ positionVerdict (now (book .entry)) used position ⌝ }
+{
+    let v = book::check(book, used);
+    match v {
+        Verdict::Refused(g, k) => Verdict::Refused(g, k),
+        Verdict::Accepted => {
+            if breaks_position(book, position) {
+                return Verdict::Refused(Ground::Position, 0);
+            }
+            Verdict::Accepted
+        }
+    }
+}
+
+// A new record of an accepted book: 8 to 12, of the block that it would take, then 15.
+fn new_record_verdict(book: &[u8], used: usize, r: [u8; 56]) -> Verdict
+    requires { ⌜ verdict (now book) used ≡ Accepted ⌝ }
+    ensures { λ v. ⌜ v ≡ newRecordVerdict (now (book .entry)) used r ⌝ }
+{
+    let trades = trade_count(book);
+    let number = (1 + curve_count(book) + trades / 9) as u64;
+    let f = record::bytes::fields_of(&r);
+    let v = flows::verdict::record_verdict(curves_of(book), f, number);
+    match v {
+        Verdict::Refused(g, k) => Verdict::Refused(g, k),
+        Verdict::Accepted => {
+            if breaks_book_space(trades, used, book.len()) {
+                return Verdict::Refused(Ground::BookSpace, 0);
+            }
+            Verdict::Accepted
+        }
+    }
+}
+
+// An append: the book's own grounds, then the new record's.
+pub fn append_verdict(book: &[u8], used: usize, r: [u8; 56]) -> Verdict
+    ensures { λ v. ⌜ v ≡ appendVerdict (now (book .entry)) used r ⌝ }
+{
+    let v = book::check(book, used);
+    match v {
+        Verdict::Refused(g, k) => Verdict::Refused(g, k),
+        Verdict::Accepted => new_record_verdict(book, used, r),
+    }
+}
