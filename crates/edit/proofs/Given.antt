@@ -26,14 +26,14 @@ placed s used position h =
     let q = unless-accepted (breaksPosition s position) Position 0 Accepted (p .1) in
     record { accepted = p .0; in-book = ltb-true position (tradeCount s) (not-false _ (q .0)) }
 
-pub record Welcome (s : List ℕ) (used : ℕ) (r : List ℕ) : Type 0 where
+pub record Admitted (s : List ℕ) (used : ℕ) (r : List ℕ) : Type 0 where
   pub accepted : verdict s used ≡ Accepted
   pub judged : bytesVerdict (curvesOf s) r (blockOf s (tradeCount s)) ≡ Accepted
   pub roomy : breaksBookSpace (tradeCount s) used (length s) ≡ false
 
-pub welcome : (s : List ℕ) (used : ℕ) (r : List ℕ) → appendVerdict s used r ≡ Accepted → Welcome s used r
+pub admitted : (s : List ℕ) (used : ℕ) (r : List ℕ) → appendVerdict s used r ≡ Accepted → Admitted s used r
 unfolding appendVerdict newRecordVerdict
-welcome s used r h =
+admitted s used r h =
     let p = orElse-accepted (verdict s used) _ h in
     let q = orElse-accepted (bytesVerdict (curvesOf s) r (blockOf s (tradeCount s))) _ (p .1) in
     let t = unless-accepted (breaksBookSpace (tradeCount s) used (length s)) BookSpace 0 Accepted (q .1) in

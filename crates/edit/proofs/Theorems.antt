@@ -29,7 +29,7 @@ use Rattle.edit.specs.Refusals.{blockOf, breaksPosition, positionVerdict
 use Rattle.edit.specs.Edits.{usedAfter, found, appendedBook, appendAnswer, appended, without, struckBook, strikeAnswer, struck}
 use Rattle.edit.proofs.Added.{length-more}
 use Rattle.edit.proofs.Fewer.{length-without, without-before, without-behind}
-use Rattle.edit.proofs.Given.{placed, welcome}
+use Rattle.edit.proofs.Given.{placed, admitted}
 use Rattle.edit.proofs.Lent.{encodable-more, narrower}
 
 -- ---- what a read finds, by the list of records
@@ -76,17 +76,19 @@ module _ (a : ℕ) (cs rs : List (List ℕ)) (rest : List ℕ) (fine : Encodable
   struck-start i l =
       let fewer = encode a cs (without rs i) in
       let zeros : List ℕ = replicate (size - length fewer) 0 in
-      rw (position-encoded i true (lt-ltb i (length rs) l), struck-book i, append-assoc fewer zeros (drop size book))
-      (take-at fewer (zeros ++ drop size book) (length fewer) refl)
+      let written : struck book size i ≡ struckBook book i ++ replicate (size - length (struckBook book i)) 0 ++ drop size book =
+      rw (position-encoded i true (lt-ltb i (length rs) l)) in
+      let laid : struck book size i ≡ fewer ++ (zeros ++ drop size book) = written ∙ rw (struck-book i) (append-assoc fewer zeros (drop size book)) in
+      ap (take (length fewer)) laid ∙ take-at fewer (zeros ++ drop size book) (length fewer) refl
 
 -- ---- a refused call: the bytes and the used length stay
 
-refused-append : (s : List ℕ) (used : ℕ) (r : List ℕ) (g : Ground) (k : ℕ) → appendVerdict s used r ≡ Refused g k
+pub refused-append : (s : List ℕ) (used : ℕ) (r : List ℕ) (g : Ground) (k : ℕ) → appendVerdict s used r ≡ Refused g k
     → (appended s used r ≡ s) × (usedAfter (appendAnswer s used r) used ≡ used)
 unfolding appended appendAnswer
 refused-append s used r g k e = (rw e, rw e)
 
-refused-strike : (s : List ℕ) (used p : ℕ) (g : Ground) (k : ℕ) → positionVerdict s used p ≡ Refused g k
+pub refused-strike : (s : List ℕ) (used p : ℕ) (g : Ground) (k : ℕ) → positionVerdict s used p ≡ Refused g k
     → (struck s used p ≡ s) × (usedAfter (strikeAnswer s used p) used ≡ used)
 unfolding struck strikeAnswer
 refused-strike s used p g k e = (rw e, rw e)
@@ -149,19 +151,19 @@ module _ (s : List ℕ) (used : ℕ) (bytes : AreBytes s) where
 
     module _ (ok : appendVerdict s used r ≡ Accepted) where
       more-fine : Encodable a cs more
-      more-fine = let w = welcome s used r ok in encodable-more s used bytes (w .accepted) r long (w .roomy)
+      more-fine = let w = admitted s used r ok in encodable-more s used bytes (w .accepted) r long (w .roomy)
 
       more-good : Acceptable cs more
       more-good = record { curves = held .curves; trades = λ i l k. go i k (decLt i (length rs)) (omega (arith, length-more rs r)) }
         where
           held : Acceptable cs rs
-          held = sound-acceptable s used bytes (sound s used (welcome s used r ok .accepted))
+          held = sound-acceptable s used bytes (sound s used (admitted s used r ok .accepted))
 
           go : (i k : ℕ) → Dec (i < length rs) → i < length rs + 1 → bytesVerdict (curvesIn cs) (getD more i []) k ≡ Accepted
           go i k (yes l) h = rw (List·getD-append rs (r ∷ []) [] i l) (held .trades i l k)
           go i k (no l) h =
               rw (getD-at rs r [] [] i (omega arith))
-              (any-block (curvesOf s) r (blockOf s (tradeCount s)) k (welcome s used r ok .judged))
+              (any-block (curvesOf s) r (blockOf s (tradeCount s)) k (admitted s used r ok .judged))
 
       -- what the bytes are, and how many of them are used
       appended-is : appended s used r ≡ encode a cs more ++ drop (length (encode a cs more)) s
@@ -185,7 +187,7 @@ module _ (s : List ℕ) (used : ℕ) (bytes : AreBytes s) where
       append-read-earlier i l =
           found-more i
           ∙ found-earlier rs r i (rw (length-records s) l)
-          ∙ sym (found-accepted (welcome s used r ok .accepted) i)
+          ∙ sym (found-accepted (admitted s used r ok .accepted) i)
 
       appended-accepted : verdict (appended s used r) (usedAfter (appendAnswer s used r) used) ≡ Accepted
       appended-accepted = rw (appended-is, append-used) (encoded-accepted a cs more more-fine (drop (length (encode a cs more)) s) more-good)
@@ -195,7 +197,7 @@ module _ (s : List ℕ) (used : ℕ) (bytes : AreBytes s) where
       taken-back = rw (take-at rs (r ∷ []) (length rs) refl, drop-append-add rs (r ∷ []) 1) (append-nil rs)
 
       old-size : length (encode a cs rs) ≡ used
-      old-size = length-accepted s used bytes (welcome s used r ok .accepted)
+      old-size = length-accepted s used bytes (admitted s used r ok .accepted)
 
       last-in : length rs < length more
       last-in = omega (arith, length-more rs r)
@@ -211,7 +213,7 @@ module _ (s : List ℕ) (used : ℕ) (bytes : AreBytes s) where
       append-strike =
           let back = struck-start a cs more (drop (length (encode a cs more)) s) more-fine more-good (length rs) last-in in
           rw (appended-is, append-used, ← length-records s)
-          ((rw (taken-back, old-size) at back) ∙ sym (accepted-encoded s used bytes (welcome s used r ok .accepted)))
+          ((rw (taken-back, old-size) at back) ∙ sym (accepted-encoded s used bytes (admitted s used r ok .accepted)))
 
     -- an append to an accepted book leaves an accepted book, refused or not
     pub append-accepted : verdict s used ≡ Accepted → verdict (appended s used r) (usedAfter (appendAnswer s used r) used) ≡ Accepted

@@ -24,10 +24,10 @@ bareBlock number = put (set (replicate 512 0) 0 3) 2 (bytesOf 2 number)
 unfoldable pub withTradeBlocks : List ℕ → ℕ → List ℕ
 withTradeBlocks b n = sealed (put b 10 (bytesOf 2 n))
 
--- a block of trades with the gap at a place closed: the records behind it move up, `next` comes last, and so many records are left
+-- a block of trades with the gap at a place closed: the records behind it move up, `next` comes ninth, and so many records are left
 unfoldable pub closedUp : List ℕ → ℕ → List ℕ → ℕ → List ℕ
 closedUp b place next count =
-    sealed (set (put (put b (recordPlace place) (part b (recordPlace place + 56) (508 - (recordPlace place + 56)))) 452 next) 1 count)
+    sealed (set (put (put b (recordPlace place) (part b (recordPlace place + 56) (508 - (recordPlace place + 56)))) (recordPlace 8) next) 1 count)
 
 -- ---- steps
 

@@ -36,7 +36,7 @@ pub fn put_trade_blocks(b: &mut [u8], n: usize)
     seal(b);
 }
 
-// Closes the gap at a place of a block of trades, by way of a spare block.
+// Closes the gap at a place of a block of trades, by way of a spare block. The ninth place is at 452.
 pub fn close_up(b: &mut [u8], place: usize, next: [u8; 56], count: usize)
     requires { ⌜ (length (now b) ≡ 512) × ((place < 9) × (count ≤ 9)) ⌝ }
     ensures { λ _. ⌜ now (b .exit) ≡ closedUp (now (b .entry)) place next count ⌝ }

@@ -8,7 +8,7 @@ use Rattle.layout.specs.Bytes.{AreBytes}
 use Rattle.book.specs.Parts.{tradeCount}
 use Rattle.book.proofs.Accepted.{sound}
 use Rattle.edit.specs.Edits.{appendedBook}
-use Rattle.edit.proofs.Given.{welcome, room}
+use Rattle.edit.proofs.Given.{admitted, room}
 use Rattle.edit.proofs.StepLaws.{fill-left}
 use Rattle.edit.proofs.Lent.{length-filled, filled-lent, length-grown, grown-lent}
 use borrow.Author.Needs.{needs}
@@ -16,17 +16,17 @@ use Rattle.edit.proofs.add.Statement.{statement}
 use Rattle.edit.proofs.add.Tie as tie
 
 trade-count-requires : tie.Need-trade-count-requires
-trade-count-requires c κs = let b = sound _ _ (welcome _ _ _ (c .before .before .pre) .accepted) in omega arith
+trade-count-requires c κs = let b = sound _ _ (admitted _ _ _ (c .before .before .pre) .accepted) in omega arith
 
 grow-requires : tie.Need-grow-requires
 grow-requires c κs =
-    let w = welcome _ _ _ (c .before .before .before .before .before .pre) in
+    let w = admitted _ _ _ (c .before .before .before .before .before .pre) in
     let b = sound _ _ (w .accepted) in
     let r = room _ _ _ (w .roomy) (ap (λ (n : ℕ). n % 9) (sym (c .before .before .trade-count .ensures)) ∙ c .before .if1 .taken) in
     omega arith
 
 add-result : tie.Need-add-result
-add-result c = let b = sound _ _ (welcome _ _ _ (c .before .before .before .before .before .before .before .before .pre) .accepted) in omega arith
+add-result c = let b = sound _ _ (admitted _ _ _ (c .before .before .before .before .before .before .before .before .pre) .accepted) in omega arith
 
 returns : tie.Need-returns
 returns c =
@@ -35,7 +35,7 @@ returns c =
     let used = start .args .used in
     let r = start .args .r in
     let long : length r ≡ 56 = search needs in
-    let w = welcome s used r (start .pre) in
+    let w = admitted s used r (start .pre) in
     let bytes : AreBytes s = λ k. omega (arith, c .before .before .before .before .before .before .before .slice-known .given k) in
     let full = ap (λ (n : ℕ). n % 9) (sym (c .before .before .before .before .before .trade-count .ensures)) ∙ c .before .before .before .before .if1 .taken in
     let space = room (tradeCount s) used (length s) (w .roomy) full in
@@ -43,13 +43,13 @@ returns c =
     (sym n, c .before .before .grow .ensures ∙ grown-lent s used bytes (w .accepted) r long full space ∙ ap (λ (k : ℕ). appendedBook s r ++ drop k s) (sym n))
 
 sub-put-record : tie.Need-sub-put-record
-sub-put-record c = let b = sound _ _ (welcome _ _ _ (c .before .before .before .before .pre) .accepted) in omega arith
+sub-put-record c = let b = sound _ _ (admitted _ _ _ (c .before .before .before .before .pre) .accepted) in omega arith
 
 part-put-record-end : tie.Need-part-put-record-end
-part-put-record-end c = let b = sound _ _ (welcome _ _ _ (c .before .before .before .before .pre) .accepted) in omega arith
+part-put-record-end c = let b = sound _ _ (admitted _ _ _ (c .before .before .before .before .pre) .accepted) in omega arith
 
 put-record-requires : tie.Need-put-record-requires
-put-record-requires c κs = let b = sound _ _ (welcome _ _ _ (c .before .before .before .before .before .pre) .accepted) in omega arith
+put-record-requires c κs = let b = sound _ _ (admitted _ _ _ (c .before .before .before .before .before .pre) .accepted) in omega arith
 
 returns-2 : tie.Need-returns-2
 returns-2 c =
@@ -58,7 +58,7 @@ returns-2 c =
     let used = start .args .used in
     let r = start .args .r in
     let long : length r ≡ 56 = search needs in
-    let w = welcome s used r (start .pre) in
+    let w = admitted s used r (start .pre) in
     let b = sound s used (w .accepted) in
     let bytes : AreBytes s = λ k. omega (arith, c .before .before .before .before .before .before .before .slice-known .given k) in
     let count = c .before .before .before .before .before .trade-count .ensures in
