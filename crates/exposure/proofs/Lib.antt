@@ -1,3 +1,4 @@
 pub mod Pushing
 pub mod Gathered
 pub mod Growing
+pub mod Collected

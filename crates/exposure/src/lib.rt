@@ -5,6 +5,11 @@ ghost use lib.ListN.{length};
 ghost use Rattle.exposure.specs.Schedules.{standsOn, withLeg, countWithLeg};
 ghost use Rattle.exposure.specs.Growth.{Grown, LegsSound};
 ghost use Rattle.flows.specs.Legs.{legsFlows};
+ghost use Rattle.ground.specs.declared.Verdict.the-variants.{Accepted};
+ghost use Rattle.book.specs.Verdict.{verdict};
+ghost use Rattle.margin.specs.Exposure.{flowsOn};
+ghost use Rattle.margin.specs.Ladder.{ladderFlows, LadderLimits};
+ghost use Rattle.exposure.specs.Exposures.{flowsIn};
 use flows::Leg;
 use flows::Legs;
 
@@ -44,4 +49,22 @@ fn push_legs(ladder: &mut [u64], n: usize, curve: u64, legs: Legs) -> usize
     let one = push_leg(ladder, n, curve, first);
     let two = push_leg(ladder, one, curve, second);
     push_leg(ladder, two, curve, payments)
+}
+
+// The ladder of a curve of an accepted book, and how many schedules it has.
+pub fn gather(book: &[u8], used: usize, curve: u64, ladder: &mut [u64]) -> usize
+    requires { ⌜ (verdict (now book) used ≡ Accepted) × (20412 ≤ length (now ladder)) ⌝ }
+    ensures flows { λ r. ⌜ ladderFlows curve (now (ladder .exit)) r ≡ flowsOn curve (flowsIn (now (book .entry))) ⌝ }
+    ensures limits { λ r. ⌜ LadderLimits (now (ladder .exit)) r ⌝ }
+{
+    let count = book::parts::trade_count(book);
+    let mut n: usize = 0;
+    let mut i: usize = 0;
+    while i < count {
+        let r = book::parts::record_at(book, i);
+        let legs = flows::walk::legs_of(trade::read::trade_of(record::bytes::fields_of(&r)));
+        n = push_legs(ladder, n, curve, legs);
+        i += 1;
+    }
+    n
 }

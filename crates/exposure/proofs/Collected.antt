@@ -1,0 +1,94 @@
+-- A book's trades one by one: the ladder holds the flows of those passed that stand on the curve. Assumes nothing.
+use mathlib.Core.Path.{_≡_, refl, sym, ap, _∙_}
+use mathlib.Core.Bool.{Bool, true, false, cond}
+use mathlib.Core.List.{List, [], _∷_, _++_, flatMap}
+use Prim.Native.Nat.{ℕ, zero, suc, _+_, _*_, _/_, _≤_, _<_}
+use native.Mathlib.Nat.{zero-add}
+use native.Mathlib.Numerals.{add-one}
+use native.Mathlib.Omega.{arith}
+use lib.Dec.{eqb}
+use lib.ListN.{length, length-append}
+use Rattle.laws.specs.Walk.{table}
+use Rattle.ground.specs.declared.Verdict.the-variants.{Accepted}
+use Rattle.discount.specs.declared.Flow.{Flow}
+use Rattle.record.specs.Bytes.{fieldsOf}
+use Rattle.flows.specs.declared.Legs.{Legs}
+use Rattle.flows.specs.Legs.{legsFlows, flowsOf}
+use Rattle.flows.proofs.Bounded.{AcceptedRecord, accepted, flows-few}
+use Rattle.book.specs.Parts.{curvesOf, curveCount, tradeCount, recordAt}
+use Rattle.book.proofs.Accepted.{Sound, accepted-record, trade-count-most}
+use Rattle.margin.specs.Exposure.{flowsOn}
+use Rattle.margin.specs.Ladder.{payments, scheduleFlows, ladderFlows, LadderLimits}
+use Rattle.margin.proofs.LadderFlows.{length-schedule}
+use Rattle.exposure.specs.Growth.{InLimits, Grown}
+use Rattle.exposure.specs.Exposures.{tradeAt, flowsUpTo, flowsIn}
+use Rattle.exposure.proofs.Gathered.{flat-more, on-append}
+
+pub record Collected (s : List ℕ) (curve : ℕ) (ladder : List ℕ) (n i : ℕ) : Type 0 where
+  pub few : n ≤ i * 3
+  pub flows : ladderFlows curve ladder n ≡ flowsOn curve (flowsUpTo s i)
+  pub limits : InLimits ladder n
+
+more-flows : (s : List ℕ) (i : ℕ) → flowsUpTo s (i + 1) ≡ flowsUpTo s i ++ flowsOf (tradeAt s i)
+unfolding flowsUpTo
+more-flows s i =
+    ap (λ (n : ℕ). flatMap flowsOf (table (tradeAt s) 0 n)) (add-one i)
+    ∙ flat-more (tradeAt s) flowsOf 0 i
+    ∙ ap (λ (k : ℕ). flatMap flowsOf (table (tradeAt s) 0 i) ++ flowsOf (tradeAt s k)) (zero-add i)
+
+no-flows : (s : List ℕ) → flowsUpTo s 0 ≡ []
+unfolding flowsUpTo table flatMap
+no-flows s = refl
+
+module _ (s : List ℕ) (curve : ℕ) where
+  pub collected-none : (ladder : List ℕ) → Collected s curve ladder 0 0
+  unfolding ladderFlows flowsUpTo table flatMap flowsOn
+  collected-none ladder = record { few = omega arith; flows = refl; limits = λ i l. absurd (omega arith) }
+
+  pub collected-next : {ladder after : List ℕ} {n m i : ℕ} (legs : Legs) → Collected s curve ladder n i → legsFlows legs ≡ flowsOf (tradeAt s i) → Grown curve (legsFlows legs) ladder n after m → Collected s curve after m (i + 1)
+  collected-next {i = i} legs h e g =
+      record {
+        few = omega (arith, g .few, h .few);
+        flows = rw (g .flows, h .flows, e, more-flows s i) (sym (on-append curve (flowsUpTo s i) (flowsOf (tradeAt s i))));
+        limits = g .limits (h .limits);
+      }
+
+-- ---- how many flows there are
+
+on-few : (curve : ℕ) (fs : List Flow) → length (flowsOn curve fs) ≤ length fs
+unfolding flowsOn
+on-few curve [] = omega arith
+on-few curve (f ∷ fs) = go (eqb (f .curve) curve) (on-few curve fs)
+  where
+    go : (t : Bool) → length (flowsOn curve fs) ≤ length fs → length (cond t (f ∷ flowsOn curve fs) (flowsOn curve fs)) ≤ suc (length fs)
+    go true h = omega arith
+    go false h = omega arith
+
+-- a ladder has as many flows on one curve as on another
+same-length : (c d : ℕ) (l : List ℕ) (n : ℕ) → length (ladderFlows c l n) ≡ length (ladderFlows d l n)
+unfolding ladderFlows table flatMap
+same-length c d l zero = refl
+same-length c d l (suc n) =
+    omega
+    (arith, ap length (flat-more (λ k. k) (scheduleFlows c l) 0 n), ap length (flat-more (λ k. k) (scheduleFlows d l) 0 n), length-append (flatMap (scheduleFlows c l) (table (λ k. k) 0 n)) (scheduleFlows c l (0 + n)), length-append (flatMap (scheduleFlows d l) (table (λ k. k) 0 n)) (scheduleFlows d l (0 + n)), same-length c d l n, length-schedule c l (0 + n), length-schedule d l (0 + n))
+
+module _ (s : List ℕ) (used : ℕ) (b : Sound s used) where
+  pub accepted-at : (i : ℕ) → i < tradeCount s → AcceptedRecord (curvesOf s) (fieldsOf (recordAt s i))
+  accepted-at i l = accepted (curvesOf s) (fieldsOf (recordAt s i)) (1 + curveCount s + i / 9) (accepted-record s used b i l)
+
+  few-flows : (i : ℕ) → i ≤ tradeCount s → length (flowsUpTo s i) ≤ i * 121
+  few-flows zero l = omega (arith, ap length (no-flows s))
+  few-flows (suc i) l =
+      let more : flowsUpTo s (suc i) ≡ flowsUpTo s i ++ flowsOf (tradeAt s i) = ap (flowsUpTo s) (sym (add-one i)) ∙ more-flows s i in
+      omega
+      (arith, ap length more, length-append (flowsUpTo s i) (flowsOf (tradeAt s i)), few-flows i (omega arith), flows-few (fieldsOf (recordAt s i)) (accepted-at i (omega arith)))
+
+  pub collected-all : (curve : ℕ) (ladder : List ℕ) (n : ℕ) → 20412 ≤ length ladder → Collected s curve ladder n (tradeCount s) → LadderLimits ladder n
+  collected-all curve ladder n room h =
+      record {
+        places = omega (arith, h .few, trade-count-most s used b);
+        each = h .limits;
+        few = λ c.
+        omega
+        (arith, same-length c curve ladder n, ap length (h .flows), on-few curve (flowsIn s), few-flows (tradeCount s) (omega arith), trade-count-most s used b);
+      }
