@@ -89,6 +89,6 @@ module _ (s : List ℕ) (used : ℕ) (b : Sound s used) where
         places = omega (arith, h .few, trade-count-most s used b);
         each = h .limits;
         few = λ c.
-        omega
-        (arith, same-length c curve ladder n, ap length (h .flows), on-few curve (flowsIn s), few-flows (tradeCount s) (omega arith), trade-count-most s used b);
+            omega
+            (arith, same-length c curve ladder n, ap length (h .flows), on-few curve (flowsIn s), few-flows (tradeCount s) (omega arith), trade-count-most s used b);
       }

@@ -79,8 +79,7 @@ push-legs-requires c κs =
     let legs = c .before in
     let read = legs .before in
     let b = here (start read) in
-    let inv = turn read .before .loop .inv in
-    (
+    let inv = turn read .before .loop .inv in (
       omega (arith, inv .1, inv .2 .few, at (turn read), trade-count-most _ _ b, start read .pre .1),
       record { reach = legs .legs-of .ensures .1; within = rw (legs .legs-of .ensures .0, trade-is read) (can-be-valued read .within) },
     )
@@ -96,8 +95,7 @@ loop-again c =
     let pushed = c .before .before in
     let legs = pushed .before .before in
     let read = legs .before in
-    let inv = turn read .before .loop .inv in
-    (
+    let inv = turn read .before .loop .inv in (
       omega arith,
       search needs,
       collected-next _ _ (legs .legs-of .result) (inv .2) (legs .legs-of .ensures .0 ∙ ap flowsOf (trade-is read)) (pushed .push-legs .ensures),

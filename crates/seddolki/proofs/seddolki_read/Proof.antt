@@ -1,4 +1,4 @@
--- `seddolki::seddolki_read` meets its contract. Assumes nothing.
+-- `seddolki::seddolki_read` meets its contract: the answer and what is written are those of the entry. Assumes nothing.
 use borrow.Author.Needs.{needs}
 use Rattle.seddolki.proofs.seddolki_read.Statement.{statement}
 use Rattle.seddolki.proofs.seddolki_read.Tie as tie

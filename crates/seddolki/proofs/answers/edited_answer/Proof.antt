@@ -1,4 +1,4 @@
--- `seddolki::answers::edited_answer` meets its contract. Assumes nothing.
+-- `seddolki::answers::edited_answer` meets its contract: each arm knows its case of the enum. Assumes nothing.
 use borrow.Author.Needs.{needs}
 use Rattle.seddolki.proofs.answers.edited_answer.Statement.{statement}
 use Rattle.seddolki.proofs.answers.edited_answer.Tie as tie

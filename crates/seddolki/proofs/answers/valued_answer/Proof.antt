@@ -1,4 +1,4 @@
--- `seddolki::answers::valued_answer` meets its contract. Assumes nothing.
+-- `seddolki::answers::valued_answer` meets its contract: each arm knows its case of the enum. Assumes nothing.
 use borrow.Author.Needs.{needs}
 use Rattle.seddolki.proofs.answers.valued_answer.Statement.{statement}
 use Rattle.seddolki.proofs.answers.valued_answer.Tie as tie
