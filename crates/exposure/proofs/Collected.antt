@@ -29,14 +29,14 @@ pub record Collected (s : List ℕ) (curve : ℕ) (ladder : List ℕ) (n i : ℕ
   pub flows : ladderFlows curve ladder n ≡ flowsOn curve (flowsUpTo s i)
   pub limits : InLimits ladder n
 
-more-flows : (s : List ℕ) (i : ℕ) → flowsUpTo s (i + 1) ≡ flowsUpTo s i ++ flowsOf (tradeAt s i)
+pub more-flows : (s : List ℕ) (i : ℕ) → flowsUpTo s (i + 1) ≡ flowsUpTo s i ++ flowsOf (tradeAt s i)
 unfolding flowsUpTo
 more-flows s i =
     ap (λ (n : ℕ). flatMap flowsOf (table (tradeAt s) 0 n)) (add-one i)
     ∙ flat-more (tradeAt s) flowsOf 0 i
     ∙ ap (λ (k : ℕ). flatMap flowsOf (table (tradeAt s) 0 i) ++ flowsOf (tradeAt s k)) (zero-add i)
 
-no-flows : (s : List ℕ) → flowsUpTo s 0 ≡ []
+pub no-flows : (s : List ℕ) → flowsUpTo s 0 ≡ []
 unfolding flowsUpTo table flatMap
 no-flows s = refl
 
@@ -55,7 +55,7 @@ module _ (s : List ℕ) (curve : ℕ) where
 
 -- ---- how many flows there are
 
-on-few : (curve : ℕ) (fs : List Flow) → length (flowsOn curve fs) ≤ length fs
+pub on-few : (curve : ℕ) (fs : List Flow) → length (flowsOn curve fs) ≤ length fs
 unfolding flowsOn
 on-few curve [] = omega arith
 on-few curve (f ∷ fs) = go (eqb (f .curve) curve) (on-few curve fs)
@@ -76,7 +76,7 @@ module _ (s : List ℕ) (used : ℕ) (b : Sound s used) where
   pub accepted-at : (i : ℕ) → i < tradeCount s → AcceptedRecord (curvesOf s) (fieldsOf (recordAt s i))
   accepted-at i l = accepted (curvesOf s) (fieldsOf (recordAt s i)) (1 + curveCount s + i / 9) (accepted-record s used b i l)
 
-  few-flows : (i : ℕ) → i ≤ tradeCount s → length (flowsUpTo s i) ≤ i * 121
+  pub few-flows : (i : ℕ) → i ≤ tradeCount s → length (flowsUpTo s i) ≤ i * 121
   few-flows zero l = omega (arith, ap length (no-flows s))
   few-flows (suc i) l =
       let more : flowsUpTo s (suc i) ≡ flowsUpTo s i ++ flowsOf (tradeAt s i) = ap (flowsUpTo s) (sym (add-one i)) ∙ more-flows s i in

@@ -2,3 +2,4 @@ pub mod Pushing
 pub mod Gathered
 pub mod Growing
 pub mod Collected
+pub mod Fitting

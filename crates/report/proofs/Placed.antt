@@ -1,0 +1,67 @@
+-- The figures of a book's curves in eight places, one by one. Assumes nothing.
+use mathlib.Core.Path.{_≡_, sym, ap, _∙_, subst}
+use mathlib.Core.List.{List, map}
+use Prim.Native.Nat.{ℕ, zero, suc, _+_, _≤_, _<_}
+use native.Mathlib.Nat.{zero-add}
+use native.Mathlib.Decide.{ℕ-discrete}
+use native.Mathlib.Omega.{arith}
+use lib.ListN.{length, getD, take, set, length-set, length-map}
+use lib.Seq.{ext-getD, getD-take, length-take-le, getD-set-same, getD-set-other}
+use Rattle.laws.specs.Walk.{table}
+use Rattle.laws.proofs.Walk.{length-table, getD-table}
+use Rattle.laws.proofs.Lists.{getD-map-in}
+use Rattle.book.specs.Parts.{curveCount}
+use Rattle.book.proofs.Accepted.{Sound}
+use Rattle.margin.specs.declared.CurveMargin.{CurveMargin}
+use Rattle.margin.specs.Exposure.{Exposure}
+use Rattle.margin.specs.Margins.{curveMargin, noCurve, PlacesLimits}
+use Rattle.margin.proofs.Accounts.{AllFlowsFit, places-limits}
+use Rattle.exposure.specs.Exposures.{exposureAt, exposures}
+use Rattle.exposure.proofs.Fitting.{exposure-fits}
+
+-- the first k places hold the figures of the first k curves
+pub record Placed (s : List ℕ) (curves : List CurveMargin) (k : ℕ) : Type 0 where
+  pub places : length curves ≡ 8
+  pub each : (i : ℕ) → i < k → getD curves i noCurve ≡ curveMargin (exposureAt s (1 + i))
+
+pub placed-as : (s : List ℕ) (curves : List CurveMargin) {k n : ℕ} → k ≡ n → Placed s curves k → Placed s curves n
+placed-as s curves e h = subst (λ (k : ℕ). Placed s curves k) e h
+
+module _ (s : List ℕ) (curves : List CurveMargin) (k : ℕ) (h : Placed s curves k) where
+  pub placed-next : (m : CurveMargin) → k < 8 → m ≡ curveMargin (exposureAt s (k + 1)) → Placed s (set curves k m) (k + 1)
+  placed-next m l e = record { places = length-set curves k m ∙ h .places; each = λ i b. go i b (ℕ-discrete i k) }
+    where
+      go : (i : ℕ) → i < k + 1 → Dec (i ≡ k) → getD (set curves k m) i noCurve ≡ curveMargin (exposureAt s (1 + i))
+      go i b (yes p) =
+          let q : k + 1 ≡ 1 + i = omega arith in
+          rw p (getD-set-same curves k m noCurve (omega (arith, h .places))) ∙ e ∙ ap (λ (n : ℕ). curveMargin (exposureAt s n)) q
+      go i b (no p) = getD-set-other curves k i m noCurve p ∙ h .each i (omega arith)
+
+  pub placed-all : k ≡ curveCount s → k ≤ 8 → take k curves ≡ map curveMargin (exposures s)
+  unfolding exposures
+  placed-all e l =
+      let d : Exposure = exposureAt s 0 in
+      let t : length (take k curves) ≡ k = length-take-le k curves (omega (arith, h .places)) in
+      let n : length (map curveMargin (table (exposureAt s) 1 (curveCount s))) ≡ curveCount s = length-map (table (exposureAt s) 1 (curveCount s)) curveMargin ∙ length-table (exposureAt s) 1 (curveCount s) in
+      ext-getD noCurve (take k curves) (map curveMargin (table (exposureAt s) 1 (curveCount s))) (t ∙ e ∙ sym n)
+      (λ i b.
+      getD-take k curves i noCurve (omega arith)
+      ∙ h .each i (omega arith)
+      ∙ sym (getD-map-in curveMargin (table (exposureAt s) 1 (curveCount s)) i d noCurve (omega (arith, length-table (exposureAt s) 1 (curveCount s))) ∙ ap curveMargin (getD-table (exposureAt s) 1 (curveCount s) i d (omega arith))))
+
+module _ (s : List ℕ) (used : ℕ) (b : Sound s used) where
+  all-fit : (i n : ℕ) → AllFlowsFit (table (exposureAt s) i n)
+  unfolding table
+  all-fit i zero = tt
+  all-fit i (suc n) = (exposure-fits s used b i, all-fit (suc i) n)
+
+  pub exposures-fit : AllFlowsFit (exposures s)
+  unfolding exposures
+  exposures-fit = all-fit 1 (curveCount s)
+
+  length-figures : length (map curveMargin (exposures s)) ≡ curveCount s
+  unfolding exposures
+  length-figures = length-map (table (exposureAt s) 1 (curveCount s)) curveMargin ∙ length-table (exposureAt s) 1 (curveCount s)
+
+  pub placed-limits : (curves : List CurveMargin) (k : ℕ) → k ≡ curveCount s → take k curves ≡ map curveMargin (exposures s) → PlacesLimits curves k
+  placed-limits curves k e t = places-limits curves k (exposures s) t (omega (arith, b .most)) (length-figures ∙ sym e) exposures-fit

@@ -1,0 +1,37 @@
+-- The margin entry: its answer, and every lent byte afterwards (document 01, "Margin" and ground 13). Assumes nothing.
+use mathlib.Core.Bool.{Bool}
+use mathlib.Core.List.{List, _++_}
+use Prim.Native.Nat.{ℕ}
+use lib.Dec.{ltb}
+use lib.ListN.{length, drop}
+use Rattle.ground.specs.declared.Ground.the-variants.{ReportSpace}
+use Rattle.ground.specs.declared.Verdict.{Verdict}
+use Rattle.ground.specs.declared.Verdict.the-variants.{Accepted, Refused}
+use Rattle.ground.specs.Verdicts.{orElse, unless}
+use Rattle.book.specs.Parts.{account}
+use Rattle.book.specs.Verdict.{verdict}
+use Rattle.margin.specs.declared.Margin.{Margin}
+use Rattle.margin.specs.Margins.{marginOf}
+use Rattle.report_block.specs.Report.{reportBytes}
+use Rattle.exposure.specs.Exposures.{exposures}
+
+-- the margin of a book: of its account, with what it has on its curves
+unfoldable pub marginIn : List ℕ → Margin
+marginIn s = marginOf (account s) (exposures s)
+
+-- 13. "The report space is under 512 bytes."
+unfoldable pub breaksReportSpace : ℕ → Bool
+breaksReportSpace space = ltb space 512
+
+-- the book's own grounds, then 13
+unfoldable pub marginVerdict : List ℕ → ℕ → ℕ → Verdict
+marginVerdict s used space = orElse (verdict s used) (unless (breaksReportSpace space) ReportSpace 0 Accepted)
+
+-- what was lent for the report: written where nothing is refused, and as it was where something is
+abbrev pub writtenIf : Verdict → List ℕ → List ℕ → List ℕ
+writtenIf Accepted new old = new
+writtenIf (Refused g k) new old = old
+
+-- the report in the first 512 bytes, "bytes past it kept"
+unfoldable pub marginBytes : List ℕ → ℕ → List ℕ → List ℕ
+marginBytes s used out = writtenIf (marginVerdict s used (length out)) (reportBytes (marginIn s) ++ drop 512 out) out

@@ -1,0 +1,95 @@
+// The margin entry: from a book to its report.
+use book::parts;
+use ground::Ground;
+use ground::Verdict;
+use margin::CurveMargin;
+use margin::Margin;
+ghost use mathlib.Core.Path.{_≡_};
+ghost use Prim.Native.Nat.{_≤_};
+ghost use lib.ListN.{length};
+ghost use Rattle.ground.specs.declared.Verdict.the-variants.{Accepted};
+ghost use Rattle.book.specs.Parts.{curveCount};
+ghost use Rattle.book.specs.Verdict.{verdict};
+ghost use Rattle.margin.specs.Margins.{curveMargin, noCurve};
+ghost use Rattle.exposure.specs.Exposures.{exposureAt};
+ghost use Rattle.report.specs.Entry.{marginIn, breaksReportSpace, marginVerdict, marginBytes};
+
+// The figures of a curve of an accepted book, by way of its ladder.
+fn curve_figures(book: &[u8], used: usize, curve: usize) -> CurveMargin
+    requires { ⌜ (verdict (now book) used ≡ Accepted) × (1 ≤ curve) × (curve ≤ curveCount (now book)) ⌝ }
+    ensures { λ r. ⌜ r ≡ curveMargin (exposureAt (now (book .entry)) curve) ⌝ }
+{
+    let mut ladder = [0u64; 20412];
+    let n = exposure::gather(book, used, curve as u64, &mut ladder);
+    let b = parts::block_at(book, curve);
+    let currency = curve_block::currency_of(b);
+    let components = curve_block::components_of(b);
+    margin::margins::curve_margin(
+        curve as u64,
+        currency,
+        curve_block::curve_of(b),
+        components,
+        &ladder,
+        n,
+    )
+}
+
+fn no_curve() -> CurveMargin
+    ensures { λ r. ⌜ r ≡ noCurve ⌝ }
+{
+    CurveMargin {
+        base: 0,
+        loss: 0,
+        scenario: 0,
+        currency: 0,
+        tolerance: 0,
+    }
+}
+
+// The margin of an accepted book.
+pub fn margin_of_book(book: &[u8], used: usize) -> Margin
+    requires { ⌜ verdict (now book) used ≡ Accepted ⌝ }
+    ensures { λ r. ⌜ r ≡ marginIn (now (book .entry)) ⌝ }
+{
+    let count = parts::curve_count(book);
+    let mut curves = [no_curve(); 8];
+    let mut k: usize = 0;
+    while k < count {
+        let m = curve_figures(book, used, k + 1);
+        curves[k] = m;
+        k += 1;
+    }
+    margin::margins::margin_of(parts::account(book), curves, count)
+}
+
+// Ground 13.
+fn breaks_report_space(space: usize) -> bool
+    ensures { λ r. ⌜ r ≡ breaksReportSpace space ⌝ }
+{
+    space < 512
+}
+
+// Writes the report of an accepted book, where there is space for it.
+fn fill_report(book: &[u8], used: usize, out: &mut [u8]) -> Verdict
+    requires { ⌜ verdict (now book) used ≡ Accepted ⌝ }
+    ensures { λ r. ⌜ r ≡ marginVerdict (now (book .entry)) used (length (now (out .entry))) ⌝ }
+    ensures { λ _. ⌜ now (out .exit) ≡ marginBytes (now (book .entry)) used (now (out .entry)) ⌝ }
+{
+    if breaks_report_space(out.len()) {
+        return Verdict::Refused(Ground::ReportSpace, 0);
+    }
+    report_block::write_report(out, margin_of_book(book, used));
+    Verdict::Accepted
+}
+
+// Writes the report of a book's margin, or answers the first ground that applies and writes nothing. Takes every input.
+pub fn margin(book: &[u8], used: usize, out: &mut [u8]) -> Verdict
+    ensures { λ r. ⌜ r ≡ marginVerdict (now (book .entry)) used (length (now (out .entry))) ⌝ }
+    ensures { λ _. ⌜ now (out .exit) ≡ marginBytes (now (book .entry)) used (now (out .entry)) ⌝ }
+{
+    let v = book::check(book, used);
+    match v {
+        Verdict::Refused(g, k) => Verdict::Refused(g, k),
+        Verdict::Accepted => fill_report(book, used, out),
+    }
+}
