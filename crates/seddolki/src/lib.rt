@@ -6,9 +6,11 @@ use answers::valued_answer;
 use answers::valued_tolerance;
 use answers::verdict_answer;
 ghost use mathlib.Core.Path.{_≡_};
+ghost use lib.ListN.{length};
 ghost use Rattle.book.specs.Verdict.{verdict};
 ghost use Rattle.discount.specs.Valued.{valuedOf};
 ghost use Rattle.edit.specs.Edits.{found, appendAnswer, appended, strikeAnswer, struck};
+ghost use Rattle.report.specs.Entry.{marginVerdict, marginBytes};
 ghost use Rattle.seddolki.specs.Answers.{verdictAnswer, editedAnswer, valuedAnswer, valuedTolerance};
 
 // Number 0 is done, and the value is the result; any other number is the ground of refusal, and the value is the block.
@@ -24,6 +26,15 @@ pub extern "C" fn seddolki_check(book: &[u8], used: usize) -> Answer
     ensures { λ r. ⌜ r ≡ verdictAnswer (verdict (now (book .entry)) used) ⌝ }
 {
     verdict_answer(book::check(book, used))
+}
+
+// Writes the report of a book's margin into the first 512 bytes of the report space; a refused call writes nothing.
+#[no_mangle]
+pub extern "C" fn seddolki_margin(book: &[u8], used: usize, report: &mut [u8]) -> Answer
+    ensures { λ r. ⌜ r ≡ verdictAnswer (marginVerdict (now (book .entry)) used (length (now (report .entry)))) ⌝ }
+    ensures { λ _. ⌜ now (report .exit) ≡ marginBytes (now (book .entry)) used (now (report .entry)) ⌝ }
+{
+    verdict_answer(report::margin(book, used, report))
 }
 
 // Appends a record; the value is the new used length.
