@@ -1,0 +1,46 @@
+-- Number 0 is done and nothing else: no ground has it, and the two numbers (with the tolerance) then give the whole answer back.
+-- Assumes nothing.
+use mathlib.Core.Path.{_≡_, refl}
+use Prim.Native.Nat.{_<_}
+use native.Mathlib.Omega.{arith}
+use lib.Dec.{lit<}
+use Rattle.ground.specs.Number.{numberOf}
+use Rattle.ground.specs.declared.Ground.{Ground}
+use Rattle.ground.specs.declared.Ground.the-variants.{Length, Check, Place, Header, Curve, Node, TradeBlock, Form, Days, Amounts, Currency, FlowLimit, ReportSpace, Position, BookSpace, ValueRange}
+use Rattle.ground.specs.declared.Verdict.{Verdict}
+use Rattle.ground.specs.declared.Verdict.the-variants as verdict
+use Rattle.discount.specs.declared.entry.Valued.{Valued}
+use Rattle.discount.specs.declared.entry.Valued.the-variants as valued
+use Rattle.edit.specs.declared.Edited.{Edited}
+use Rattle.edit.specs.declared.Edited.the-variants as edited
+use Rattle.seddolki.specs.Answers.{verdictAnswer, editedAnswer, valuedAnswer, valuedTolerance}
+
+pub numbered : (g : Ground) → 0 < numberOf g
+numbered Length = lit< tt
+numbered Check = lit< tt
+numbered Place = lit< tt
+numbered Header = lit< tt
+numbered Curve = lit< tt
+numbered Node = lit< tt
+numbered TradeBlock = lit< tt
+numbered Form = lit< tt
+numbered Days = lit< tt
+numbered Amounts = lit< tt
+numbered Currency = lit< tt
+numbered FlowLimit = lit< tt
+numbered ReportSpace = lit< tt
+numbered Position = lit< tt
+numbered BookSpace = lit< tt
+numbered ValueRange = lit< tt
+
+pub done-accepted : (v : Verdict) → verdictAnswer v .number ≡ 0 → v ≡ verdict.Accepted
+done-accepted verdict.Accepted done = refl
+done-accepted (verdict.Refused g block) done = absurd (omega (arith, numbered g))
+
+pub done-used : (e : Edited) → editedAnswer e .number ≡ 0 → e ≡ edited.Used (editedAnswer e .value)
+done-used (edited.Used used) done = refl
+done-used (edited.Refused g block) done = absurd (omega (arith, numbered g))
+
+pub done-worth : (v : Valued) → valuedAnswer v .number ≡ 0 → v ≡ valued.Worth (valuedAnswer v .value) (valuedTolerance v)
+done-worth (valued.Worth value tolerance) done = refl
+done-worth (valued.Refused g block) done = absurd (omega (arith, numbered g))

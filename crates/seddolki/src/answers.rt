@@ -1,0 +1,62 @@
+// The answers of the entries as numbers.
+use super::Answer;
+use discount::entry::Valued;
+use edit::Edited;
+use ground::Ground;
+use ground::Verdict;
+ghost use mathlib.Core.Path.{_≡_};
+ghost use Rattle.seddolki.specs.Answers.{done, refused, verdictAnswer, editedAnswer, valuedAnswer, valuedTolerance};
+
+fn done(value: u64) -> Answer
+    ensures { λ r. ⌜ r ≡ done value ⌝ }
+{
+    Answer {
+        number: 0,
+        value: value,
+    }
+}
+
+fn refused(g: Ground, block: u64) -> Answer
+    ensures { λ r. ⌜ r ≡ refused g block ⌝ }
+{
+    Answer {
+        number: ground::number(g),
+        value: block,
+    }
+}
+
+pub fn verdict_answer(v: Verdict) -> Answer
+    ensures { λ r. ⌜ r ≡ verdictAnswer v ⌝ }
+{
+    match v {
+        Verdict::Accepted => done(0),
+        Verdict::Refused(g, k) => refused(g, k),
+    }
+}
+
+pub fn edited_answer(e: Edited) -> Answer
+    ensures { λ r. ⌜ r ≡ editedAnswer e ⌝ }
+{
+    match e {
+        Edited::Used(n) => done(n as u64),
+        Edited::Refused(g, k) => refused(g, k),
+    }
+}
+
+pub fn valued_answer(v: Valued) -> Answer
+    ensures { λ r. ⌜ r ≡ valuedAnswer v ⌝ }
+{
+    match v {
+        Valued::Worth(value, _) => done(value),
+        Valued::Refused(g, k) => refused(g, k),
+    }
+}
+
+pub fn valued_tolerance(v: Valued) -> u64
+    ensures { λ r. ⌜ r ≡ valuedTolerance v ⌝ }
+{
+    match v {
+        Valued::Worth(_, tolerance) => tolerance,
+        Valued::Refused(_, _) => 0,
+    }
+}

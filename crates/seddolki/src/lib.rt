@@ -1,0 +1,91 @@
+// The engine's calls from C. Each takes whatever it is lent: it promises its answer, and every lent byte afterwards.
+mod answers;
+
+use answers::edited_answer;
+use answers::valued_answer;
+use answers::valued_tolerance;
+use answers::verdict_answer;
+ghost use mathlib.Core.Path.{_≡_};
+ghost use lib.ListN.{length};
+ghost use Rattle.book.specs.Verdict.{verdict};
+ghost use Rattle.discount.specs.Valued.{valuedOf};
+ghost use Rattle.edit.specs.Edits.{found, appendAnswer, appended, strikeAnswer, struck};
+ghost use Rattle.report.specs.Entry.{marginVerdict, marginBytes};
+ghost use Rattle.seddolki.specs.Answers.{verdictAnswer, editedAnswer, valuedAnswer, valuedTolerance};
+
+// Number 0 is done, and the value is the result; any other number is the ground of refusal, and the value is the block.
+#[repr(C)]
+pub struct Answer {
+    pub number: u64,
+    pub value: u64,
+}
+
+// The check of a whole book, grounds 1 to 12.
+#[no_mangle]
+pub extern "C" fn seddolki_check(book: &[u8], used: usize) -> Answer
+    ensures { λ r. ⌜ r ≡ verdictAnswer (verdict (now (book .entry)) used) ⌝ }
+{
+    verdict_answer(book::check(book, used))
+}
+
+// Writes the report of a book's margin into the first 512 bytes of the report space; a refused call writes nothing.
+#[no_mangle]
+pub extern "C" fn seddolki_margin(book: &[u8], used: usize, report: &mut [u8]) -> Answer
+    ensures { λ r. ⌜ r ≡ verdictAnswer (marginVerdict (now (book .entry)) used (length (now (report .entry)))) ⌝ }
+    ensures { λ _. ⌜ now (report .exit) ≡ marginBytes (now (book .entry)) used (now (report .entry)) ⌝ }
+{
+    verdict_answer(report::margin(book, used, report))
+}
+
+// Appends a record; the value is the new used length.
+#[no_mangle]
+pub extern "C" fn seddolki_append(book: &mut [u8], used: usize, record: &[u8; 56]) -> Answer
+    ensures { λ r. ⌜ r ≡ editedAnswer (appendAnswer (now (book .entry)) used (now («record» .entry))) ⌝ }
+    ensures { λ _. ⌜ now (book .exit) ≡ appended (now (book .entry)) used (now («record» .entry)) ⌝ }
+{
+    let bytes = *record;
+    edited_answer(edit::append(book, used, bytes))
+}
+
+// Strikes the record at a position; the value is the new used length.
+#[no_mangle]
+pub extern "C" fn seddolki_strike(book: &mut [u8], used: usize, position: usize) -> Answer
+    ensures { λ r. ⌜ r ≡ editedAnswer (strikeAnswer (now (book .entry)) used position) ⌝ }
+    ensures { λ _. ⌜ now (book .exit) ≡ struck (now (book .entry)) used position ⌝ }
+{
+    edited_answer(edit::strike(book, used, position))
+}
+
+// Reads the record at a position; a refused call writes zeros.
+#[no_mangle]
+pub extern "C" fn seddolki_read(
+    book: &[u8],
+    used: usize,
+    position: usize,
+    record: &mut [u8; 56],
+) -> Answer
+    ensures { λ r. ⌜ r ≡ verdictAnswer (found (now (book .entry)) used position .verdict) ⌝ }
+    ensures { λ _. ⌜ now («record» .exit) ≡ found (now (book .entry)) used position .bytes ⌝ }
+{
+    let found = edit::read(book, used, position);
+    let bytes = found.bytes;
+    let verdict = found.verdict;
+    *record = bytes;
+    verdict_answer(verdict)
+}
+
+// One present value and its tolerance; a refused call writes 0 as the tolerance.
+#[no_mangle]
+pub extern "C" fn seddolki_present_value(
+    amount: u64,
+    rate: u64,
+    day: u64,
+    tolerance: &mut u64,
+) -> Answer
+    ensures { λ r. ⌜ r ≡ valuedAnswer (valuedOf amount rate day) ⌝ }
+    ensures { λ _. ⌜ now (tolerance .exit) ≡ valuedTolerance (valuedOf amount rate day) ⌝ }
+{
+    let valued = discount::entry::value(amount, rate, day);
+    *tolerance = valued_tolerance(valued);
+    valued_answer(valued)
+}
