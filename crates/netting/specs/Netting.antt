@@ -1,0 +1,70 @@
+-- Flows netted by day, and what the net amounts are worth at a cheap factor for each day. Assumes nothing.
+use mathlib.Core.Bool.{cond}
+use mathlib.Core.List.{List, [], _∷_}
+use Prim.Native.Nat.{ℕ, suc, _+_, _*_, _/_, _≤_}
+use lib.Dec.{eqb}
+use lib.IntN.{ℤ, pos, negℤ, natAbs, _+ℤ_}
+use lib.ListN.{getD, set, replicate}
+use lib.Signed.{ltZ}
+use Rattle.discount.specs.declared.Flow.{Flow}
+use Rattle.discount.specs.Discount.{products}
+use Rattle.discount.specs.Flows.{signed}
+use Rattle.sieve.specs.Cheap.{whole, cheapFactor}
+
+-- a net amount for each of the days 0 to 10,950, none at first
+abbrev pub noNets : List ℤ
+noNets = replicate 10951 (pos 0)
+
+-- the net amount of a day
+abbrev pub netOn : List ℤ → ℕ → ℤ
+netOn nets day = getD nets day (pos 0)
+
+-- with each flow of a list added to its day's
+unfoldable pub netted : List Flow → List ℤ → List ℤ
+netted [] nets = nets
+netted (f ∷ fs) nets =
+    netted fs (set nets (f .day) (netOn nets (f .day) +ℤ signed (f .received) (f .amount)))
+
+-- the days that have a net amount, in order
+unfoldable pub listedFrom : ℕ → List ℤ → List ℕ
+listedFrom i [] = []
+listedFrom i (x ∷ xs) = cond (eqb (natAbs x) 0) (listedFrom (suc i) xs) (i ∷ listedFrom (suc i) xs)
+
+abbrev pub listed : List ℤ → List ℕ
+listed nets = listedFrom 0 nets
+
+-- what a net amount is worth at a cheap factor, cut towards zero
+unfoldable pub worth : ℕ → ℤ → ℤ
+worth c net = cond (ltZ net (pos 0)) (negℤ (pos (natAbs net * c / whole))) (pos (natAbs net * c / whole))
+
+-- what the net amounts of some days are worth, given the cheap factor of each day
+unfoldable pub netValue : (ℕ → ℕ) → List ℤ → List ℕ → ℤ
+netValue c nets [] = pos 0
+netValue c nets (d ∷ ds) = worth (c d) (netOn nets d) +ℤ netValue c nets ds
+
+-- and how much they are, whatever their signs
+unfoldable pub netSize : List ℤ → List ℕ → ℕ
+netSize nets [] = 0
+netSize nets (d ∷ ds) = natAbs (netOn nets d) + netSize nets ds
+
+-- the cheap factor of each day, at a rate for each day
+abbrev pub cheapOn : (ℕ → ℕ) → ℕ → ℕ
+cheapOn rate day = cheapFactor (rate day) day
+
+-- ---- how far the value of netted flows may be from document 01's
+
+-- the distance of a day's cheap factor from document 01's, in parts of whole, rounded up
+unfoldable pub distanceUp : ℕ → ℕ
+distanceUp days = 26 + (50000 * days / 365 + 2) / 4096 + products days * 44 / 10000
+
+-- of a flow: what the factor, the two cuts and the netting move
+unfoldable pub reach : ℕ → ℕ → ℕ
+reach amount days = amount * distanceUp days / whole + 2
+
+abbrev pub flowReach : Flow → ℕ
+flowReach f = reach (f .amount) (f .day)
+
+-- every flow's day is one of document 01's
+abbrev pub Dated : List Flow → Type 0
+Dated [] = Unit {0}
+Dated (f ∷ fs) = (f .day ≤ 10950) × Dated fs

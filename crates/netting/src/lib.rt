@@ -1,0 +1,1 @@
+// Flows netted by day, and what the net amounts are worth at cheap factors.
