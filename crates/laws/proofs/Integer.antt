@@ -7,7 +7,7 @@ use Prim.Native.Nat.{ℕ, zero, suc, _+_, _-_, _≤_, _<_}
 use native.Mathlib.Omega.{arith}
 use lib.Dec.{T, ltb, ltb→lt, nltb→le, leb→le, le→leb}
 use lib.IntN.{ℤ, pos, negsuc, negℤ, natAbs, subℕ, _+ℤ_, _-ℤ_}
-use lib.Signed.{leZ, ltZ, _≤ℤ_, _<ℤ_}
+use lib.Signed.{leZ, ltZ, _≤ℤ_, _<ℤ_, ltZ-yes, ltZ-no}
 use Rattle.laws.specs.Distance.{Below, Within}
 
 pub up : ℤ → ℕ
@@ -86,6 +86,23 @@ lt-read a b h = go a b (h .lt)
     go (pos a) (negsuc b) t = absurd t
     go (negsuc a) (pos b) t = omega arith
     go (negsuc a) (negsuc b) t = omega (arith, ltb→lt b a t)
+
+pub lt-show : (a b : ℤ) → up a + down b < up b + down a → a <ℤ b
+lt-show a b h = go (ltZ a b) refl
+  where
+    go : (t : Bool) → ltZ a b ≡ t → a <ℤ b
+    go true e = ltZ-yes (rw e tt)
+    go false e = let m : b ≤ℤ a = ltZ-no (rw e tt) in absurd (omega (arith, le-read b a m))
+
+-- a test that failed
+pub leZ-no : (a b : ℤ) → leZ a b ≡ false → b <ℤ a
+leZ-no a b e = go (ltZ b a) refl
+  where
+    go : (t : Bool) → ltZ b a ≡ t → b <ℤ a
+    go true q = ltZ-yes (rw q tt)
+    go false q =
+        let m : a ≤ℤ b = ltZ-no (rw q tt) in
+        absurd (rw e at (m .le))
 
 -- ---- the distance
 

@@ -3,13 +3,13 @@ use mathlib.Core.Path.{_≡_, refl, _∙_}
 use mathlib.Core.Bool.{Bool, true, false, cond}
 use mathlib.Core.List.{List, _∷_, List·Memᴰ, List·Memᴰ·head, List·Memᴰ·tail}
 use Prim.Native.Nat.{ℕ, zero, suc, _+_, _-_, _≤_, _<_}
-use native.Mathlib.Decide.{ℕ-discrete}
+use native.Mathlib.Decide.{ℕ-discrete, decLt}
 use native.Mathlib.Omega.{arith}
 use lib.IntN.{ℤ}
 use lib.Signed.{ltZ, _≤ℤ_, _<ℤ_, ltZ-yes, ltZ-no, ≤ℤ-refl}
 use Rattle.laws.specs.Walk.{table}
 use Rattle.laws.specs.Worst.{worst}
-use Rattle.laws.proofs.Integer.{int}
+use Rattle.laws.proofs.Integer.{int, lt-show}
 use Rattle.laws.proofs.Tables.{table-step, table-end}
 
 -- the numbers from i, n of them
@@ -65,13 +65,6 @@ pub record Leads (l : ℕ → ℤ) (at i : ℕ) : Type 0 where
   pub most : (s : ℕ) → s < i → l s ≤ℤ l at
   pub first : (s : ℕ) → s < at → l s <ℤ l at
 
-≤-<-trans : (a b c : ℤ) → a ≤ℤ b → b <ℤ c → a <ℤ c
-≤-<-trans a b c h k = go (ltZ a c) refl
-  where
-    go : (t : Bool) → ltZ a c ≡ t → a <ℤ c
-    go true e = ltZ-yes (rw e tt)
-    go false e = let m : c ≤ℤ a = ltZ-no (rw e tt) in absurd (omega int)
-
 module _ (l : ℕ → ℤ) where
   leads-next : (at i : ℕ) → Leads l at i → Leads l (cond (ltZ (l at) (l i)) i at) (suc i)
   leads-next at i h = go (ltZ (l at) (l i)) refl
@@ -82,7 +75,7 @@ module _ (l : ℕ → ℤ) where
           record {
             within = omega arith;
             most = λ s m. by-last s m (ℕ-discrete s i) less;
-            first = λ s m. ≤-<-trans (l s) (l at) (l i) (h .most s m) less;
+            first = λ s m. lt-show (l s) (l i) (omega (int, h .most s m, less));
           }
         where
           by-last : (s : ℕ) → s < suc i → Dec (s ≡ i) → l at <ℤ l i → l s ≤ℤ l i
@@ -113,3 +106,15 @@ module _ (l : ℕ → ℤ) where
 
       start : Leads l 0 1
       start = record { within = omega arith; most = only; first = λ s m. absurd (omega arith) }
+
+  -- there is only one
+  leads-same : (n a b : ℕ) → Leads l a n → Leads l b n → a ≡ b
+  leads-same n a b h k = go (decLt a b) (decLt b a)
+    where
+      go : Dec (a < b) → Dec (b < a) → a ≡ b
+      go (yes p) q = absurd (omega (int, k .first a p, h .most b (k .within)))
+      go (no p) (yes q) = absurd (omega (int, h .first b q, k .most a (h .within)))
+      go (no p) (no q) = omega arith
+
+  pub leads-worst : (n at : ℕ) → Leads l at n → worst l 0 (upFrom 1 (n - 1)) ≡ at
+  leads-worst n at h = leads-same n _ at (worst-leads n (omega (arith, h .within))) h

@@ -121,3 +121,7 @@ to-u64 z e h = rw (read-is z h) (rw e tt, record { fits = omega arith })
 -- what a test on z as it is read back says of z
 pub tested : (z : ℤ) (f : ℤ → Bool) (t : Bool) → SFits w64 z → f (read z) ≡ t → f z ≡ t
 tested z f t h e = ap f (sym (toZ-ofZ {w = w64} {z = z} h)) ∙ e
+
+-- and a test on two of them
+pub compared : (f : ℤ → ℤ → Bool) (a b : ℤ) (t : Bool) → mag a < 2 ^ 63 → mag b < 2 ^ 63 → f (read a) (read b) ≡ t → f a b ≡ t
+compared f a b t h k e = rw (back a h, back b k) at e

@@ -8,3 +8,5 @@ pub mod Stressing
 pub mod Currencies
 pub mod Places
 pub mod Accounts
+pub mod Discarding
+pub mod Choosing

@@ -6,3 +6,4 @@ pub mod Factors
 pub mod Worst
 pub mod Margins
 pub mod Demand
+pub mod Choice
