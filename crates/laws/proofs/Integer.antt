@@ -114,7 +114,7 @@ below-show a b t h = record { below = le-show a (b +ℤ pos t) (omega (arith, pl
 
 pub ruleset int = (arith, le-read, le-show, lt-read, below-read, below-show)
 
-abs-le : (z : ℤ) (t : ℕ) → (natAbs z ≤ t) ↔ ((up z ≤ down z + t) × (down z ≤ up z + t))
+pub abs-le : (z : ℤ) (t : ℕ) → (natAbs z ≤ t) ↔ ((up z ≤ down z + t) × (down z ≤ up z + t))
 unfolding up down
 abs-le (pos n) t = omega arith
 abs-le (negsuc n) t = omega arith
@@ -124,3 +124,9 @@ within-abs a b t = (λ w. abs-le (a -ℤ b) t .1 (omega (int, plus a (negℤ b),
   where
     back : (up (a -ℤ b) ≤ down (a -ℤ b) + t) × (down (a -ℤ b) ≤ up (a -ℤ b) + t) → Within a b t
     back h = omega (int, plus a (negℤ b), up-neg b, down-neg b)
+
+-- what is near a number of some size is little larger
+pub near-size : (a b : ℤ) (t m : ℕ) → Within a b t → natAbs b ≤ m → natAbs a ≤ m + t
+near-size a b t m w h =
+    let k = abs-le b m .0 h in
+    abs-le a (m + t) .1 (omega (int, k .0, k .1))

@@ -31,6 +31,9 @@ use Rattle.margin.specs.Choice.{Least, Kept, FirstKept, WorstKept, sameR
 
 -- ---- discarding
 
+pub not-above : (v : ℤ) (t : ℕ) → v ≤ℤ (v +ℤ pos t)
+not-above v t = omega (int, plus v (pos t), up-pos t, down-pos t)
+
 module _ (base : ℤ) (value : ℕ → ℤ) (estimates : List ℤ) (reach n : ℕ) (near : (s : ℕ) → s < n → Within (getD estimates s (pos 0)) (value s) reach) (m : ℕ) (least : Least estimates n m) where
   abbrev loss : ℕ → ℤ
   loss s = base -ℤ value s
@@ -58,9 +61,7 @@ module _ (base : ℤ) (value : ℕ → ℤ) (estimates : List ℤ) (reach n : �
       ))
 
   least-kept : Kept estimates limit m
-  least-kept =
-      let e : ℤ = getD estimates m (pos 0) in
-      omega (int, plus e (pos (2 * reach)), up-pos (2 * reach), down-pos (2 * reach))
+  least-kept = not-above (getD estimates m (pos 0)) (2 * reach)
 
   -- so the first largest loss over those that are kept is the first largest over all
   pub kept-leads : (w : Loss) → WorstKept loss estimates limit n w → Leads loss (w .scenario) n

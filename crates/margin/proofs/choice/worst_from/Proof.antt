@@ -98,11 +98,12 @@ loop-again c =
     let fv = c .before .if12 .given in
     let fl = s .fits .limit .sfits in
     let h = rw (back limit fl) at (l .loop .inv .0) in
-    rw (back limit fl)
-    (⊎-elim
-    (λ w. rw (w .2, w .1 .ensures) (kept-next _ values limit _ _ h _ refl))
-    (λ w. rw (w .1) (kept-same _ values limit _ _ h (leZ-no v limit (told false fv fl (w .0 .left))))) (c .if1 .came),
-    search needs)
+    rw (back limit fl) (
+      ⊎-elim
+          (λ w. rw (w .2, w .1 .ensures) (kept-next _ values limit _ _ h _ refl))
+          (λ w. rw (w .1) (kept-same _ values limit _ _ h (leZ-no v limit (told false fv fl (w .0 .left))))) (c .if1 .came),
+      search needs,
+    )
 
 returns : tie.Need-returns Inv-loop μ-loop
 returns c =
