@@ -1,7 +1,7 @@
 -- The rows of the tables: the first, each after the one before it, and what they are at most. Assumes nothing.
 use mathlib.Core.Path.{_≡_, refl}
 use Prim.Native.Nat.{ℕ, zero, suc, _+_, _-_, _*_, _/_, _%_, _≤_, _<_, zero-le}
-use native.Mathlib.Nat.{le-refl, mul-le-mul, div-le-of-le-mul, div-lt-iff-lt-mul}
+use native.Mathlib.Nat.{le-refl, le-of-lt, mul-le-mul, div-le-of-le-mul, div-lt-iff-lt-mul}
 use native.Mathlib.Numerals.{add-one}
 use native.Mathlib.Omega.{arith}
 use lib.Dec.{lit<, lit≤}
@@ -94,10 +94,8 @@ log-le zero = zero-le
 log-le (suc i) = omega (arith, log-le i, step-le (million + 64 * i) (omega arith))
 
 -- on the line between two rows
-pub part-le : (m j : ℕ) → million ≤ m → j < 64 → stepOf m * j / 64 ≤ 562931939
-part-le m j l h =
-    let few : j ≤ 64 = omega arith in
-    div-le-of-le-mul 64 (mul-le-mul (step-le m l) few)
+pub part-le : (d j : ℕ) → d ≤ 562931939 → j < 64 → d * j / 64 ≤ 562931939
+part-le d j l h = div-le-of-le-mul 64 (mul-le-mul l (le-of-lt h))
 
 module _ (r : ℕ) (l : r ≤ 1000000) where
   pub row-le : r / 64 ≤ 15625
@@ -107,7 +105,7 @@ module _ (r : ℕ) (l : r ≤ 1000000) where
   unfolding logAt
   log-at-le =
       let i : ℕ = r / 64 in
-      rw log-step (omega (arith, log-le i, row-le, part-le (million + 64 * i) (r % 64) (omega arith) (omega arith)))
+      rw log-step (omega (arith, log-le i, row-le, part-le _ (r % 64) (step-le (million + 64 * i) (omega arith)) (omega arith)))
 
   -- the rows of the table of upper digits are enough
   pub exponent-le : (days : ℕ) → days ≤ 10950 → logAt r * days / 365 / 549755813888 ≤ 480
