@@ -26,14 +26,6 @@ fine-pos = lit< tt
 
 -- ---- the powers of a base
 
-pub middle-is : middleBase ≡ 1099444520959
-unfolding middleBase
-middle-is = refl
-
-pub upper-is : upperBase ≡ 1032895585847
-unfolding upperBase
-upper-is = refl
-
 pub middle-le : middleBase ≤ fineWhole
 unfolding middleBase fineWhole
 middle-le = lit≤ tt

@@ -2,12 +2,12 @@
 ghost use mathlib.Core.Path.{_≡_};
 ghost use Prim.Native.Nat.{ℕ, _*_, _/_, _≤_, _<_};
 ghost use lib.ListN.{length, getD};
-ghost use Rattle.sieve.specs.Cheap.{fineWhole, logOf, entry};
+ghost use Rattle.sieve.specs.Cheap.{fineWhole, logOf, entry, Powers};
 
 // The bases of the two tables of powers.
-pub const MIDDLE_BASE: u64 = 1_099_444_520_959;
+const MIDDLE_BASE: u64 = 1_099_444_520_959;
 
-pub const UPPER_BASE: u64 = 1_032_895_585_847;
+const UPPER_BASE: u64 = 1_032_895_585_847;
 
 // One, while a table is filled: 2^40; and its root.
 const WHOLE: u64 = 1_099_511_627_776;
@@ -37,6 +37,15 @@ pub fn powers(base: u64, out: &mut [u64])
         x = multiply(x, base);
         i += 1;
     }
+}
+
+// The two tables of powers.
+pub fn fill_powers(middle: &mut [u64], upper: &mut [u64])
+    requires { ⌜ (length (now middle) ≡ 1024) × (length (now upper) ≡ 481) ⌝ }
+    ensures { λ _. ⌜ Powers (now (middle .exit)) (now (upper .exit)) ⌝ }
+{
+    powers(MIDDLE_BASE, middle);
+    powers(UPPER_BASE, upper);
 }
 
 // The logarithms of the years' factors at every 64th rate, from rate 0.
