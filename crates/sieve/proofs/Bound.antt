@@ -1,6 +1,6 @@
 -- The cheap factor is at most `whole`, and within `distance` of document 01's. Assumes nothing.
 use Prim.Native.Nat.{ℕ, _+_, _*_, _/_, _≤_}
-use native.Mathlib.Nat.{mul-le-mul-left, div-mul-le-self}
+use native.Mathlib.Nat.{add-le-add, mul-le-mul-left, mul-le-mul-right, div-mul-le-self}
 use native.Mathlib.Omega.{arith}
 use Rattle.decimal.specs.Product.{unit}
 use Rattle.discount.specs.Discount.{million, year, products}
@@ -25,6 +25,7 @@ module _ (r days : ℕ) (l : r ≤ 1000000) (k : days ≤ 10950) where
   unfolding year
   cut e = div-mul-le-self (e * days) 365
 
+  -- the units that a year's logarithm and that quotient leave open
   covers : (e : ℕ) → (e + 50000) * days ≤ (e * days / 365 + (50000 * days / 365 + 2)) * year
   unfolding year
   covers e = omega arith
@@ -46,4 +47,5 @@ module _ (r days : ℕ) (l : r ≤ 1000000) (k : days ≤ 10950) where
       let all : Near whole (antilog x) r days ((24 + (m / 4096 + 1)) * unit + 2 * products days * whole) =
       near r days whole (antilog x) 24 x e 50000 m (m / 4096 + 1) rate-le whole-pos (log-near r l) (antilog-low x)
       (antilog-high x (exponent-le r l days k)) (cut e) (covers e) few (units (antilog x) m (antilog-le x)) in
-      near-wide all (omega arith)
+      -- what was found is no more than what `distance` says
+      near-wide all (add-le-add (mul-le-mul-right unit (omega arith)) (omega arith))

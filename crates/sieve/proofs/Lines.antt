@@ -8,28 +8,26 @@ use lib.Dec.{lit<}
 
 -- ---- up * g / run by one division a segment: the slope, rounded up, is exact for g below run and run * run at most 2 ^ 32
 
-module _ (up g run : ℕ) (pos : 0 < run) (less : g < run) (short : run ≤ 65536) where
-  abbrev slope : ℕ
-  slope = up * 4294967296 / run + 1
-
-  pub slope-exact : slope * g / 4294967296 ≡ up * g / run
-  slope-exact =
-      let q : ℕ = up * g / run in
-      let cut : q * run ≤ up * g = div-mul-le-self (up * g) run in
-      let rest : up * g + 1 ≤ q * run + run = omega (arith, lt-div-mul-add {a = up * g} pos) in
-      let slope-cut : up * 4294967296 / run * run ≤ up * 4294967296 = div-mul-le-self (up * 4294967296) run in
-      let slope-rest : up * 4294967296 ≤ up * 4294967296 / run * run + run = le-of-lt (lt-div-mul-add pos) in
-      let next : g + 1 ≤ 65536 = omega arith in
-      let room : (g + 1) * run ≤ 65536 * 65536 = mul-le-mul next short in
-      let low : q * 4294967296 * run ≤ slope * g * run = omega (arith, mul-le-mul-right 4294967296 cut, mul-le-mul-right g slope-rest) in
-      let high : (slope * g + 1) * run ≤ (q + 1) * 4294967296 * run =
-      over up g run q (up * 4294967296 / run) (mul-le-mul-right 4294967296 rest) (mul-le-mul-right g slope-cut) room in
-      let strict : slope * g < (q + 1) * 4294967296 = omega (arith, le-of-mul-le-mul-right high pos) in
-      div-eq-of-lt-le 4294967296 (le-of-mul-le-mul-right low pos) strict
-    where
-      over : (up g run q t : ℕ) → (up * g + 1) * 4294967296 ≤ (q * run + run) * 4294967296 → t * run * g ≤ up * 4294967296 * g
-          → (g + 1) * run ≤ 65536 * 65536 → ((t + 1) * g + 1) * run ≤ (q + 1) * 4294967296 * run
-      over up g run q t h k r = omega arith
+pub slope-exact : (up g run : ℕ) → 0 < run → g < run → run ≤ 65536 → (up * 4294967296 / run + 1) * g / 4294967296 ≡ up * g / run
+slope-exact up g run pos less short =
+    let q : ℕ = up * g / run in
+    let s : ℕ = up * 4294967296 / run in
+    let cut : q * run ≤ up * g = div-mul-le-self (up * g) run in
+    let rest : up * g + 1 ≤ q * run + run = omega (arith, lt-div-mul-add {a = up * g} pos) in
+    let slope-cut : s * run ≤ up * 4294967296 = div-mul-le-self (up * 4294967296) run in
+    let slope-rest : up * 4294967296 ≤ s * run + run = le-of-lt (lt-div-mul-add pos) in
+    let next : g + 1 ≤ 65536 = omega arith in
+    let room : (g + 1) * run ≤ 65536 * 65536 = mul-le-mul next short in
+    let low : q * 4294967296 * run ≤ (s + 1) * g * run = omega (arith, mul-le-mul-right 4294967296 cut, mul-le-mul-right g slope-rest) in
+    let high : ((s + 1) * g + 1) * run ≤ (q + 1) * 4294967296 * run =
+    below up g run q s (mul-le-mul-right 4294967296 rest) (mul-le-mul-right g slope-cut) room in
+    let strict : (s + 1) * g < (q + 1) * 4294967296 = omega (arith, le-of-mul-le-mul-right high pos) in
+    div-eq-of-lt-le 4294967296 (le-of-mul-le-mul-right low pos) strict
+  where
+    -- over plain numbers, so that `omega` meets no quotient
+    below : (up g run q s : ℕ) → (up * g + 1) * 4294967296 ≤ (q * run + run) * 4294967296 → s * run * g ≤ up * 4294967296 * g
+        → (g + 1) * run ≤ 65536 * 65536 → ((s + 1) * g + 1) * run ≤ (q + 1) * 4294967296 * run
+    below up g run q s h k r = omega arith
 
 -- ---- n * c / 2 ^ 31, where the product would not fit
 

@@ -33,6 +33,8 @@ unfolding scale
 small d l = omega arith
 
 module _ (m d : ℕ) (s : Step m d) where
+  -- ---- the whole step, and 2 units more
+
   step-most : m * over ^ d ≤ (m + 64) * under ^ d
   step-most = ratio-most m 64 d (small d (omega (arith, s .few))) (omega (arith, s .cut, scale-is))
 

@@ -63,6 +63,7 @@ module _ (b : ℕ) where
 abbrev pub stepOf : ℕ → ℕ
 stepOf m = scale * 64 / (2 * m + 64)
 
+-- the first step is the longest
 pub step-le : (m : ℕ) → million ≤ m → stepOf m ≤ 562931939
 unfolding scale million
 step-le m l =
@@ -93,6 +94,7 @@ module _ (r : ℕ) (l : r ≤ 1000000) where
   pub row-le : r / 64 ≤ 15625
   row-le = omega arith
 
+  -- as many steps as the row after the last has before it
   pub log-at-le : logAt r ≤ 8796374478814
   unfolding logAt
   log-at-le =
