@@ -1,8 +1,7 @@
 -- What a net amount is worth, by its sign, as the code has it: z is read back from its bits. Assumes nothing.
 use mathlib.Core.Path.{_≡_, refl, ap}
 use mathlib.Core.Bool.{true, false, true≢false}
-use Prim.Native.Nat.{ℕ, _*_, _/_, _≤_, _<_}
-use native.Mathlib.Nat.{div-le-of-le-mul, mul-le-mul-left}
+use Prim.Native.Nat.{ℕ, _*_, _/_, _<_}
 use native.Mathlib.Omega.{arith}
 use lib.Dec.{ltb→lt}
 use lib.IntN.{ℤ, pos, negsuc, natAbs, _-ℤ_, +ℤ-idl}
@@ -38,8 +37,3 @@ module _ (z : ℤ) (fit : SFits w64 z) where
   pub worth-natural : (c : ℕ) → ltZ (read z) (pos 0) ≡ false → pos (natAbs z * c / whole) ≡ worth c z
   unfolding worth
   worth-natural c e = rw (tested z (λ x. ltZ x (pos 0)) false fit e) refl
-
--- no more than the amount
-pub scaled-le : (n c : ℕ) → c ≤ 2147483648 → n * c / whole ≤ n
-unfolding whole
-scaled-le n c h = div-le-of-le-mul 2147483648 (omega (arith, mul-le-mul-left n h))

@@ -7,16 +7,15 @@ use native.Mathlib.Omega.{arith}
 use Rattle.discount.specs.Discount.{year, products}
 use Rattle.sieve.specs.Cheap.{whole}
 use Rattle.netting.specs.Netting.{distanceUp, reach}
+use Rattle.netting.proofs.Sizes.{distance-size}
 use Rattle.netting.proofs.value.reach.Statement.{statement}
 use Rattle.netting.proofs.value.reach.Tie as tie
 
 bound : (s : tie.Start)
     → let day = s .args .day in
     s .args .amount * (26 + (50000 * day / 365 + 2) / 4096 + (day % 365 + day / 365) * 44 / 10000) ≤ 1000000000000 * 393
-bound s =
-    let day = s .args .day in
-    let most : 26 + (50000 * day / 365 + 2) / 4096 + (day % 365 + day / 365) * 44 / 10000 ≤ 393 = omega (arith, s .pre .1) in
-    mul-le-mul (s .pre .0) most
+unfolding year products distanceUp
+bound s = mul-le-mul (s .pre .0) (distance-size (s .args .day) (s .pre .1))
 
 mul-result : tie.Need-mul-result
 mul-result c = omega (arith, bound c)

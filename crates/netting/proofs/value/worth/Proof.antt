@@ -5,7 +5,8 @@ use native.Mathlib.Omega.{arith}
 use lib.IntN.{pos, natAbs, _-ℤ_}
 use Rattle.laws.proofs.Signed.{fits, cast, cast-is, read-is, abs-sub}
 use Rattle.sieve.specs.Cheap.{whole}
-use Rattle.netting.proofs.Signs.{size-kept, worth-negative, worth-natural, scaled-le}
+use Rattle.netting.proofs.Signs.{size-kept, worth-negative, worth-natural}
+use Rattle.netting.proofs.Sizes.{scaled-le}
 use Rattle.netting.proofs.value.worth.Statement.{statement}
 use Rattle.netting.proofs.value.worth.Tie as tie
 
