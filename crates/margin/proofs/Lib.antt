@@ -10,3 +10,4 @@ pub mod Places
 pub mod Accounts
 pub mod Discarding
 pub mod Choosing
+pub mod Netting

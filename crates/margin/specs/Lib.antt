@@ -7,3 +7,4 @@ pub mod Worst
 pub mod Margins
 pub mod Demand
 pub mod Choice
+pub mod Netted

@@ -5,6 +5,7 @@ pub mod factors;
 pub mod ladder;
 pub mod losses;
 pub mod margins;
+pub mod net;
 pub mod total;
 
 // The figures of a curve.
