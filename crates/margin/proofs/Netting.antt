@@ -1,22 +1,22 @@
 -- The laws of a loop that nets flows: what is netted and what is left are together all, and there is room for what is left. Assumes nothing.
 use mathlib.Core.Path.{_≡_, refl, sym, _∙_}
 use mathlib.Core.List.{List, [], _∷_, _++_}
-use Prim.Native.Nat.{ℕ, suc, _+_, _*_, _≤_, _<_}
+use Prim.Native.Nat.{ℕ, suc, _+_, _*_, _≤_}
 use native.Mathlib.Nat.{suc-mul, mul-le-mul-right}
 use native.Mathlib.Decide.{ℕ-discrete}
 use native.Mathlib.Omega.{arith}
-use lib.IntN.{ℤ, pos, natAbs, _+ℤ_}
+use lib.IntN.{ℤ, pos, _+ℤ_}
 use lib.ListN.{length, length-append, length-set, set}
 use lib.Seq.{getD-set-same, getD-set-other}
-use Rattle.laws.proofs.Signed.{abs-add}
+use Rattle.laws.proofs.Signed.{abs-add, read, read-is}
 use Rattle.decimal.specs.Product.{unit}
 use Rattle.discount.specs.declared.Flow.{Flow}
-use Rattle.discount.specs.Flows.{signed}
-use Rattle.netting.specs.Netting.{netted, netOn, noNets}
-use Rattle.netting.proofs.Sizes.{nets-length}
+use Rattle.discount.specs.Flows.{signed, sum}
+use Rattle.netting.specs.Netting.{netted, netOn, flowReach}
+use Rattle.netting.proofs.Sizes.{nets-length, reach-size}
 use Rattle.margin.specs.Factors.{dayCount}
 use Rattle.margin.specs.Netted.{NetRoom, NetsRoom}
-use Rattle.margin.specs.Totals.{FlowLimits, AllFlowLimits, mostFlows}
+use Rattle.margin.specs.Totals.{FlowLimits, AllFlowLimits}
 use Rattle.margin.proofs.Totals.{signed-size}
 
 -- ---- room
@@ -27,6 +27,11 @@ room-less m n x h k = record { room = omega (arith, k .room, mul-le-mul-right un
 room-next : (n : ℕ) (x : ℤ) (f : Flow) → FlowLimits f → NetRoom (suc n) x → NetRoom n (x +ℤ signed (f .received) (f .amount))
 room-next n x f s h =
     record { room = omega (arith, h .room, suc-mul n unit, abs-add x (signed (f .received) (f .amount)), signed-size (f .received) (f .amount), s .amount) }
+
+-- a net amount with one flow more, read back from its bits
+pub net-read : (x : ℤ) (f : Flow) → NetRoom 1 x → FlowLimits f → (r : ℤ) → r ≡ x +ℤ signed (f .received) (f .amount) → read r ≡ x +ℤ signed (f .received) (f .amount)
+unfolding unit
+net-read x f h s r e = rw e (read-is (x +ℤ signed (f .received) (f .amount)) (omega (arith, room-next 0 x f s h .room)))
 
 pub nets-one : (n : ℕ) (nets : List ℤ) (day : ℕ) → NetsRoom (suc n) nets → NetRoom 1 (netOn nets day)
 nets-one n nets day h = room-less 1 (suc n) (netOn nets day) (omega arith) (h .each day)
@@ -41,14 +46,14 @@ withFlow nets f = set nets (f .day) (netOn nets (f .day) +ℤ signed (f .receive
 
 module _ (nets : List ℤ) (f : Flow) (places : length nets ≡ dayCount) (s : FlowLimits f) where
   nets-next : (n : ℕ) → NetsRoom (suc n) nets → NetsRoom n (withFlow nets f)
-  nets-next n h = record { each = λ day. go day (ℕ-discrete (f .day) day) }
+  nets-next n h = record { each = λ day. go day (ℕ-discrete day (f .day)) }
     where
       y : ℤ
       y = netOn nets (f .day) +ℤ signed (f .received) (f .amount)
 
-      go : (day : ℕ) → Dec (f .day ≡ day) → NetRoom n (netOn (set nets (f .day) y) day)
+      go : (day : ℕ) → Dec (day ≡ f .day) → NetRoom n (netOn (set nets (f .day) y) day)
       go day (yes e) =
-          rw (sym e, getD-set-same nets (f .day) y (pos 0) (omega (arith, s .day))) (room-next n (netOn nets (f .day)) f s (h .each (f .day)))
+          rw (e, getD-set-same nets (f .day) y (pos 0) (omega (arith, s .day))) (room-next n (netOn nets (f .day)) f s (h .each (f .day)))
       go day (no e) =
           rw (getD-set-other nets (f .day) day y (pos 0) e) (room-less n (suc n) (netOn nets day) (omega arith) (h .each day))
 
@@ -84,3 +89,15 @@ module _ (a₀ : List ℤ) (all : List Flow) (a : List ℤ) (days : length a₀ 
   pub netting-none : Netting a₀ all a [] → a ≡ netted all a₀
   unfolding netted
   netting-none h = sym (h .same)
+
+-- ---- how far flows may be off, added up
+
+pub reach-append : (xs ys : List Flow) → sum flowReach (xs ++ ys) ≡ sum flowReach xs + sum flowReach ys
+unfolding sum
+reach-append [] ys = omega arith
+reach-append (f ∷ xs) ys = omega (arith, reach-append xs ys)
+
+pub reach-most : (fs : List Flow) → AllFlowLimits fs → sum flowReach fs ≤ length fs * 200000
+unfolding sum
+reach-most [] h = omega arith
+reach-most (f ∷ fs) h = omega (arith, reach-size (f .amount) (f .day) (h .0 .amount) (h .0 .day), reach-most fs (h .1))

@@ -4,7 +4,7 @@ use mathlib.Core.Bool.{Bool, true, false}
 use Prim.Native.Nat.{ℕ, _+_, _*_, _/_, _%_, _^_, _≤_, _<_}
 use native.Mathlib.Nat.{le-trans, mul-le-mul}
 use native.Mathlib.Omega.{arith}
-use lib.IntN.{pos, natAbs, _+ℤ_, _-ℤ_}
+use lib.IntN.{ℤ, pos, natAbs, _+ℤ_, _-ℤ_}
 use mir.Syntax.{w64}
 use mir.Val.{SFits}
 use Rattle.laws.proofs.Signed.{fits, cast, read, cast-is, read-is, abs-neg, abs-add, abs-sub}
@@ -14,7 +14,7 @@ use Rattle.discount.specs.Discount.{year, products, tolerance}
 use Rattle.discount.specs.declared.Flow.{Flow}
 use Rattle.discount.specs.Flows.{signed, sum}
 use Rattle.margin.specs.declared.total.Total.{Total}
-use Rattle.margin.specs.Totals.{FlowLimits, RoomFor}
+use Rattle.margin.specs.Totals.{FlowLimits, mostFlows, RoomFor}
 
 -- ---- the size of a tolerance
 
@@ -37,29 +37,39 @@ signed-size false n = abs-neg (pos n)
 pub off-fits : (t : Total) → RoomFor 1 t → (a days : ℕ) → a ≤ unit → days ≤ 10950 → t .tolerance + tolerance a days < 2 ^ 64
 off-fits t h a days ha hd = omega (arith, h .off, tolerance-size a days ha hd)
 
-module _ (t : Total) (f : Flow) (factor : ℕ) (h : RoomFor 1 t × FlowLimits f × (factor ≤ unit)) where
-  abbrev v : ℕ
-  v = product (f .amount) factor
+pub flow-size : (f : Flow) (factor : ℕ) → FlowLimits f → factor ≤ unit → product (f .amount) factor ≤ unit
+flow-size f factor h k = le-trans (product-le (f .amount) factor k) (h .amount)
 
-  value-size : v ≤ unit
-  value-size = le-trans (product-le (f .amount) factor (h .2)) (h .1 .amount)
-
+-- z is a sum with room for one flow more, v what the flow adds or takes
+module _ (z : ℤ) (v : ℕ) (room : natAbs z + 1 * unit ≤ mostFlows * unit) (most : v ≤ unit) where
   pub value-fits : SFits w64 (pos v)
   unfolding unit
-  value-fits = fits (pos v) (omega (arith, value-size))
+  value-fits = fits (pos v) (omega arith)
 
-  pub more-size : natAbs (t .sum +ℤ pos v) < 2 ^ 63
+  more-size : natAbs (z +ℤ pos v) < 2 ^ 63
   unfolding unit
-  more-size = omega (arith, abs-add (t .sum) (pos v), h .0 .value, value-size)
+  more-size = omega (arith, abs-add z (pos v))
 
-  pub less-size : natAbs (t .sum -ℤ pos v) < 2 ^ 63
+  less-size : natAbs (z -ℤ pos v) < 2 ^ 63
   unfolding unit
-  less-size = omega (arith, abs-sub (t .sum) (pos v), h .0 .value, value-size)
+  less-size = omega (arith, abs-sub z (pos v))
 
-  pub code-more : read (t .sum) +ℤ cast v ≡ t .sum +ℤ pos v
+  code-more : read z +ℤ cast v ≡ z +ℤ pos v
   unfolding unit
-  code-more = rw (read-is (t .sum) (omega (arith, h .0 .value)), cast-is v (omega (arith, value-size))) refl
+  code-more = rw (read-is z (omega arith), cast-is v (omega arith)) refl
 
-  pub code-less : read (t .sum) -ℤ cast v ≡ t .sum -ℤ pos v
+  code-less : read z -ℤ cast v ≡ z -ℤ pos v
   unfolding unit
-  code-less = rw (read-is (t .sum) (omega (arith, h .0 .value)), cast-is v (omega (arith, value-size))) refl
+  code-less = rw (read-is z (omega arith), cast-is v (omega arith)) refl
+
+  pub fits-more : SFits w64 (read z +ℤ cast v)
+  fits-more = rw code-more (fits (z +ℤ pos v) more-size)
+
+  pub read-more : read (read z +ℤ cast v) ≡ z +ℤ pos v
+  read-more = rw code-more (read-is (z +ℤ pos v) more-size)
+
+  pub fits-less : SFits w64 (read z -ℤ cast v)
+  fits-less = rw code-less (fits (z -ℤ pos v) less-size)
+
+  pub read-less : read (read z -ℤ cast v) ≡ z -ℤ pos v
+  read-less = rw code-less (read-is (z -ℤ pos v) less-size)

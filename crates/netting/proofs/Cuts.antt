@@ -12,11 +12,8 @@ use Rattle.laws.specs.Distance.{Within}
 use Rattle.laws.proofs.Integer.{int, up, down, plus, up-pos, down-pos, up-neg, down-neg}
 use Rattle.discount.specs.Flows.{signed}
 use Rattle.sieve.specs.Cheap.{whole}
+use Rattle.sieve.proofs.Rows.{whole-pos}
 use Rattle.netting.specs.Netting.{worth}
-
-pub whole-pos : 0 < whole
-unfolding whole
-whole-pos = lit< tt
 
 -- one side of a number is 0; and where y is x and an amount more, x has nothing above or y nothing below
 up-negative : (n : ℕ) → up (negsuc n) ≡ 0

@@ -14,9 +14,11 @@ use Rattle.decimal.proofs.Products.{unit-pos, product-low, product-high}
 use Rattle.discount.specs.Discount.{factor, presentValue}
 use Rattle.discount.specs.declared.Flow.{Flow}
 use Rattle.discount.specs.Flows.{signed, total, sum, flowValue}
-use Rattle.sieve.specs.Cheap.{whole, cheapFactor, Near, distance}
+use Rattle.sieve.specs.Cheap.{whole, cheapFactor, distance}
+use Rattle.sieve.proofs.Rows.{whole-pos}
+use Rattle.sieve.proofs.Bound.{cheap-near}
 use Rattle.netting.specs.Netting.{noNets, netOn, netted, listed, worth, netValue, cheapOn, distanceUp, reach, flowReach, Dated}
-use Rattle.netting.proofs.Cuts.{whole-pos, worth-more}
+use Rattle.netting.proofs.Cuts.{worth-more}
 use Rattle.netting.proofs.DaySums.{daysWorth, listed-worth, none-days, days-changed}
 
 -- ---- one flow
@@ -41,63 +43,61 @@ joined a b false v p q t w h k l =
     let y = negℤ (pos p) in
     omega (int, plus b x, plus b y, up-neg (pos v), down-neg (pos v), up-neg (pos p), down-neg (pos p), up-pos v, down-pos v, up-pos p, down-pos p)
 
--- what theorem `cheap-near` of the cheap factors says
-module _ (near : (r days : ℕ) → r ≤ 1000000 → days ≤ 10950 → Near whole (cheapFactor r days) r days (distance days)) where
-  -- a flow's part in its day's value
-  module _ (a r days : ℕ) (l : r ≤ 1000000) (k : days ≤ 10950) where
-    off : ℕ
-    off = a * distanceUp days / whole
+-- a flow's part in its day's value
+module _ (a r days : ℕ) (l : r ≤ 1000000) (k : days ≤ 10950) where
+  off : ℕ
+  off = a * distanceUp days / whole
 
-    moved : a * (distanceUp days * unit) < off * (whole * unit) + whole * unit
-    unfolding off
-    moved =
-        let next : a * distanceUp days + 1 ≤ off * whole + whole = omega (arith, lt-div-mul-add {a = a * distanceUp days} whole-pos) in
-        omega (arith, mul-le-mul-right unit next, unit-pos)
+  moved : a * (distanceUp days * unit) < off * (whole * unit) + whole * unit
+  unfolding off
+  moved =
+      let next : a * distanceUp days + 1 ≤ off * whole + whole = omega (arith, lt-div-mul-add {a = a * distanceUp days} whole-pos) in
+      omega (arith, mul-le-mul-right unit next, unit-pos)
 
-    not-over : a * cheapFactor r days / whole ≤ presentValue a r days + (off + 1)
-    unfolding presentValue
-    not-over =
-        close a (factor r days) unit (cheapFactor r days) whole (distanceUp days * unit) _ _ _ (product-high a (factor r days)) (div-mul-le-self _ whole)
-        (omega (arith, near r days l k .below, distance-up days))
-        moved
+  not-over : a * cheapFactor r days / whole ≤ presentValue a r days + (off + 1)
+  unfolding presentValue
+  not-over =
+      close a (factor r days) unit (cheapFactor r days) whole (distanceUp days * unit) _ _ _ (product-high a (factor r days)) (div-mul-le-self _ whole)
+      (omega (arith, cheap-near r days l k .below, distance-up days))
+      moved
 
-    not-under : presentValue a r days ≤ a * cheapFactor r days / whole + (off + 1)
-    unfolding presentValue
-    not-under =
-        close a (cheapFactor r days) whole (factor r days) unit (distanceUp days * unit) _ _ off (lt-div-mul-add whole-pos) (product-low a (factor r days))
-        (omega (arith, near r days l k .above, distance-up days))
-        (omega (arith, moved))
+  not-under : presentValue a r days ≤ a * cheapFactor r days / whole + (off + 1)
+  unfolding presentValue
+  not-under =
+      close a (cheapFactor r days) whole (factor r days) unit (distanceUp days * unit) _ _ off (lt-div-mul-add whole-pos) (product-low a (factor r days))
+      (omega (arith, cheap-near r days l k .above, distance-up days))
+      (omega (arith, moved))
 
-    -- with the cut of the net amount
-    pub flow-within : (x : ℤ) (s : Bool)
-        → Within (worth (cheapFactor r days) (x +ℤ signed s a)) (worth (cheapFactor r days) x +ℤ signed s (presentValue a r days)) (reach a days)
-    unfolding off reach
-    flow-within x s =
-        let c = cheapFactor r days in
-        joined (worth c (x +ℤ signed s a)) (worth c x) s (a * c / whole) (presentValue a r days) off (reach a days) (worth-more c x s a) not-over not-under (omega arith)
+  -- with the cut of the net amount
+  pub flow-within : (x : ℤ) (s : Bool)
+      → Within (worth (cheapFactor r days) (x +ℤ signed s a)) (worth (cheapFactor r days) x +ℤ signed s (presentValue a r days)) (reach a days)
+  unfolding off reach
+  flow-within x s =
+      let c = cheapFactor r days in
+      joined (worth c (x +ℤ signed s a)) (worth c x) s (a * c / whole) (presentValue a r days) off (reach a days) (worth-more c x s a) not-over not-under (omega arith)
 
-  -- ---- all flows
+-- ---- all flows
 
-  module _ (rate : ℕ → ℕ) (rated : (d : ℕ) → rate d ≤ 1000000) where
-    flows-within : (fs : List Flow) (nets : List ℤ) → 10950 < length nets → Dated fs
-        → Within (daysWorth (cheapOn rate) 0 (netted fs nets)) (daysWorth (cheapOn rate) 0 nets +ℤ total (flowValue rate) fs) (sum flowReach fs)
-    unfolding netted total sum
-    flows-within [] nets l h = let z = daysWorth (cheapOn rate) 0 nets in omega (int, plus z (pos 0), up-pos 0, down-pos 0)
-    flows-within (f ∷ fs) nets l h =
-        let d = f .day in
-        let x = netOn nets d in
-        let y = x +ℤ signed (f .received) (f .amount) in
-        let v = signed (f .received) (flowValue rate f) in
-        let was = daysWorth (cheapOn rate) 0 nets in
-        let now = daysWorth (cheapOn rate) 0 (set nets d y) in
-        let rest = total (flowValue rate) fs in
-        let one : Within now (was +ℤ v) (flowReach f) =
-        days-changed (cheapOn rate) 0 nets d y v (flowReach f) (omega (arith, h .0)) (rw zero-add (flow-within (f .amount) (rate d) d (rated d) (h .0) x (f .received))) in
-        let others = flows-within fs (set nets d y) (rw length-set l) (h .1) in
-        omega (int, one, others, plus was v, plus now rest, plus v rest, plus was (v +ℤ rest))
+module _ (rate : ℕ → ℕ) (rated : (d : ℕ) → rate d ≤ 1000000) where
+  flows-within : (fs : List Flow) (nets : List ℤ) → 10950 < length nets → Dated fs
+      → Within (daysWorth (cheapOn rate) 0 (netted fs nets)) (daysWorth (cheapOn rate) 0 nets +ℤ total (flowValue rate) fs) (sum flowReach fs)
+  unfolding netted total sum
+  flows-within [] nets l h = let z = daysWorth (cheapOn rate) 0 nets in omega (int, plus z (pos 0), up-pos 0, down-pos 0)
+  flows-within (f ∷ fs) nets l h =
+      let d = f .day in
+      let x = netOn nets d in
+      let y = x +ℤ signed (f .received) (f .amount) in
+      let v = signed (f .received) (flowValue rate f) in
+      let was = daysWorth (cheapOn rate) 0 nets in
+      let now = daysWorth (cheapOn rate) 0 (set nets d y) in
+      let rest = total (flowValue rate) fs in
+      let one : Within now (was +ℤ v) (flowReach f) =
+      days-changed (cheapOn rate) 0 nets d y v (flowReach f) (omega (arith, h .0)) (rw zero-add (flow-within (f .amount) (rate d) d (rated d) (h .0) x (f .received))) in
+      let others = flows-within fs (set nets d y) (rw length-set l) (h .1) in
+      omega (int, one, others, plus was v, plus now rest, plus v rest, plus was (v +ℤ rest))
 
-    pub netted-within : (fs : List Flow) → Dated fs
-        → Within (netValue (cheapOn rate) (netted fs noNets) (listed (netted fs noNets))) (total (flowValue rate) fs) (sum flowReach fs)
-    netted-within fs h =
-        let all = flows-within fs noNets (rw length-replicate (lit< tt)) h in
-        rw (listed-worth (cheapOn rate) (netted fs noNets)) (rw (none-days, +ℤ-idl) at all)
+  pub netted-within : (fs : List Flow) → Dated fs
+      → Within (netValue (cheapOn rate) (netted fs noNets) (listed (netted fs noNets))) (total (flowValue rate) fs) (sum flowReach fs)
+  netted-within fs h =
+      let all = flows-within fs noNets (rw length-replicate (lit< tt)) h in
+      rw (listed-worth (cheapOn rate) (netted fs noNets)) (rw (none-days, +ℤ-idl) at all)

@@ -1,8 +1,7 @@
 -- `margin::total::Total::with_flow` meets its contract. Assumes nothing.
 use borrow.Author.Needs.{needs}
-use Rattle.laws.proofs.Signed.{fits, read-is}
 use Rattle.margin.specs.Totals.{plusFlow}
-use Rattle.margin.proofs.Totals.{value-fits, off-fits, more-size, less-size, code-more, code-less}
+use Rattle.margin.proofs.Totals.{flow-size, off-fits, value-fits, fits-more, read-more, fits-less, read-less}
 use Rattle.margin.proofs.total.Total.with_flow.Statement.{statement}
 use Rattle.margin.proofs.total.Total.with_flow.Tie as tie
 
@@ -10,7 +9,9 @@ multiply-requires : tie.Need-multiply-requires
 multiply-requires c κs = search needs
 
 cast-value : tie.Need-cast-value
-cast-value c = rw (c .multiply .ensures) (value-fits _ _ _ (c .before .pre))
+cast-value c =
+    let s = c .before in
+    rw (c .multiply .ensures) (value-fits (s .args .self .sum) _ (s .pre .0 .value) (flow-size _ _ (s .pre .1) (s .pre .2)))
 
 tolerance-requires : tie.Need-tolerance-requires
 tolerance-requires c κs = search needs
@@ -22,25 +23,25 @@ add-off c =
 
 add-t8 : tie.Need-add-t8
 add-t8 c =
-    let p = c .before .before .before .before .before .before .pre in
-    rw (c .before .before .before .before .before .multiply .ensures, code-more _ _ _ p) (fits _ (more-size _ _ _ p))
+    let s = c .before .before .before .before .before .before in
+    rw (c .before .before .before .before .before .multiply .ensures) (fits-more (s .args .self .sum) _ (s .pre .0 .value) (flow-size _ _ (s .pre .1) (s .pre .2)))
 
 returns : tie.Need-returns
 unfolding plusFlow
 returns c =
-    let p = c .before .before .before .before .before .before .pre in
-    rw (c .before .before .before .before .before .multiply .ensures, c .before .before .before .before .tolerance .ensures, code-more _ _ _ p, read-is _ (more-size _ _ _ p), c .before .before .if1 .taken)
+    let s = c .before .before .before .before .before .before in
+    rw (c .before .before .before .before .before .multiply .ensures, c .before .before .before .before .tolerance .ensures, read-more (s .args .self .sum) _ (s .pre .0 .value) (flow-size _ _ (s .pre .1) (s .pre .2)), c .before .before .if1 .taken)
 
 sub-t9 : tie.Need-sub-t9
 sub-t9 c =
-    let p = c .before .before .before .before .before .before .pre in
-    rw (c .before .before .before .before .before .multiply .ensures, code-less _ _ _ p) (fits _ (less-size _ _ _ p))
+    let s = c .before .before .before .before .before .before in
+    rw (c .before .before .before .before .before .multiply .ensures) (fits-less (s .args .self .sum) _ (s .pre .0 .value) (flow-size _ _ (s .pre .1) (s .pre .2)))
 
 returns-2 : tie.Need-returns-2
 unfolding plusFlow
 returns-2 c =
-    let p = c .before .before .before .before .before .before .pre in
-    rw (c .before .before .before .before .before .multiply .ensures, c .before .before .before .before .tolerance .ensures, code-less _ _ _ p, read-is _ (less-size _ _ _ p), c .before .before .if1 .left)
+    let s = c .before .before .before .before .before .before in
+    rw (c .before .before .before .before .before .multiply .ensures, c .before .before .before .before .tolerance .ensures, read-less (s .args .self .sum) _ (s .pre .0 .value) (flow-size _ _ (s .pre .1) (s .pre .2)), c .before .before .if1 .left)
 
 pub with-flow-spec : {M : Type 1} → statement M
 with-flow-spec =
