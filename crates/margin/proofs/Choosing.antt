@@ -15,7 +15,6 @@ use Rattle.decimal.specs.Product.{unit}
 use Rattle.discount.specs.Flows.{flowValue}
 use Rattle.curve.specs.declared.Curve.{Curve}
 use Rattle.curve.specs.declared.Components.{Components}
-use Rattle.curve.specs.declared.Scenario.{Scenario}
 use Rattle.curve.specs.Limits.{Proper}
 use Rattle.curve.specs.Rates.{nodesOf}
 use Rattle.curve.specs.Scenarios.{scenarioCount, scenarioAt}
@@ -26,7 +25,7 @@ use Rattle.margin.specs.Ladder.{ladderFlows}
 use Rattle.margin.specs.Losses.{valueOn, baseOf, lossAt, worstAt}
 use Rattle.margin.specs.Totals.{mostFlows}
 use Rattle.margin.specs.Worst.{worseOf, worstOf, Ready}
-use Rattle.margin.specs.Choice.{valueAt, Estimates, Least, WorstKept, sameRates, lossOf, Held}
+use Rattle.margin.specs.Choice.{valueAt, Estimates, Least, limitOf, WorstKept, sameRates, lossOf, Held}
 use Rattle.margin.proofs.Discarding.{kept-worst, same-stressed}
 use Rattle.margin.proofs.LadderFlows.{ladder-limits}
 use Rattle.margin.proofs.Sizes.{value-size}
@@ -82,7 +81,8 @@ module _ (reach : ℕ) (small : reach ≤ mostFlows * 200000) where
     pub limit-fits : SFits w64 (read v +ℤ read (pos 2 *ℤ cast reach))
     limit-fits = rw limit-is (fits (v +ℤ pos (2 * reach)) limit-size)
 
-    pub limit-read : read (read v +ℤ read (pos 2 *ℤ cast reach)) ≡ v +ℤ pos (2 * reach)
+    pub limit-read : read (read v +ℤ read (pos 2 *ℤ cast reach)) ≡ limitOf v reach
+    unfolding limitOf
     limit-read = rw limit-is (read-is (v +ℤ pos (2 * reach)) limit-size)
 
 -- ---- an estimate is little larger than a value
@@ -99,7 +99,7 @@ module _ (c : Curve) (x : Components) (id : ℕ) (l : List ℕ) (n : ℕ) (days 
 
   -- the first largest loss over those kept is the worst loss
   pub worst-is : (values : List ℤ) (reach m : ℕ) → Estimates estimated values reach → Least values (scenarioCount x) m → (w : Loss)
-      → WorstKept (lossAt flowValue estimated) values (getD values m (pos 0) +ℤ pos (2 * reach)) (scenarioCount x) w → w ≡ worstOf estimated
+      → WorstKept (lossAt flowValue estimated) values (limitOf (getD values m (pos 0)) reach) (scenarioCount x) w → w ≡ worstOf estimated
   unfolding worstAt lossAt valueAt
   worst-is values reach m k least w h =
       kept-worst (baseOf flowValue estimated) (valueAt estimated) values reach (scenarioCount x) (k .near) m least w h

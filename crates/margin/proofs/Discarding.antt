@@ -1,13 +1,12 @@
 -- Scenarios that their estimates rule out can be passed over: the first largest loss over the rest is that over all. Assumes nothing.
-use mathlib.Core.Path.{_≡_, refl, sym, _∙_, ap}
+use mathlib.Core.Path.{_≡_, refl, ap}
 use mathlib.Core.Bool.{Bool, true, false, cond}
 use mathlib.Core.List.{List, [], _∷_, map}
-use Prim.Native.Nat.{ℕ, zero, suc, _+_, _-_, _*_, _≤_, _<_}
-use native.Mathlib.Decide.{decLt}
+use Prim.Native.Nat.{ℕ, suc, _+_, _-_, _*_, _<_}
 use borrow.Author.Count.{below-more}
 use native.Mathlib.Omega.{arith}
 use lib.Dec.{eqb}
-use lib.IntN.{ℤ, pos, negℤ, _+ℤ_, _-ℤ_}
+use lib.IntN.{ℤ, pos, negℤ, _-ℤ_}
 use lib.ListN.{length, getD}
 use lib.Seq.{getD-take}
 use borrow.Author.Tests.{eqb-true}
@@ -27,22 +26,24 @@ use Rattle.curve.specs.Stress.{stressed, stressedCurve}
 use Rattle.curve.proofs.Rates.{length-nodes}
 use Rattle.margin.specs.declared.losses.Loss.{Loss}
 use Rattle.margin.specs.Worst.{worseOf}
-use Rattle.margin.specs.Choice.{Least, Kept, FirstKept, WorstKept, sameRates}
+use Rattle.margin.specs.Choice.{Least, limitOf, Kept, FirstKept, WorstKept, sameRates}
 
 -- ---- discarding
 
-pub not-above : (v : ℤ) (t : ℕ) → v ≤ℤ (v +ℤ pos t)
-not-above v t = omega (int, plus v (pos t), up-pos t, down-pos t)
+pub not-above : (least : ℤ) (reach : ℕ) → least ≤ℤ limitOf least reach
+unfolding limitOf
+not-above least reach = omega (int, plus least (pos (2 * reach)), up-pos (2 * reach), down-pos (2 * reach))
 
 module _ (base : ℤ) (value : ℕ → ℤ) (estimates : List ℤ) (reach n : ℕ) (near : (s : ℕ) → s < n → Within (getD estimates s (pos 0)) (value s) reach) (m : ℕ) (least : Least estimates n m) where
   abbrev loss : ℕ → ℤ
   loss s = base -ℤ value s
 
   abbrev limit : ℤ
-  limit = getD estimates m (pos 0) +ℤ pos (2 * reach)
+  limit = limitOf (getD estimates m (pos 0)) reach
 
   -- a scenario above the limit loses less than the one with the least estimate
   pub loses-less : (s : ℕ) → s < n → limit <ℤ getD estimates s (pos 0) → loss s <ℤ loss m
+  unfolding limitOf
   loses-less s h k =
       lt-show (loss s) (loss m)
       (omega (
@@ -61,7 +62,7 @@ module _ (base : ℤ) (value : ℕ → ℤ) (estimates : List ℤ) (reach n : �
       ))
 
   least-kept : Kept estimates limit m
-  least-kept = not-above (getD estimates m (pos 0)) (2 * reach)
+  least-kept = not-above (getD estimates m (pos 0)) reach
 
   -- so the first largest loss over those that are kept is the first largest over all
   pub kept-leads : (w : Loss) → WorstKept loss estimates limit n w → Leads loss (w .scenario) n

@@ -11,3 +11,4 @@ pub mod Accounts
 pub mod Discarding
 pub mod Choosing
 pub mod Netting
+pub mod Estimating

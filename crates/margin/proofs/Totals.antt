@@ -12,7 +12,7 @@ use Rattle.decimal.specs.Product.{unit, product}
 use Rattle.decimal.proofs.Products.{product-le}
 use Rattle.discount.specs.Discount.{year, products, tolerance}
 use Rattle.discount.specs.declared.Flow.{Flow}
-use Rattle.discount.specs.Flows.{signed, sum}
+use Rattle.discount.specs.Flows.{signed}
 use Rattle.margin.specs.declared.total.Total.{Total}
 use Rattle.margin.specs.Totals.{FlowLimits, mostFlows, RoomFor}
 

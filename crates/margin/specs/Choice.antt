@@ -3,14 +3,13 @@ use mathlib.Core.Bool.{Bool}
 use mathlib.Core.List.{List, map}
 use mathlib.Core.Path.{_≡_}
 use Prim.Native.Nat.{ℕ, _*_, _≤_, _<_}
-use lib.Dec.{T, eqb}
-use lib.IntN.{ℤ, pos}
+use lib.Dec.{eqb}
+use lib.IntN.{ℤ, pos, _+ℤ_}
 use lib.ListN.{length, getD}
-use lib.Signed.{leZ, _≤ℤ_, _<ℤ_}
+use lib.Signed.{_≤ℤ_, _<ℤ_}
 use Rattle.laws.specs.Distance.{Within}
 use Rattle.laws.specs.Every.{every}
 use Rattle.discount.specs.Flows.{flowValue}
-use Rattle.curve.specs.declared.Node.{Node}
 use Rattle.curve.specs.declared.Curve.{Curve}
 use Rattle.curve.specs.declared.Components.{Components}
 use Rattle.curve.specs.Limits.{zeroNode}
@@ -36,6 +35,10 @@ pub record Estimates (e : Exposure) (values : List ℤ) (reach : ℕ) : Type 0 w
 pub record Least (values : List ℤ) (n m : ℕ) : Type 0 where
   pub within : m < n
   pub least : (s : ℕ) → s < n → getD values m (pos 0) ≤ℤ getD values s (pos 0)
+
+-- the least estimate, and twice the reach more: a scenario with a larger estimate cannot be the worst
+unfoldable pub limitOf : ℤ → ℕ → ℤ
+limitOf least reach = least +ℤ pos (2 * reach)
 
 -- a scenario is kept where its estimate is at most a limit
 abbrev pub Kept : List ℤ → ℤ → ℕ → Type 0

@@ -1,8 +1,7 @@
 // The choice of the worst scenario: estimates rule most out, and the rest are valued in full.
 ghost use mathlib.Core.Path.{_≡_};
 ghost use Prim.Native.Nat.{_*_, _≤_, _<_};
-ghost use lib.IntN.{pos, _+ℤ_};
-ghost use lib.ListN.{length, getD};
+ghost use lib.ListN.{length};
 ghost use Rattle.curve.specs.Limits.{Proper};
 ghost use Rattle.curve.specs.Scenarios.{scenarioCount};
 ghost use Rattle.discount.specs.Flows.{flowValue};

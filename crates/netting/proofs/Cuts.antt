@@ -6,7 +6,7 @@ use mathlib.Core.Bool.{Bool, true, false, cond}
 use Prim.Native.Nat.{ℕ, suc, _+_, _*_, _/_, _≤_, _<_}
 use native.Mathlib.Nat.{lt-of-mul-lt-mul-right, div-mul-le-self, lt-div-mul-add, zero-mul, zero-div}
 use native.Mathlib.Omega.{arith}
-use lib.Dec.{ltb, ltb→lt, lit<}
+use lib.Dec.{ltb, ltb→lt}
 use lib.IntN.{ℤ, pos, negsuc, negℤ, _+ℤ_}
 use Rattle.laws.specs.Distance.{Within}
 use Rattle.laws.proofs.Integer.{int, up, down, plus, up-pos, down-pos, up-neg, down-neg}

@@ -1,15 +1,15 @@
-use Rattle.margin.specs.Choice.{FirstKept, Kept}
-use lib.IntN.{ℤ, pos}
+-- `margin::choice::first_kept` meets its contract: the places passed are above the limit. Assumes nothing.
+use lib.IntN.{pos}
 use lib.ListN.{getD}
 use Rattle.laws.proofs.Signed.{cast, back, compared}
 use Rattle.laws.proofs.Integer.{leZ-no}
 use borrow.Author.Count.{below-more}
 use mathlib.Core.Path.{_≡_}
 use mathlib.Core.Bool.{true, false}
-use lib.Signed.{leZ, _<ℤ_, _≤ℤ_}
+use lib.Signed.{leZ, _<ℤ_}
 use borrow.Author.Needs.{needs}
 use native.Mathlib.Omega.{arith}
-use Prim.Native.Nat.{ℕ, _+_, _-_, _≤_, _<_}
+use Prim.Native.Nat.{ℕ, _-_, _≤_, _<_}
 use Rattle.margin.proofs.choice.first_kept.Statement.{statement}
 use Rattle.margin.proofs.choice.first_kept.Tie as tie
 use Rattle.margin.proofs.choice.first_kept.Reads as reads

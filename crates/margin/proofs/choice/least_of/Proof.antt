@@ -9,8 +9,7 @@ use Rattle.laws.proofs.Signed.{compared}
 use Rattle.margin.proofs.Discarding.{least-first, least-new, least-same}
 use Rattle.margin.specs.Choice.{Least}
 use borrow.Author.Needs.{needs}
-use native.Mathlib.Omega.{arith}
-use Prim.Native.Nat.{ℕ, _+_, _-_, _≤_, _<_}
+use Prim.Native.Nat.{_-_, _≤_}
 use Rattle.margin.proofs.choice.least_of.Statement.{statement}
 use Rattle.margin.proofs.choice.least_of.Tie as tie
 use Rattle.margin.proofs.choice.least_of.Reads as reads

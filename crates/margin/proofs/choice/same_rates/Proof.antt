@@ -1,5 +1,5 @@
 -- `margin::choice::same_rates` meets its contract. Assumes nothing.
-use mathlib.Core.Bool.{Bool, true, false}
+use mathlib.Core.Bool.{Bool}
 use Rattle.laws.proofs.Every.{every-passed, every-failed, every-end}
 use Rattle.curve.specs.declared.Curve.{Curve}
 use Rattle.margin.specs.Choice.{sameRates}
@@ -11,7 +11,7 @@ use Rattle.laws.specs.Every.{every}
 use Rattle.curve.specs.Limits.{zeroNode}
 use borrow.Author.Needs.{needs}
 use native.Mathlib.Omega.{arith}
-use Prim.Native.Nat.{ℕ, _+_, _-_, _≤_, _<_}
+use Prim.Native.Nat.{ℕ, _-_}
 use Rattle.margin.proofs.choice.same_rates.Statement.{statement}
 use Rattle.margin.proofs.choice.same_rates.Tie as tie
 use Rattle.margin.proofs.choice.same_rates.Reads as reads

@@ -1,9 +1,9 @@
 -- `margin::choice::worst_from` meets its contract: of the scenarios passed that are kept, the worst is held. Assumes nothing.
 use borrow.Author.Needs.{needs}
 use mathlib.Core.Path.{_≡_, refl, ap}
-use mathlib.Core.Bool.{true, false}
+use mathlib.Core.Bool.{false}
 use mathlib.Core.Logic.{⊎-elim}
-use Prim.Native.Nat.{ℕ, _+_, _-_, _≤_, _<_}
+use Prim.Native.Nat.{ℕ, _-_, _≤_, _<_}
 use native.Mathlib.Omega.{arith}
 use lib.IntN.{ℤ, pos}
 use lib.ListN.{length, getD}
@@ -13,7 +13,6 @@ use Rattle.laws.proofs.Signed.{cast, read, read-is, back, compared}
 use Rattle.discount.specs.Flows.{flowValue}
 use Rattle.curve.specs.Scenarios.{scenarioCount}
 use Rattle.curve.proofs.Scenarios.{scenarios-most}
-use Rattle.margin.specs.declared.losses.Loss.{Loss}
 use Rattle.margin.specs.Exposure.{exposure}
 use Rattle.margin.specs.Ladder.{ladderFlows}
 use Rattle.margin.specs.Losses.{lossAt}

@@ -9,7 +9,7 @@ use Rattle.decimal.specs.Product.{unit}
 use Rattle.curve.specs.Scenarios.{scenarioCount}
 use Rattle.curve.proofs.Scenarios.{scenarios-some, scenarios-most}
 use Rattle.margin.specs.Totals.{mostFlows}
-use Rattle.margin.specs.Choice.{Least}
+use Rattle.margin.specs.Choice.{Least, limitOf}
 use Rattle.margin.proofs.Discarding.{not-above}
 use Rattle.margin.proofs.Choosing.{twice-fits, limit-fits, limit-read, estimate-size, worst-is}
 use borrow.Author.Needs.{needs}
@@ -36,7 +36,7 @@ size c =
 limit : (c : tie.After-least-of)
     → let a = c .before .before .before .before .args in
     let v = getD (a .values .now) (c .least-of .result) (pos 0) in
-    read (read v +ℤ read (pos 2 *ℤ cast (a .reach))) ≡ v +ℤ pos (2 * a .reach)
+    read (read v +ℤ read (pos 2 *ℤ cast (a .reach))) ≡ limitOf v (a .reach)
 limit c =
     let s = c .before .before .before .before in
     limit-read (s .args .reach) (s .pre .1 .small) (getD (s .args .values .now) (c .least-of .result) (pos 0)) (size c)

@@ -1,7 +1,7 @@
 -- `margin::net::reach_schedule` meets its contract: what is added and what is left are together all. Assumes nothing.
 use borrow.Author.Needs.{needs}
 use mathlib.Core.Path.{_≡_}
-use Prim.Native.Nat.{_+_, _-_, _*_, _≤_, _<_}
+use Prim.Native.Nat.{_+_, _-_, _<_}
 use native.Mathlib.Omega.{arith}
 use Rattle.laws.proofs.Tables.{table-step, table-end}
 use Rattle.decimal.specs.Product.{unit}
