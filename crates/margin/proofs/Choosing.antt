@@ -25,7 +25,7 @@ use Rattle.margin.specs.Ladder.{ladderFlows}
 use Rattle.margin.specs.Losses.{valueOn, baseOf, lossAt, worstAt}
 use Rattle.margin.specs.Totals.{mostFlows}
 use Rattle.margin.specs.Worst.{worseOf, worstOf, Ready}
-use Rattle.margin.specs.Choice.{valueAt, Estimates, Least, limitOf, WorstKept, sameRates, lossOf, Held}
+use Rattle.margin.specs.Choice.{valueAt, Estimates, Least, slackOf, limitOf, WorstKept, sameRates, lossOf, Held}
 use Rattle.margin.proofs.Discarding.{kept-worst, same-stressed}
 use Rattle.margin.proofs.LadderFlows.{ladder-limits}
 use Rattle.margin.proofs.Sizes.{value-size}
@@ -82,7 +82,7 @@ module _ (reach : ℕ) (small : reach ≤ mostFlows * 200000) where
     limit-fits = rw limit-is (fits (v +ℤ pos (2 * reach)) limit-size)
 
     pub limit-read : read (read v +ℤ read (pos 2 *ℤ cast reach)) ≡ limitOf v reach
-    unfolding limitOf
+    unfolding slackOf
     limit-read = rw limit-is (read-is (v +ℤ pos (2 * reach)) limit-size)
 
 -- ---- an estimate is little larger than a value

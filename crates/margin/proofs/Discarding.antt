@@ -2,7 +2,7 @@
 use mathlib.Core.Path.{_≡_, refl, ap}
 use mathlib.Core.Bool.{Bool, true, false, cond}
 use mathlib.Core.List.{List, [], _∷_, map}
-use Prim.Native.Nat.{ℕ, suc, _+_, _-_, _*_, _<_}
+use Prim.Native.Nat.{ℕ, suc, _+_, _-_, _≤_, _<_}
 use borrow.Author.Count.{below-more}
 use native.Mathlib.Omega.{arith}
 use lib.Dec.{eqb}
@@ -26,13 +26,17 @@ use Rattle.curve.specs.Stress.{stressed, stressedCurve}
 use Rattle.curve.proofs.Rates.{length-nodes}
 use Rattle.margin.specs.declared.losses.Loss.{Loss}
 use Rattle.margin.specs.Worst.{worseOf}
-use Rattle.margin.specs.Choice.{Least, limitOf, Kept, FirstKept, WorstKept, sameRates}
+use Rattle.margin.specs.Choice.{Least, slackOf, limitOf, Kept, FirstKept, WorstKept, sameRates}
 
 -- ---- discarding
 
 pub not-above : (least : ℤ) (reach : ℕ) → least ≤ℤ limitOf least reach
-unfolding limitOf
-not-above least reach = omega (int, plus least (pos (2 * reach)), up-pos (2 * reach), down-pos (2 * reach))
+not-above least reach = omega (int, plus least (pos (slackOf reach)), up-pos (slackOf reach), down-pos (slackOf reach))
+
+-- both estimates may be off by the reach
+both-off : (reach : ℕ) → reach + reach ≤ slackOf reach
+unfolding slackOf
+both-off reach = omega arith
 
 module _ (base : ℤ) (value : ℕ → ℤ) (estimates : List ℤ) (reach n : ℕ) (near : (s : ℕ) → s < n → Within (getD estimates s (pos 0)) (value s) reach) (m : ℕ) (least : Least estimates n m) where
   abbrev loss : ℕ → ℤ
@@ -43,16 +47,16 @@ module _ (base : ℤ) (value : ℕ → ℤ) (estimates : List ℤ) (reach n : �
 
   -- a scenario above the limit loses less than the one with the least estimate
   pub loses-less : (s : ℕ) → s < n → limit <ℤ getD estimates s (pos 0) → loss s <ℤ loss m
-  unfolding limitOf
   loses-less s h k =
       lt-show (loss s) (loss m)
       (omega (
         int,
         near s h,
         near m (least .within),
-        plus (getD estimates m (pos 0)) (pos (2 * reach)),
-        up-pos (2 * reach),
-        down-pos (2 * reach),
+        both-off reach,
+        plus (getD estimates m (pos 0)) (pos (slackOf reach)),
+        up-pos (slackOf reach),
+        down-pos (slackOf reach),
         plus base (negℤ (value s)),
         plus base (negℤ (value m)),
         up-neg (value s),

@@ -36,9 +36,13 @@ pub record Least (values : List ℤ) (n m : ℕ) : Type 0 where
   pub within : m < n
   pub least : (s : ℕ) → s < n → getD values m (pos 0) ≤ℤ getD values s (pos 0)
 
--- the least estimate, and twice the reach more: a scenario with a larger estimate cannot be the worst
-unfoldable pub limitOf : ℤ → ℕ → ℤ
-limitOf least reach = least +ℤ pos (2 * reach)
+-- what two estimates may be off together
+unfoldable pub slackOf : ℕ → ℕ
+slackOf reach = 2 * reach
+
+-- above the least estimate by more than the slack, a scenario cannot be the worst
+abbrev pub limitOf : ℤ → ℕ → ℤ
+limitOf least reach = least +ℤ pos (slackOf reach)
 
 -- a scenario is kept where its estimate is at most a limit
 abbrev pub Kept : List ℤ → ℤ → ℕ → Type 0
