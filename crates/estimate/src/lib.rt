@@ -1,0 +1,3 @@
+// The cheap value of a curve's net amounts in every scenario: the loop that a margin spends its time in.
+
+pub mod lines;
