@@ -1,3 +1,4 @@
 pub mod Slopes
 pub mod LineRates
 pub mod LineCode
+pub mod Listing

@@ -1,3 +1,4 @@
 // The cheap value of a curve's net amounts in every scenario: the loop that a margin spends its time in.
 
+pub mod days;
 pub mod lines;
