@@ -1,11 +1,11 @@
 -- The cheap factor: a logarithm from a table, its product with the days, and an antilogarithm from two tables. Logarithms are exponents of
 -- (scale - 1) / (scale + 1). What the tables hold, the factor, and how near it is to document 01's. Assumes nothing.
-use Prim.Native.Nat.{ℕ, zero, suc, _+_, _-_, _*_, _/_, _%_, _^_, _≤_, _<_}
+use Prim.Native.Nat.{ℕ, zero, suc, _+_, _-_, _*_, _/_, _%_, _≤_, _<_}
 use mathlib.Core.Path.{_≡_}
 use mathlib.Core.List.{List}
 use lib.ListN.{length, getD}
 use Rattle.decimal.specs.Product.{unit}
-use Rattle.discount.specs.Discount.{million, year, factor, products}
+use Rattle.discount.specs.Discount.{million, factor, products}
 
 -- 2 ^ 44; the base of the logarithms is under / over
 unfoldable pub scale : ℕ

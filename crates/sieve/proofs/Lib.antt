@@ -1,0 +1,13 @@
+pub mod Products
+pub mod Rows
+pub mod Cayley
+pub mod Exponents
+pub mod Ratios
+pub mod Bases
+pub mod Entries
+pub mod LowDigits
+pub mod Antilogs
+pub mod Logarithms
+pub mod Closeness
+pub mod Bound
+pub mod Lines
