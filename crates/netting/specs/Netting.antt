@@ -6,6 +6,7 @@ use lib.Dec.{eqb}
 use lib.IntN.{ℤ, pos, negℤ, natAbs, _+ℤ_}
 use lib.ListN.{getD, set, replicate}
 use lib.Signed.{ltZ}
+use Rattle.laws.specs.All.{All}
 use Rattle.discount.specs.declared.Flow.{Flow}
 use Rattle.discount.specs.Discount.{products}
 use Rattle.discount.specs.Flows.{signed}
@@ -66,5 +67,4 @@ flowReach f = reach (f .amount) (f .day)
 
 -- every flow's day is one of document 01's
 abbrev pub Dated : List Flow → Type 0
-Dated [] = Unit {0}
-Dated (f ∷ fs) = (f .day ≤ 10950) × Dated fs
+Dated fs = All (λ f. f .day ≤ 10950) fs

@@ -1,1 +1,2 @@
 // Flows netted by day, and what the net amounts are worth at cheap factors.
+pub mod value;

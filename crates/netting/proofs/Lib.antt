@@ -1,0 +1,5 @@
+pub mod Signs
+pub mod Cuts
+pub mod DaySums
+pub mod Sizes
+pub mod NettedValue

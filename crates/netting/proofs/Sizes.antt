@@ -1,0 +1,82 @@
+-- How large netted flows can be: no larger than all amounts together; and the size of a reach. Assumes nothing.
+use mathlib.Core.Path.{_≡_, refl, _∙_}
+use mathlib.Core.Bool.{Bool, true, false, cond}
+use mathlib.Core.List.{List, [], _∷_}
+use Prim.Native.Nat.{ℕ, zero, suc, _+_, _*_, _/_, _≤_}
+use native.Mathlib.Nat.{mul-le-mul, mul-le-mul-left, div-le-of-le-mul}
+use native.Mathlib.Omega.{arith}
+use lib.IntN.{ℤ, pos, negℤ, natAbs, _+ℤ_}
+use lib.Signed.{ltZ}
+use lib.ListN.{length, set, length-set}
+use Rattle.laws.proofs.Signed.{abs-neg, abs-add}
+use Rattle.decimal.specs.Product.{unit}
+use Rattle.discount.specs.Discount.{year, products}
+use Rattle.discount.specs.declared.Flow.{Flow}
+use Rattle.discount.specs.Flows.{signed, sum}
+use Rattle.sieve.specs.Cheap.{whole}
+use Rattle.netting.specs.Netting.{noNets, netOn, netted, listed, worth, netValue, netSize, distanceUp, reach}
+use Rattle.netting.proofs.DaySums.{daysSize, listed-size, none-size, size-changed}
+
+-- ---- the net amounts
+
+pub nets-length : (fs : List Flow) (nets : List ℤ) → length (netted fs nets) ≡ length nets
+unfolding netted
+nets-length [] nets = refl
+nets-length (f ∷ fs) nets = nets-length fs _ ∙ length-set nets (f .day) _
+
+signed-size : (s : Bool) (n : ℕ) → natAbs (signed s n) ≡ n
+signed-size true n = refl
+signed-size false n = abs-neg (pos n)
+
+days-size : (fs : List Flow) (nets : List ℤ) → daysSize (netted fs nets) ≤ daysSize nets + sum (λ f. f .amount) fs
+unfolding netted sum
+days-size [] nets = omega arith
+days-size (f ∷ fs) nets =
+    let was = netOn nets (f .day) in
+    let more = signed (f .received) (f .amount) in
+    let one = size-changed nets (f .day) (was +ℤ more) (f .amount) (omega (arith, abs-add was more, signed-size (f .received) (f .amount))) in
+    omega (arith, one, days-size fs (set nets (f .day) (was +ℤ more)))
+
+day-size : (nets : List ℤ) (d : ℕ) → natAbs (netOn nets d) ≤ daysSize nets
+unfolding daysSize
+day-size [] d = omega arith
+day-size (x ∷ xs) zero = omega arith
+day-size (x ∷ xs) (suc d) = omega (arith, day-size xs d)
+
+-- of flows alone
+pub net-size : (fs : List Flow) → netSize (netted fs noNets) (listed (netted fs noNets)) ≤ sum (λ f. f .amount) fs
+net-size fs = omega (arith, listed-size (netted fs noNets), days-size fs noNets, none-size 10951)
+
+pub net-size-on : (fs : List Flow) (d : ℕ) → natAbs (netOn (netted fs noNets) d) ≤ sum (λ f. f .amount) fs
+net-size-on fs d = omega (arith, day-size (netted fs noNets) d, days-size fs noNets, none-size 10951)
+
+-- ---- what they are worth, at factors of at most one: no more
+
+pub scaled-le : (n c : ℕ) → c ≤ 2147483648 → n * c / whole ≤ n
+unfolding whole
+scaled-le n c h = div-le-of-le-mul 2147483648 (omega (arith, mul-le-mul-left n h))
+
+pub worth-size : (c : ℕ) (x : ℤ) → c ≤ 2147483648 → natAbs (worth c x) ≤ natAbs x
+unfolding worth
+worth-size c x h = go (ltZ x (pos 0)) (natAbs x * c / whole) (scaled-le (natAbs x) c h)
+  where
+    go : (t : Bool) (v : ℕ) → v ≤ natAbs x → natAbs (cond t (negℤ (pos v)) (pos v)) ≤ natAbs x
+    go true v l = omega (arith, abs-neg (pos v))
+    go false v l = l
+
+pub value-size : (c : ℕ → ℕ) → ((d : ℕ) → c d ≤ 2147483648) → (nets : List ℤ) (ds : List ℕ) → natAbs (netValue c nets ds) ≤ netSize nets ds
+unfolding netValue netSize
+value-size c h nets [] = omega arith
+value-size c h nets (d ∷ ds) =
+    let v = worth (c d) (netOn nets d) in
+    omega (arith, abs-add v (netValue c nets ds), worth-size (c d) (netOn nets d) (h d), value-size c h nets ds)
+
+-- ---- the reach of a flow
+
+pub distance-size : (days : ℕ) → days ≤ 10950 → distanceUp days ≤ 393
+unfolding year products distanceUp
+distance-size days h = omega arith
+
+pub reach-size : (amount days : ℕ) → amount ≤ unit → days ≤ 10950 → reach amount days ≤ 200000
+unfolding unit whole reach
+reach-size amount days h k = omega (arith, mul-le-mul h (distance-size days k))

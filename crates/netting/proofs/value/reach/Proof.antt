@@ -1,0 +1,42 @@
+-- `netting::value::reach` meets its contract: a day's distance is at most 393. Assumes nothing.
+use borrow.Author.Needs.{needs}
+use mathlib.Core.Path.{refl}
+use Prim.Native.Nat.{_+_, _*_, _/_, _%_, _≤_}
+use native.Mathlib.Nat.{mul-le-mul}
+use native.Mathlib.Omega.{arith}
+use Rattle.discount.specs.Discount.{year, products}
+use Rattle.sieve.specs.Cheap.{whole}
+use Rattle.netting.specs.Netting.{distanceUp, reach}
+use Rattle.netting.proofs.Sizes.{distance-size}
+use Rattle.netting.proofs.value.reach.Statement.{statement}
+use Rattle.netting.proofs.value.reach.Tie as tie
+
+bound : (s : tie.Start)
+    → let day = s .args .day in
+    s .args .amount * (26 + (50000 * day / 365 + 2) / 4096 + (day % 365 + day / 365) * 44 / 10000) ≤ 1000000000000 * 393
+unfolding year products distanceUp
+bound s = mul-le-mul (s .pre .0) (distance-size (s .args .day) (s .pre .1))
+
+mul-result : tie.Need-mul-result
+mul-result c = omega (arith, bound c)
+
+add-result : tie.Need-add-result
+add-result c = omega (arith, bound c)
+
+returns : tie.Need-returns
+unfolding year products whole distanceUp reach
+returns c = refl
+
+pub reach-spec : {M : Type 1} → statement M
+reach-spec =
+    tie.close
+    (tie.spec
+    (λ c. search needs)
+    (λ c. search needs)
+    (λ c. search needs)
+    (λ c. search needs)
+    (λ c. search needs)
+    (λ c. search needs)
+    mul-result
+    add-result
+    returns)

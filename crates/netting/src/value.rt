@@ -1,0 +1,52 @@
+// What a day's net amount is worth at a cheap factor, and how far the value of a flow may be off by that.
+ghost use mathlib.Core.Path.{_≡_};
+ghost use Prim.Native.Nat.{_*_, _/_, _≤_};
+ghost use lib.IntN.{natAbs};
+ghost use Rattle.sieve.specs.Cheap.{whole};
+ghost use Rattle.netting.specs.Netting.{worth, reach};
+
+// One, in a cheap factor: 2^31; and twice that.
+const WHOLE: u64 = 2_147_483_648;
+
+const TWICE: u64 = 4_294_967_296;
+
+// A net amount without its sign.
+fn size(net: i64) -> u64
+    requires { ⌜ natAbs net ≤ 140_000_000_000_000_000 ⌝ }
+    ensures { λ r. ⌜ r ≡ natAbs net ⌝ }
+{
+    if net < 0 {
+        return (-net) as u64;
+    }
+    net as u64
+}
+
+// amount * factor / WHOLE, rounded down. The whole product does not fit a u64, so it is taken in parts.
+fn scaled(amount: u64, factor: u64) -> u64
+    requires { ⌜ (amount ≤ 140_000_000_000_000_000) × (factor ≤ 2_147_483_648) ⌝ }
+    ensures { λ r. ⌜ r ≡ amount * factor / whole ⌝ }
+{
+    2 * (amount / TWICE) * factor + amount % TWICE * factor / WHOLE
+}
+
+// What a net amount is worth at a cheap factor, cut towards zero.
+pub fn worth(net: i64, factor: u64) -> i64
+    requires { ⌜ (natAbs net ≤ 140_000_000_000_000_000) × (factor ≤ 2_147_483_648) ⌝ }
+    ensures { λ r. ⌜ r ≡ worth factor net ⌝ }
+{
+    let value = scaled(size(net), factor) as i64;
+    if net < 0 {
+        return -value;
+    }
+    value
+}
+
+// How far a flow's part in the value of netted flows may be from its present value.
+pub fn reach(amount: u64, day: u64) -> u64
+    requires { ⌜ (amount ≤ 1_000_000_000_000) × (day ≤ 10_950) ⌝ }
+    ensures { λ r. ⌜ r ≡ reach amount day ⌝ }
+{
+    let products = day % 365 + day / 365;
+    let distance = 26 + (50_000 * day / 365 + 2) / 4096 + products * 44 / 10_000;
+    amount * distance / WHOLE + 2
+}
