@@ -2,3 +2,4 @@
 
 pub mod days;
 pub mod lines;
+pub mod parts;
