@@ -3,3 +3,6 @@ pub mod LineRates
 pub mod LineCode
 pub mod Listing
 pub mod LineDays
+pub mod Valuing
+pub mod CurveLines
+pub mod CurveValues

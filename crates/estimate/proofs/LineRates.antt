@@ -143,6 +143,14 @@ module _ (a b : Node) (t : ℕ) (h : Ahead a b) (m : Between a b t) where
       go true e = rising-drawn (leb-true (a .rate) (b .rate) e)
       go false e = falling-drawn (leb-false (a .rate) (b .rate) e)
 
+pub line-until : (a b : Node) → lineOf a b .until ≡ b .day
+unfolding lineOf rising falling
+line-until a b = go (leb (a .rate) (b .rate))
+  where
+    go : (q : Bool) → cond q (rising a b) (falling a b) .until ≡ b .day
+    go true = refl
+    go false = refl
+
 -- ---- a level line
 
 module _ (rate until t : ℕ) where

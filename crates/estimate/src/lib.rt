@@ -3,3 +3,4 @@
 pub mod days;
 pub mod lines;
 pub mod parts;
+pub mod values;
