@@ -1,0 +1,168 @@
+-- A line's rate is document 01's, and 64 bits hold where the line stands. Assumes nothing.
+use mathlib.Core.Path.{_≡_, refl, sym, ap, _∙_}
+use mathlib.Core.Bool.{Bool, true, false, cond}
+use Prim.Native.Nat.{ℕ, _+_, _-_, _*_, _/_, _≤_, _<_}
+use native.Mathlib.Nat.{mul-le-mul, mul-le-mul-right, mul-sub, zero-mul, div-mul-le-self, lt-div-mul-add, div-eq-of-lt-le, mul-add-div-right, le-trans}
+use native.Mathlib.Omega.{arith}
+use borrow.Author.Tests.{leb-true, leb-false}
+use lib.Dec.{leb}
+use lib.IntN.{ℤ, pos, negℤ, natAbs, _+ℤ_, _-ℤ_, +ℤ-assoc, +ℤ-comm}
+use Rattle.laws.proofs.Powers.{sub-mul}
+use Rattle.laws.proofs.Signed.{abs-sub, abs-neg, sub-up, mul-neg}
+use Rattle.curve.specs.declared.Node.{Node}
+use Rattle.curve.specs.Limits.{highestRate}
+use Rattle.curve.specs.Rates.{interpolated, Between}
+use Rattle.curve.proofs.Line.{part-le, line-up, line-down}
+use Rattle.curve.proofs.Interpolation.{interpolated-line, interpolated-size}
+use Rattle.estimate.specs.Lines.{parts, slopeOf, level, up, rising, falling, lineOf, standsAt, rateOn, Ahead, Drawn}
+use Rattle.estimate.proofs.Slopes.{slope-exact, sloped}
+
+parts-some : 0 < parts
+unfolding parts
+parts-some = omega arith
+
+-- ---- where a line stands, g days after the node that it comes from
+
+-- it has risen by x
+risen : (r y z : ℕ) → y ≤ z → (pos r -ℤ pos y) +ℤ pos z ≡ pos (r + (z - y))
+risen r y z h = +ℤ-assoc (pos r) (negℤ (pos y)) (pos z) ∙ ap (λ (k : ℤ). pos r +ℤ k) (+ℤ-comm (negℤ (pos y)) (pos z) ∙ sub-up z y h)
+
+-- it has fallen by x, in parts of n
+module _ (r n x : ℕ) (some : 0 < n) (less : x / n ≤ r) where
+  fall-le : x ≤ r * n + (n - 1)
+  fall-le = omega (arith, lt-div-mul-add {a = x} some, mul-le-mul-right n less)
+
+  fallen : (r * n + (n - 1) - x) / n ≡ r - x / n
+  fallen =
+      let e : (r - x / n) * n ≡ r * n - x / n * n = sub-mul r (x / n) n in
+      let a = div-mul-le-self x n in
+      let b = lt-div-mul-add {a = x} some in
+      let c = mul-le-mul-right n less in
+      div-eq-of-lt-le n (omega arith) (omega arith)
+
+-- ---- from node a to node b
+
+module _ (a b : Node) (t : ℕ) (h : Ahead a b) (m : Between a b t) where
+  abbrev gone : ℕ
+  gone = t - a .day
+
+  abbrev run : ℕ
+  run = b .day - a .day
+
+  room : (gone + 1) * run ≤ parts
+  unfolding parts
+  room = le-trans (mul-le-mul {n₂ = 10950} {m₂ = 10950} (omega arith) (omega arith)) (omega arith)
+
+  -- the way gone
+  way-is : (way : ℕ) → slopeOf way run * gone / parts ≡ way * gone / run
+  unfolding slopeOf
+  way-is way = slope-exact parts way gone run (omega arith) room
+
+  days-split : (s : ℕ) → s * t ≡ s * a .day + s * gone
+  days-split s = omega (arith, mul-sub s t (a .day), mul-le-mul-right s (m .from))
+
+  up-stands : (s : ℕ) → standsAt (up s a b) t ≡ pos (a .rate * parts + s * gone)
+  up-stands s =
+      risen (a .rate * parts) (s * a .day) (s * t) (omega (arith, days-split s)) ∙ ap pos (omega (arith, days-split s))
+
+  -- it rises
+  module _ (l : a .rate ≤ b .rate) where
+    abbrev climb : ℕ
+    climb = slopeOf (b .rate - a .rate) run
+
+    rising-stands : standsAt (rising a b) t ≡ pos (a .rate * parts + climb * gone)
+    unfolding rising
+    rising-stands = up-stands climb
+
+    rising-rate : rateOn (rising a b) t ≡ natAbs (interpolated a b t)
+    unfolding rateOn
+    rising-rate =
+        rw (rising-stands, mul-add-div-right parts-some (a .rate) (climb * gone), way-is (b .rate - a .rate), interpolated-line a b t m)
+        (sym (line-up (a .rate) (b .rate) gone run l))
+
+    rising-drawn : Drawn (rising a b) t
+    unfolding rising parts
+    rising-drawn =
+        let s = sloped a (b .rate - a .rate) run (h .from) (omega arith) in
+        record {
+          day = omega arith;
+          start = omega (arith, abs-sub (pos (a .rate * 134217728)) (pos (climb * a .day)));
+          slope = omega arith;
+          above = rw rising-stands refl;
+          rate = rw rising-rate (interpolated-size a b t (h .from, h .to, m));
+        }
+
+  -- it falls
+  module _ (l : b .rate < a .rate) where
+    abbrev drop : ℕ
+    drop = slopeOf (a .rate - b .rate) run
+
+    drop-less : drop * gone / parts ≤ a .rate
+    drop-less = rw (way-is (a .rate - b .rate)) (omega (arith, part-le (a .rate - b .rate) gone run (omega arith)))
+
+    falling-stands : standsAt (falling a b) t ≡ pos (a .rate * parts + (parts - 1) - drop * gone)
+    unfolding falling
+    falling-stands =
+        let e = days-split drop in
+        let f = fall-le (a .rate) parts (drop * gone) parts-some drop-less in
+        ap (λ (z : ℤ). pos (a .rate * parts + (parts - 1) + drop * a .day) +ℤ z) (mul-neg drop t)
+        ∙ sub-up (a .rate * parts + (parts - 1) + drop * a .day) (drop * t) (omega arith)
+        ∙ ap pos (omega arith)
+
+    falling-rate : rateOn (falling a b) t ≡ natAbs (interpolated a b t)
+    unfolding rateOn
+    falling-rate =
+        rw (falling-stands, fallen (a .rate) parts (drop * gone) parts-some drop-less, way-is (a .rate - b .rate), interpolated-line a b t m)
+        (sym (line-down (a .rate) (b .rate) gone run l))
+
+    falling-drawn : Drawn (falling a b) t
+    unfolding falling parts
+    falling-drawn =
+        let s = sloped a (a .rate - b .rate) run (h .from) (omega arith) in
+        record {
+          day = omega arith;
+          start = omega arith;
+          slope = rw (abs-neg (pos drop)) (omega arith);
+          above = rw falling-stands refl;
+          rate = rw falling-rate (interpolated-size a b t (h .from, h .to, m));
+        }
+
+  pub line-rate : rateOn (lineOf a b) t ≡ natAbs (interpolated a b t)
+  unfolding lineOf
+  line-rate = go (leb (a .rate) (b .rate)) refl
+    where
+      go : (q : Bool) → leb (a .rate) (b .rate) ≡ q → rateOn (cond q (rising a b) (falling a b)) t ≡ natAbs (interpolated a b t)
+      go true e = rising-rate (leb-true (a .rate) (b .rate) e)
+      go false e = falling-rate (leb-false (a .rate) (b .rate) e)
+
+  pub line-drawn : Drawn (lineOf a b) t
+  unfolding lineOf
+  line-drawn = go (leb (a .rate) (b .rate)) refl
+    where
+      go : (q : Bool) → leb (a .rate) (b .rate) ≡ q → Drawn (cond q (rising a b) (falling a b)) t
+      go true e = rising-drawn (leb-true (a .rate) (b .rate) e)
+      go false e = falling-drawn (leb-false (a .rate) (b .rate) e)
+
+pub line-until : (a b : Node) → lineOf a b .until ≡ b .day
+unfolding lineOf rising falling
+line-until a b = go (leb (a .rate) (b .rate))
+  where
+    go : (q : Bool) → cond q (rising a b) (falling a b) .until ≡ b .day
+    go true = refl
+    go false = refl
+
+-- ---- a level line
+
+module _ (rate until t : ℕ) where
+  level-stands : standsAt (level rate until) t ≡ pos (rate * parts)
+  unfolding level
+  level-stands = ap pos (omega (arith, zero-mul t))
+
+  pub level-rate : rateOn (level rate until) t ≡ rate
+  unfolding rateOn
+  level-rate = rw level-stands (div-eq-of-lt-le parts (omega arith) (omega (arith, parts-some)))
+
+  pub level-drawn : rate ≤ highestRate → t ≤ 10950 → Drawn (level rate until) t
+  unfolding level parts
+  level-drawn h k =
+      record { day = k; start = omega arith; slope = omega arith; above = rw level-stands refl; rate = rw level-rate h }

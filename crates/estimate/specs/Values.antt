@@ -1,0 +1,76 @@
+-- The cheap value of a curve's net amounts in every scenario, and what is asked for it. Assumes nothing.
+use Prim.Native.Nat.{ℕ, _+_, _≤_, _<_}
+use mathlib.Core.Path.{_≡_}
+use mathlib.Core.Bool.{cond}
+use mathlib.Core.List.{List, [], _∷_, map}
+use lib.Dec.{ltb}
+use lib.IntN.{ℤ, pos, natAbs, _+ℤ_}
+use lib.ListN.{length, take, drop, getD}
+use Rattle.laws.specs.All.{All}
+use Rattle.curve.specs.declared.Node.{Node}
+use Rattle.curve.specs.declared.Curve.{Curve}
+use Rattle.curve.specs.declared.Components.{Components}
+use Rattle.curve.specs.Rates.{nodesOf, rateAt}
+use Rattle.curve.specs.Scenarios.{scenarioCount, scenarioAt}
+use Rattle.curve.specs.Stress.{stressed}
+use Rattle.sieve.specs.Cheap.{Logs, Powers}
+use Rattle.netting.specs.Netting.{listed, netValue, netSize, cheapOn}
+use Rattle.estimate.specs.declared.lines.Line.{Line}
+use Rattle.estimate.specs.declared.parts.Part.{Part}
+use Rattle.estimate.specs.Lines.{rateOn, Drawn}
+
+-- ---- the values
+
+-- the cheap value of the net amounts at the rates of some nodes
+abbrev pub valueAt : List Node → List ℤ → ℤ
+valueAt nodes nets = netValue (cheapOn (rateAt nodes)) nets (listed nets)
+
+-- and in scenario s of a curve
+abbrev pub scenarioValue : Curve → Components → List ℤ → ℕ → ℤ
+scenarioValue c x nets s = valueAt (map (stressed (scenarioAt x s)) (nodesOf c)) nets
+
+-- a value for each scenario
+pub record Valued (c : Curve) (x : Components) (nets values : List ℤ) : Type 0 where
+  pub each : (s : ℕ) → s < scenarioCount x → getD values s (pos 0) ≡ scenarioValue c x nets s
+
+-- ---- by lines: the days of a rising list that come before a day, and the others
+
+unfoldable pub daysBefore : ℕ → List ℕ → List ℕ
+daysBefore until [] = []
+daysBefore until (d ∷ ds) = cond (ltb d until) (d ∷ daysBefore until ds) []
+
+unfoldable pub daysFrom : ℕ → List ℕ → List ℕ
+daysFrom until [] = []
+daysFrom until (d ∷ ds) = cond (ltb d until) (daysFrom until ds) (d ∷ ds)
+
+-- from part p of the listed days ds on, those before the line's end are valued at the line's rates: that is part r
+pub record Along (l : Line) (nets : List ℤ) (ds : List ℕ) (p r : Part) : Type 0 where
+  pub value : r .value ≡ p .value +ℤ netValue (cheapOn (rateOn l)) nets (daysBefore (l .until) (drop (p .done) ds))
+  pub left : drop (r .done) ds ≡ daysFrom (l .until) (drop (p .done) ds)
+
+-- ---- what is asked
+
+-- the net amounts of a book's flows, all together, in any of its currencies
+unfoldable pub mostSize : ℕ
+mostSize = 140000000000000000
+
+-- the tables of cheap factors, up to the highest rate
+pub record Tables (logs middle upper : List ℕ) : Type 0 where
+  pub rows : length logs ≡ 15627
+  pub rates : Logs logs
+  pub powers : Powers middle upper
+
+-- the first `count` days are those that have a net amount
+pub record Listed (nets : List ℤ) (days : List ℕ) (count : ℕ) : Type 0 where
+  pub places : length nets ≡ 10951
+  pub most : count ≤ length days
+  pub all : take count days ≡ listed nets
+  pub size : netSize nets (listed nets) ≤ mostSize
+
+-- on each day of ds there is an amount, and those before the line's end are on it
+abbrev pub OnLine : Line → List ℕ → Type 0
+OnLine l ds = All (λ d. (d < 10951) × (d < l .until → Drawn l d)) ds
+
+-- a value of some days, and those still to come, fit together
+pub record Room (nets : List ℤ) (value : ℤ) (ds : List ℕ) : Type 0 where
+  pub size : natAbs value + netSize nets ds ≤ mostSize

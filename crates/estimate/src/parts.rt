@@ -1,0 +1,62 @@
+// The listed days valued along a curve's lines.
+ghost use mathlib.Core.Path.{_≡_};
+ghost use Prim.Native.Nat.{_≤_, _<_};
+ghost use lib.IntN.{natAbs};
+ghost use lib.ListN.{length, take, drop};
+ghost use Rattle.netting.specs.Netting.{worth, cheapOn};
+ghost use Rattle.estimate.specs.Lines.{rateOn, Drawn};
+ghost use Rattle.estimate.specs.Values.{Along, mostSize, Tables, OnLine, Room};
+use super::lines::Line;
+use netting::value::worth;
+use sieve::cheap::factor;
+
+// A first part of the listed days: how many they are, and what their net amounts are worth.
+pub struct Part {
+    pub done: usize,
+    pub value: i64,
+}
+
+// What a net amount is worth on its day, at the line's rate.
+fn day_value(line: Line, day: u64, net: i64, logs: &[u64], middle: &[u64], upper: &[u64]) -> i64
+    requires { ⌜ Drawn line day × Tables (now logs) (now middle) (now upper) × (natAbs net ≤ mostSize) ⌝ }
+    ensures { λ r. ⌜ r ≡ worth (cheapOn (rateOn line) day) net ⌝ }
+{
+    worth(net, factor(logs, middle, upper, line.rate_on(day), day))
+}
+
+impl Part {
+    // With the days before the line's end.
+    pub fn along(
+        self,
+        line: Line,
+        days: &[u64],
+        count: usize,
+        nets: &[i64],
+        logs: &[u64],
+        middle: &[u64],
+        upper: &[u64],
+    ) -> Part
+        requires { ⌜ (self .done ≤ count) × (count ≤ length (now days)) × (length (now nets) ≡ 10951) × Tables (now logs) (now middle) (now upper) × OnLine line (drop (self .done) (take count (now days))) × Room (now nets) (self .value) (drop (self .done) (take count (now days))) ⌝ }
+        ensures reached { λ r. ⌜ r .done ≤ count ⌝ }
+        ensures valued { λ r. ⌜ Along line (now (nets .entry)) (take count (now (days .entry))) self r ⌝ }
+    {
+        let mut i = self.done;
+        let mut value = self.value;
+        while i < count {
+            let day = days[i];
+            if line.until <= day {
+                return Part {
+                    done: i,
+                    value: value,
+                };
+            }
+            let at = day as usize;
+            value += day_value(line, day, nets[at], logs, middle, upper);
+            i += 1;
+        }
+        Part {
+            done: i,
+            value: value,
+        }
+    }
+}

@@ -1,0 +1,45 @@
+// The cheap value of a curve's net amounts in every scenario.
+ghost use mathlib.Core.Path.{_≡_};
+ghost use Rattle.curve.specs.Limits.{Proper};
+ghost use Rattle.curve.specs.Rates.{nodesOf};
+ghost use Rattle.estimate.specs.Values.{valueAt, Tables, Listed};
+use super::lines::level;
+use super::lines::line_of;
+use super::parts::Part;
+use curve::Curve;
+
+// At the rates of a curve: along a level line to its first node, a line from each node to the next, and a level one from the last.
+pub fn value_on(
+    curve: Curve,
+    days: &[u64],
+    count: usize,
+    nets: &[i64],
+    logs: &[u64],
+    middle: &[u64],
+    upper: &[u64],
+) -> i64
+    requires { ⌜ Proper curve × Listed (now nets) (now days) count × Tables (now logs) (now middle) (now upper) ⌝ }
+    ensures { λ r. ⌜ r ≡ valueAt (nodesOf curve) (now (nets .entry)) ⌝ }
+{
+    let mut a = curve.nodes[0];
+    let mut p = Part { done: 0, value: 0 };
+    p = p.along(level(a.rate, a.day), days, count, nets, logs, middle, upper);
+    let n = curve.count;
+    let mut i: usize = 1;
+    while i < n {
+        let b = curve.nodes[i];
+        p = p.along(line_of(a, b), days, count, nets, logs, middle, upper);
+        a = b;
+        i += 1;
+    }
+    p = p.along(
+        level(a.rate, 10_951),
+        days,
+        count,
+        nets,
+        logs,
+        middle,
+        upper,
+    );
+    p.value
+}
