@@ -1,5 +1,5 @@
--- `worst` over the numbers from 0 on, n of them: it is the first with the largest value, and a loop that keeps the best so far finds it. Assumes nothing.
-use mathlib.Core.Path.{_≡_, refl, _∙_}
+-- `worst` over the numbers from 0 on, n of them: it is the first with the largest value, and the only one. Assumes nothing.
+use mathlib.Core.Path.{_≡_, refl}
 use mathlib.Core.Bool.{Bool, true, false, cond}
 use mathlib.Core.List.{List, _∷_, List·Memᴰ, List·Memᴰ·head, List·Memᴰ·tail}
 use Prim.Native.Nat.{ℕ, zero, suc, _+_, _-_, _≤_, _<_}
@@ -10,7 +10,6 @@ use lib.Signed.{ltZ, _≤ℤ_, _<ℤ_, ltZ-yes, ltZ-no, ≤ℤ-refl}
 use Rattle.laws.specs.Walk.{table}
 use Rattle.laws.specs.Worst.{worst}
 use Rattle.laws.proofs.Integer.{int, lt-show}
-use Rattle.laws.proofs.Tables.{table-step, table-end}
 
 -- the numbers from i, n of them
 abbrev pub upFrom : ℕ → ℕ → List ℕ
@@ -30,33 +29,6 @@ in-upFrom i (suc n) s h k = go (ℕ-discrete s i) (λ m. in-upFrom (suc i) n s m
 pub numbered : (n s : ℕ) → s < n → List·Memᴰ s (0 ∷ upFrom 1 (n - 1))
 numbered n zero h = List·Memᴰ·head refl
 numbered n (suc s) h = List·Memᴰ·tail (in-upFrom 1 (n - 1) (suc s) (omega arith) (omega arith))
-
--- ---- a loop's: of the numbers below s, at is the worst
-
-pub record Best (l : ℕ → ℤ) (n at s : ℕ) : Type 0 where
-  pub most : s ≤ n
-  pub before : at < s
-  pub found : worst l 0 (upFrom 1 (n - 1)) ≡ worst l at (upFrom s (n - s))
-
-module _ (l : ℕ → ℤ) (n : ℕ) where
-  pub best-first : 0 < n → Best l n 0 1
-  best-first h = record { most = omega arith; before = omega arith; found = refl }
-
-  module _ (at s : ℕ) (h : Best l n at s) where
-    -- the next number is looked at
-    step : s < n → worst l at (upFrom s (n - s)) ≡ worst l (cond (ltZ (l at) (l s)) s at) (upFrom (s + 1) (n - (s + 1)))
-    unfolding worst
-    step k = rw (table-step (λ s. s) s n k)
-
-    pub best-more : s < n → ltZ (l at) (l s) ≡ true → Best l n s (s + 1)
-    best-more k t = record { most = omega arith; before = omega arith; found = h .found ∙ step k ∙ rw t }
-
-    pub best-kept : s < n → ltZ (l at) (l s) ≡ false → Best l n at (s + 1)
-    best-kept k t = record { most = omega arith; before = omega (arith, h .before); found = h .found ∙ step k ∙ rw t }
-
-    pub best-all : n ≤ s → worst l 0 (upFrom 1 (n - 1)) ≡ at
-    unfolding worst
-    best-all k = h .found ∙ rw (table-end (λ s. s) s n k)
 
 -- ---- what it is: of the numbers below i, none has a larger value than at, and none before at has as large a one
 

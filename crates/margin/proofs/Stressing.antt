@@ -1,14 +1,12 @@
--- The loss of a scenario as the code takes it, and the loop that keeps the worst. Assumes nothing.
-use mathlib.Core.Path.{_≡_, refl, sym, _∙_, ap}
-use mathlib.Core.Bool.{Bool, true, false, cond}
+-- The loss of a scenario as the code takes it, and the figures of a curve. Assumes nothing.
+use mathlib.Core.Path.{_≡_, refl, _∙_, ap}
+use mathlib.Core.Bool.{Bool, true, false}
 use mathlib.Core.List.{List, map}
-use Prim.Native.Nat.{ℕ, _+_, _-_, _^_, _≤_, _<_}
+use Prim.Native.Nat.{ℕ, _^_, _<_}
 use lib.IntN.{ℤ, natAbs, _-ℤ_}
 use lib.ListN.{length}
 use lib.Signed.{ltZ}
-use Rattle.laws.specs.Worst.{worst}
 use Rattle.laws.proofs.Signed.{read, read-is}
-use Rattle.laws.proofs.Largest.{upFrom, Best, best-first, best-more, best-kept, best-all}
 use Rattle.discount.specs.declared.Flow.{Flow}
 use Rattle.discount.specs.Flows.{flowValue}
 use Rattle.curve.specs.declared.Curve.{Curve}
@@ -87,28 +85,6 @@ module _ (c : Curve) (x : Components) (id : ℕ) (l : List ℕ) (n : ℕ) (days 
       ∙ ap (λ (k : Scenario). valueOn flowValue (nodesOf (stressedCurve k c)) (ladderFlows id l n)) ek
       ∙ ap (λ ns. valueOn flowValue ns (ladderFlows id l n)) (nodes-stressed (scenarioAt x s) c (h .proper)) in
       rw (v, eb, read-is (baseOf flowValue held) base-fits, read-is (valueOn flowValue stress (ladderFlows id l n)) (value-fits (valueOn flowValue stress (ladderFlows id l n)) (value-size held flows-limits (h .ladder .few id) stress))) refl
-
--- ---- the loop: w is the worst of the scenarios before s, with its loss
-
-pub record Found (l : ℕ → ℤ) (n : ℕ) (w : Loss) (s : ℕ) : Type 0 where
-  pub best : Best l n (w .scenario) s
-  pub loss : w .amount ≡ l (w .scenario)
-
-module _ (l : ℕ → ℤ) (n : ℕ) where
-  pub found-first : (w : Loss) → 0 < n → w ≡ record { amount = l 0; scenario = 0 } → Found l n w 1
-  found-first w h e = rw e (record { best = best-first l n h; loss = refl })
-
-  module _ (w : Loss) (s : ℕ) (h : Found l n w s) where
-    pub found-next : s < n → (b : Loss) → b ≡ record { amount = l s; scenario = s } → Found l n (worseOf w b) (s + 1)
-    unfolding worseOf
-    found-next k b e = rw e (go (ltZ (w .amount) (l s)) (ap (λ (z : ℤ). ltZ z (l s)) (sym (h .loss))))
-      where
-        go : (t : Bool) → ltZ (l (w .scenario)) (l s) ≡ t → Found l n (cond t (record { amount = l s; scenario = s }) w) (s + 1)
-        go true q = record { best = best-more l n (w .scenario) s (h .best) k q; loss = refl }
-        go false q = record { best = best-kept l n (w .scenario) s (h .best) k q; loss = h .loss }
-
-    pub found-all : n ≤ s → w ≡ record { amount = l (worst l 0 (upFrom 1 (n - 1))); scenario = worst l 0 (upFrom 1 (n - 1)) }
-    found-all k = rw (best-all l n (w .scenario) s (h .best) k) (ap (λ (z : ℤ). record { amount = z; scenario = w .scenario }) (h .loss))
 
 -- ---- the figures of a curve, by what the code holds of them
 

@@ -10,6 +10,7 @@ ghost use Rattle.margin.specs.Exposure.{exposure};
 ghost use Rattle.margin.specs.Ladder.{ladderFlows};
 ghost use Rattle.margin.specs.Losses.{lossAt};
 ghost use Rattle.margin.specs.Worst.{worseOf, worstOf, Based};
+use super::estimates::estimate;
 use super::losses::Loss;
 use super::losses::loss_of;
 use curve::Components;
@@ -121,7 +122,7 @@ fn worst_from(
 }
 
 // The first scenario with the largest loss, given an estimate of each scenario's value and how far it may be off.
-pub fn worst_kept(
+fn worst_kept(
     id: u64,
     curve: Curve,
     components: Components,
@@ -151,4 +152,22 @@ pub fn worst_kept(
         limit,
         first,
     )
+}
+
+// The first scenario with the largest loss.
+pub fn worst_of(
+    id: u64,
+    curve: Curve,
+    components: Components,
+    l: &[u64],
+    n: usize,
+    asked: &[u64],
+    base: i64,
+) -> Loss
+    requires { ⌜ Based curve components id (now l) n (now asked) base ⌝ }
+    ensures { λ r. ⌜ r ≡ worstOf (exposure 0 curve components (ladderFlows id (now (l .entry)) n)) ⌝ }
+{
+    let mut values = [0i64; 343];
+    let reach = estimate(id, curve, components, l, n, &mut values);
+    worst_kept(id, curve, components, l, n, asked, base, &values, reach)
 }

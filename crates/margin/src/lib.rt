@@ -1,6 +1,7 @@
 // The margin of a book: per curve its base value, its worst loss and its tolerance; per currency initial, variation and total.
 
 pub mod choice;
+pub mod estimates;
 pub mod factors;
 pub mod ladder;
 pub mod losses;

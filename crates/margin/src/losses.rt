@@ -1,4 +1,4 @@
-// The losses of a curve's scenarios, and the choice of the worst among them.
+// The losses of a curve's scenarios, in full.
 ghost use mathlib.Core.Path.{_≡_};
 ghost use Prim.Native.Nat.{_<_};
 ghost use Rattle.curve.specs.Rates.{nodesOf};
@@ -8,7 +8,7 @@ ghost use Rattle.margin.specs.Exposure.{exposure};
 ghost use Rattle.margin.specs.Ladder.{ladderFlows};
 ghost use Rattle.margin.specs.Losses.{lossAt};
 ghost use Rattle.margin.specs.Totals.{totalOn};
-ghost use Rattle.margin.specs.Worst.{worseOf, LossLimits, worstOf, Ready, Based};
+ghost use Rattle.margin.specs.Worst.{worseOf, LossLimits, Ready, Based};
 use super::factors::fill_factors;
 use super::ladder::value_of;
 use super::total::Total;
@@ -61,34 +61,4 @@ impl Loss {
         }
         self
     }
-}
-
-// The first scenario with the largest loss.
-pub fn worst_of(
-    id: u64,
-    curve: Curve,
-    components: Components,
-    l: &[u64],
-    n: usize,
-    asked: &[u64],
-    base: i64,
-) -> Loss
-    requires { ⌜ Based curve components id (now l) n (now asked) base ⌝ }
-    ensures { λ r. ⌜ r ≡ worstOf (exposure 0 curve components (ladderFlows id (now (l .entry)) n)) ⌝ }
-{
-    let count = components.scenario_count();
-    let mut worst = Loss {
-        amount: loss_of(id, curve, components, l, n, asked, base, 0),
-        scenario: 0,
-    };
-    let mut s: u64 = 1;
-    while s < count {
-        let next = Loss {
-            amount: loss_of(id, curve, components, l, n, asked, base, s),
-            scenario: s,
-        };
-        worst = worst.worse(next);
-        s += 1;
-    }
-    worst
 }

@@ -10,9 +10,9 @@ ghost use Rattle.margin.specs.Margins.{curveMargin, currencyMargin, noCu
 use super::CurrencyMargin;
 use super::CurveMargin;
 use super::Margin;
+use super::choice::worst_of;
 use super::factors::mark_days;
 use super::losses::value_on;
-use super::losses::worst_of;
 use curve::Components;
 use curve::Curve;
 
