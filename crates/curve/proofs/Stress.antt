@@ -9,11 +9,7 @@ use native.Mathlib.Omega.{arith}
 use lib.IntN.{ℤ, pos, negsuc, natAbs, zero-*ℤ}
 use lib.ListN.{getD, set, take-append-drop}
 use lib.Signed.{ltZ}
-use mir.Syntax.{w64}
-use mir.Val.{SFits}
-use mir.Facts.{toZ-ofZ}
 use Rattle.laws.proofs.Lists.{mapFirst, length-mapFirst, mapFirst-done, mapFirst-kept, mapFirst-next, take-mapFirst}
-use Rattle.laws.proofs.Signed.{read}
 use Rattle.curve.specs.declared.Node.{Node}
 use Rattle.curve.specs.declared.Curve.{Curve}
 use Rattle.curve.specs.declared.Components.{Components}
@@ -29,10 +25,6 @@ use Rattle.curve.proofs.Scenarios.{scenario-middle}
 
 bool-clash : _≡_ {A = Bool} false true → _≡_ {A = ℕ} 0 1
 bool-clash e = cc
-
--- what a test on z as it is read back says of z
-pub tested : (z : ℤ) (f : ℤ → Bool) (t : Bool) → SFits w64 z → f (read z) ≡ t → f z ≡ t
-tested z f t h e = ap f (sym (toZ-ofZ {w = w64} {z = z} h)) ∙ e
 
 pub clamped-low : (z : ℤ) → ltZ z (pos 0) ≡ true → 0 ≡ clamped z
 clamped-low (pos n) e = let l : n < 0 = ltb-true n 0 e in absurd (omega arith)

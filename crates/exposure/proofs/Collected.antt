@@ -9,6 +9,7 @@ use native.Mathlib.Omega.{arith}
 use lib.Dec.{eqb}
 use lib.ListN.{length, length-append}
 use Rattle.laws.specs.Walk.{table}
+use Rattle.laws.proofs.Tables.{flat-more}
 use Rattle.discount.specs.declared.Flow.{Flow}
 use Rattle.record.specs.Bytes.{fieldsOf}
 use Rattle.flows.specs.declared.Legs.{Legs}
@@ -21,7 +22,7 @@ use Rattle.margin.specs.Ladder.{scheduleFlows, ladderFlows, LadderLimits}
 use Rattle.margin.proofs.LadderFlows.{length-schedule}
 use Rattle.exposure.specs.Growth.{InLimits, Grown}
 use Rattle.exposure.specs.Exposures.{tradeAt, flowsUpTo, flowsIn}
-use Rattle.exposure.proofs.Gathered.{flat-more, on-append}
+use Rattle.exposure.proofs.Gathered.{on-append}
 
 pub record Collected (s : List ℕ) (curve : ℕ) (ladder : List ℕ) (n i : ℕ) : Type 0 where
   pub few : n ≤ i * 3

@@ -2,7 +2,7 @@
 use mathlib.Core.Path.{_≡_, refl, sym, ap, _∙_}
 use mathlib.Core.Bool.{Bool, true, false, not, _&&_, cond}
 use mathlib.Core.Logic.{inl}
-use mathlib.Core.List.{List, [], _∷_, _++_, flatMap, append-assoc, append-nil}
+use mathlib.Core.List.{List, [], _∷_, _++_, flatMap, append-nil}
 use Prim.Native.Nat.{ℕ, zero, suc, _+_, _*_, _≤_, _<_}
 use native.Mathlib.Nat.{add-zero, zero-add}
 use native.Mathlib.Numerals.{add-one}
@@ -12,7 +12,7 @@ use lib.Dec.{eqb, leb, ltb}
 use lib.ListN.{length, getD}
 use borrow.Author.Tests.{eqb-true, eqb-false, ltb-false, le-leb, not-true}
 use Rattle.laws.specs.Walk.{table}
-use Rattle.laws.proofs.Tables.{table-same}
+use Rattle.laws.proofs.Tables.{table-same, flat-same, flat-more}
 use Rattle.laws.proofs.Bools.{both, neither}
 use Rattle.decimal.specs.Product.{unit}
 use Rattle.layout.specs.Bytes.{put}
@@ -25,25 +25,6 @@ use Rattle.flows.proofs.Above.{any-leg}
 use Rattle.margin.specs.Exposure.{flowsOn}
 use Rattle.margin.specs.Ladder.{payments, payment, scheduleFlows, ladderFlows, ScheduleLimits}
 use Rattle.exposure.specs.Schedules.{scheduleOf, standsOn, withLeg, countWithLeg}
-
--- ---- `flatMap` over a table
-
-module _ {A B : Type 0} (g : ℕ → A) where
-  flat-same : (f h : A → List B) (i n : ℕ) → ((k : ℕ) → k < i + n → f (g k) ≡ h (g k)) → flatMap f (table g i n) ≡ flatMap h (table g i n)
-  unfolding table flatMap
-  flat-same f h i zero same = refl
-  flat-same f h i (suc n) same =
-      let first : f (g i) ≡ h (g i) = same i (omega arith) in
-      rw (first, flat-same f h (suc i) n (λ k l. same k (omega arith))) refl
-
-  pub flat-more : (f : A → List B) (i n : ℕ) → flatMap f (table g i (suc n)) ≡ flatMap f (table g i n) ++ f (g (i + n))
-  unfolding table flatMap
-  flat-more f i zero = append-nil (f (g i)) ∙ ap (λ (k : ℕ). f (g k)) (sym (add-zero i))
-  flat-more f i (suc n) =
-      let e : suc i + n ≡ i + suc n = omega arith in
-      ap (λ (l : List B). f (g i) ++ l) (flat-more f (suc i) n)
-      ∙ sym (append-assoc (f (g i)) (flatMap f (table g (suc i) n)) (f (g (suc i + n))))
-      ∙ ap (λ (m : ℕ). (f (g i) ++ flatMap f (table g (suc i) n)) ++ f (g m)) e
 
 -- ---- the flows of a leg that stand on a curve: all of them or none
 

@@ -1,6 +1,6 @@
 -- Lists by index, cut and joined: `table`, and lists that are all of one length, one behind the other. Assumes nothing.
 use mathlib.Core.Path.{_≡_, refl, sym, ap, _∙_}
-use mathlib.Core.List.{List, [], _∷_, _++_, flatten, append-assoc}
+use mathlib.Core.List.{List, [], _∷_, _++_, flatten, flatMap, append-assoc, append-nil}
 use Prim.Native.Nat.{ℕ, zero, suc, _+_, _-_, _*_, _≤_, _<_, min}
 use native.Mathlib.Nat.{zero-add, add-zero, zero-mul, suc-mul}
 use native.Mathlib.Numerals.{add-one}
@@ -69,6 +69,25 @@ module _ {A : Type 0} (f : ℕ → A) where
   table-by d n l e h =
       ext-getD d l (table f 0 n) (e ∙ sym (length-table f 0 n))
       (λ k m. h k (omega arith) ∙ ap f (sym (zero-add k)) ∙ sym (getD-table f 0 n k d (omega arith)))
+
+-- ---- `flatMap` over a table
+
+module _ {A B : Type 0} (g : ℕ → A) where
+  pub flat-same : (f h : A → List B) (i n : ℕ) → ((k : ℕ) → k < i + n → f (g k) ≡ h (g k)) → flatMap f (table g i n) ≡ flatMap h (table g i n)
+  unfolding table flatMap
+  flat-same f h i zero same = refl
+  flat-same f h i (suc n) same =
+      let first : f (g i) ≡ h (g i) = same i (omega arith) in
+      rw (first, flat-same f h (suc i) n (λ k l. same k (omega arith))) refl
+
+  pub flat-more : (f : A → List B) (i n : ℕ) → flatMap f (table g i (suc n)) ≡ flatMap f (table g i n) ++ f (g (i + n))
+  unfolding table flatMap
+  flat-more f i zero = append-nil (f (g i)) ∙ ap (λ (k : ℕ). f (g k)) (sym (add-zero i))
+  flat-more f i (suc n) =
+      let e : suc i + n ≡ i + suc n = omega arith in
+      ap (λ (l : List B). f (g i) ++ l) (flat-more f (suc i) n)
+      ∙ sym (append-assoc (f (g i)) (flatMap f (table g (suc i) n)) (f (g (suc i + n))))
+      ∙ ap (λ (m : ℕ). (f (g i) ++ flatMap f (table g (suc i) n)) ++ f (g m)) e
 
 -- ---- lists of m elements each, one behind the other
 

@@ -7,7 +7,8 @@ use lib.Signed.{ltZ}
 use mir.Syntax.{w64}
 use mir.Facts.{toZ-ofZ}
 use Rattle.laws.proofs.Signed.{to-u64}
-use Rattle.curve.proofs.Stress.{tested, clamped-low, clamped-high, clamped-inside, Inside}
+use Rattle.laws.proofs.Signed.{tested}
+use Rattle.curve.proofs.Stress.{clamped-low, clamped-high, clamped-inside, Inside}
 use Rattle.curve.proofs.clamp.Statement.{statement}
 use Rattle.curve.proofs.clamp.Tie as tie
 
