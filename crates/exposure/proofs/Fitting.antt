@@ -16,16 +16,13 @@ use Rattle.book.proofs.Accepted.{Sound, trade-count-most}
 use Rattle.margin.specs.Exposure.{flowsOn}
 use Rattle.margin.specs.Totals.{AllFlowLimits}
 use Rattle.margin.proofs.Accounts.{FlowsFit}
+use Rattle.margin.proofs.LadderFlows.{limits-append}
 use Rattle.exposure.specs.Exposures.{tradeAt, flowsUpTo, flowsIn, exposureAt}
 use Rattle.exposure.proofs.Collected.{more-flows, no-flows, on-few, few-flows, accepted-at}
 
 bounded : (n : ℕ) (fs : List Flow) → All (FlowBounds n) fs → AllFlowLimits fs
 bounded n [] h = tt
 bounded n (f ∷ fs) h = (record { amount = h .0 .amount; day = h .0 .day }, bounded n fs (h .1))
-
-both-limits : (a b : List Flow) → AllFlowLimits a → AllFlowLimits b → AllFlowLimits (a ++ b)
-both-limits [] b h g = g
-both-limits (f ∷ a) b h g = (h .0, both-limits a b (h .1) g)
 
 on-limits : (curve : ℕ) (fs : List Flow) → AllFlowLimits fs → AllFlowLimits (flowsOn curve fs)
 unfolding flowsOn
@@ -42,7 +39,7 @@ module _ (s : List ℕ) (used : ℕ) (b : Sound s used) where
   flows-limits (suc i) l =
       let more : flowsUpTo s (suc i) ≡ flowsUpTo s i ++ flowsOf (tradeAt s i) = ap (flowsUpTo s) (sym (add-one i)) ∙ more-flows s i in
       rw more
-      (both-limits (flowsUpTo s i) (flowsOf (tradeAt s i)) (flows-limits i (omega arith))
+      (limits-append (flowsUpTo s i) (flowsOf (tradeAt s i)) (flows-limits i (omega arith))
       (bounded (curvesOf s .count) (flowsOf (tradeAt s i)) (flows-bounded (fieldsOf (recordAt s i)) (accepted-at s used b i (omega arith)))))
 
   pub exposure-fits : (curve : ℕ) → FlowsFit (exposureAt s curve)

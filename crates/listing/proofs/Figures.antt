@@ -5,10 +5,9 @@ use lib.IntN.{pos, negsuc}
 use Rattle.margin.specs.declared.CurveMargin.{CurveMargin}
 use Rattle.margin.specs.declared.CurrencyMargin.{CurrencyMargin}
 use Rattle.margin.specs.declared.Margin.{Margin}
-use Rattle.margin.specs.Margins.{noCurve}
+use Rattle.margin.specs.Margins.{noCurve, noCurrency}
 use Rattle.listing.specs.Text.{ascii, digitsWithin, decimalOf, signedText}
 use Rattle.listing.specs.Listing.{currencyWord, curveFigures, curveLine, currencyFigures, currencyLine, curveLines, hasCurrency, currencyPart, currencyLines, listing, refusedLine}
-use Rattle.listing.proofs.Lines.{noCurrency}
 
 unfoldable pub curve : CurveMargin
 curve = record { base = pos 10000; loss = pos 30000; scenario = 2; currency = 1; tolerance = 1 }

@@ -5,13 +5,12 @@ use mathlib.Core.List.{List, [], _++_}
 use Prim.Native.Nat.{ℕ, _+_, _≤_, _<_}
 use native.Mathlib.Numerals.{add-one}
 use lib.Dec.{eqb}
-use lib.IntN.{pos}
 use lib.ListN.{length, getD, take, drop}
 use lib.Seq.{drop-cons, drop-length}
 use Rattle.laws.proofs.Lists.{drop-next, drop-end}
 use Rattle.margin.specs.declared.CurveMargin.{CurveMargin}
 use Rattle.margin.specs.declared.CurrencyMargin.{CurrencyMargin}
-use Rattle.margin.specs.Margins.{noCurve}
+use Rattle.margin.specs.Margins.{noCurve, noCurrency}
 use Rattle.listing.specs.Listing.{curveLine, curveLines, hasCurrency, currencyPart, currencyLines}
 
 module _ (l : List CurveMargin) (n i : ℕ) where
@@ -30,9 +29,6 @@ module _ (l : List CurveMargin) (n i : ℕ) where
   pub has-none : (c : ℕ) → n ≤ i → hasCurrency c (drop i (take n l)) ≡ false
   unfolding hasCurrency
   has-none c h = rw (drop-end l n i h)
-
-abbrev pub noCurrency : CurrencyMargin
-noCurrency = record { initial = pos 0; variation = pos 0; total = pos 0 }
 
 module _ (curves : List CurveMargin) (l : List CurrencyMargin) (i : ℕ) where
   pub currencies-next : i < length l

@@ -96,7 +96,7 @@ module _ (curve : ℕ) (l : List ℕ) (n : ℕ) where
   unfolding flowsFrom flatMap
   flows-end i h = rw (table-end (λ i. i) i n h)
 
-limits-append : (xs ys : List Flow) → AllFlowLimits xs → AllFlowLimits ys → AllFlowLimits (xs ++ ys)
+pub limits-append : (xs ys : List Flow) → AllFlowLimits xs → AllFlowLimits ys → AllFlowLimits (xs ++ ys)
 limits-append [] ys h k = k
 limits-append (x ∷ xs) ys h k = (h .0, limits-append xs ys (h .1) k)
 

@@ -39,9 +39,12 @@ currencyMargin currency ms =
     let variation : ℤ = sumIn currency (λ m. m .base) ms in
     record { initial = initial; variation = variation; total = variation -ℤ initial }
 
--- the figures of a place with no curve
+-- the figures of a place with no curve, and of a currency that no curve has
 abbrev pub noCurve : CurveMargin
 noCurve = record { base = pos 0; loss = pos 0; scenario = 0; currency = 0; tolerance = 0 }
+
+abbrev pub noCurrency : CurrencyMargin
+noCurrency = record { initial = pos 0; variation = pos 0; total = pos 0 }
 
 -- an account's figures, from those of its curves in order: eight places for curves, then TRY, USD, EUR
 unfoldable pub assembled : ℕ → List CurveMargin → Margin

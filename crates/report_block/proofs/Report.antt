@@ -4,7 +4,7 @@ use mathlib.Core.Bool.{false}
 use mathlib.Core.List.{List, [], _∷_, _++_, flatMap}
 use Prim.Native.Nat.{ℕ, _+_, _≤_}
 use native.Mathlib.Omega.{arith}
-use lib.IntN.{ℤ, pos}
+use lib.IntN.{ℤ}
 use lib.ListN.{length, take, drop, replicate, length-append, length-replicate}
 use lib.Seq.{take-at, drop-at}
 use lib.Dec.{lit<}
@@ -22,7 +22,7 @@ use Rattle.layout.proofs.Sealed.{length-sealed, field-sealed, sealed-sound}
 use Rattle.margin.specs.declared.CurveMargin.{CurveMargin}
 use Rattle.margin.specs.declared.CurrencyMargin.{CurrencyMargin}
 use Rattle.margin.specs.declared.Margin.{Margin}
-use Rattle.margin.specs.Margins.{noCurve}
+use Rattle.margin.specs.Margins.{noCurve, noCurrency}
 use Rattle.report_block.specs.Report.{curveBytes, currencyBytes, fieldBytes, reportBytes}
 use Rattle.report_block.proofs.Records.{put-front, bytes-zero}
 
@@ -88,9 +88,6 @@ module _ (m : Margin) (places : Places m) where
 pub absent-curve : curveBytes noCurve ≡ replicate 32 0
 unfolding curveBytes bytesOf twos
 absent-curve = refl
-
-abbrev pub noCurrency : CurrencyMargin
-noCurrency = record { initial = pos 0; variation = pos 0; total = pos 0 }
 
 pub absent-currency : currencyBytes noCurrency ≡ replicate 24 0
 unfolding currencyBytes bytesOf twos

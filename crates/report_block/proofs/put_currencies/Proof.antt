@@ -9,9 +9,10 @@ use lib.ListN.{length, drop}
 use Rattle.laws.proofs.Arrays.{length-mapped}
 use Rattle.layout.specs.Bytes.{put}
 use Rattle.layout.proofs.Bytes.{length-put}
+use Rattle.margin.specs.Margins.{noCurrency}
 use Rattle.report_block.specs.Report.{currencyBytes}
 use Rattle.report_block.proofs.Records.{rest-next, rest-none}
-use Rattle.report_block.proofs.Report.{length-currency, noCurrency}
+use Rattle.report_block.proofs.Report.{length-currency}
 use Rattle.report_block.proofs.put_currencies.Statement.{statement}
 use Rattle.report_block.proofs.put_currencies.Tie as tie
 
