@@ -1,11 +1,15 @@
 // The cheap value of a curve's net amounts in every scenario.
 ghost use mathlib.Core.Path.{_≡_};
-ghost use Rattle.curve.specs.Limits.{Proper};
+ghost use Prim.Native.Nat.{_≤_};
+ghost use lib.ListN.{length};
+ghost use Rattle.curve.specs.Limits.{Proper, ProperComponents};
 ghost use Rattle.curve.specs.Rates.{nodesOf};
-ghost use Rattle.estimate.specs.Values.{valueAt, Tables, Listed};
+ghost use Rattle.curve.specs.Scenarios.{scenarioCount};
+ghost use Rattle.estimate.specs.Values.{valueAt, Valued, Tables, Listed};
 use super::lines::level;
 use super::lines::line_of;
 use super::parts::Part;
+use curve::Components;
 use curve::Curve;
 
 // At the rates of a curve: along a level line to its first node, a line from each node to the next, and a level one from the last.
@@ -42,4 +46,30 @@ pub fn value_on(
         upper,
     );
     p.value
+}
+
+// In every scenario, in order.
+fn fill_values(
+    curve: Curve,
+    components: Components,
+    days: &[u64],
+    count: usize,
+    nets: &[i64],
+    logs: &[u64],
+    middle: &[u64],
+    upper: &[u64],
+    values: &mut [i64],
+)
+    requires { ⌜ Proper curve × ProperComponents components × Listed (now nets) (now days) count × Tables (now logs) (now middle) (now upper) × (scenarioCount components ≤ length (now values)) ⌝ }
+    ensures kept { λ _. ⌜ length (now (values .exit)) ≡ length (now (values .entry)) ⌝ }
+    ensures each { λ _. ⌜ Valued curve components (now (nets .entry)) (now (values .exit)) ⌝ }
+{
+    let n = components.scenario_count();
+    let mut s: u64 = 0;
+    while s < n {
+        let stressed = curve.stressed(components.scenario(s));
+        let at = s as usize;
+        values[at] = value_on(stressed, days, count, nets, logs, middle, upper);
+        s += 1;
+    }
 }
