@@ -68,10 +68,12 @@ module _ (c : Curve) (proper : Proper c) (nets : List ℤ) (days : List ℕ) (co
           let v = valuing-next _ _ _ _ _ (h .valuing) _ (follows-last c proper a i (h .reached) k) r (rw e at b) in
           rw (s .all) at (valuing-all _ _ _ r v)
 
-  -- the value fits
-  pub value-size : natAbs (valueAt (nodesOf c) nets) < 2 ^ 63
-  unfolding mostSize
-  value-size = omega (arith, cheap-size (rateAt (nodesOf c)) nets (listed nets), s .size)
+-- ---- the value at any nodes fits, and is read back from its bits
 
-  pub value-read : (z : ℤ) → z ≡ valueAt (nodesOf c) nets → read z ≡ valueAt (nodesOf c) nets
+module _ (nodes : List Node) (nets : List ℤ) (days : List ℕ) (count : ℕ) (s : Listed nets days count) where
+  value-size : natAbs (valueAt nodes nets) < 2 ^ 63
+  unfolding mostSize
+  value-size = omega (arith, cheap-size (rateAt nodes) nets (listed nets), s .size)
+
+  pub value-read : (z : ℤ) → z ≡ valueAt nodes nets → read z ≡ valueAt nodes nets
   value-read z e = rw e (read-is _ value-size)

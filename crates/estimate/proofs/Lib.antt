@@ -6,3 +6,4 @@ pub mod LineDays
 pub mod Valuing
 pub mod CurveLines
 pub mod CurveValues
+pub mod ScenarioValues

@@ -1,12 +1,20 @@
 // The cheap value of a curve's net amounts in every scenario.
 ghost use mathlib.Core.Path.{_≡_};
-ghost use Rattle.curve.specs.Limits.{Proper};
+ghost use Prim.Native.Nat.{_≤_};
+ghost use lib.ListN.{length};
+ghost use Rattle.curve.specs.Limits.{Proper, ProperComponents};
 ghost use Rattle.curve.specs.Rates.{nodesOf};
-ghost use Rattle.estimate.specs.Values.{valueAt, Tables, Listed};
+ghost use Rattle.curve.specs.Scenarios.{scenarioCount};
+ghost use Rattle.netting.specs.Netting.{listed, netSize};
+ghost use Rattle.estimate.specs.Values.{valueAt, Valued, Tables, Listed};
+use super::days::list_days;
 use super::lines::level;
 use super::lines::line_of;
 use super::parts::Part;
+use curve::Components;
 use curve::Curve;
+use sieve::tables::fill_powers;
+use sieve::tables::logs;
 
 // At the rates of a curve: along a level line to its first node, a line from each node to the next, and a level one from the last.
 pub fn value_on(
@@ -42,4 +50,56 @@ pub fn value_on(
         upper,
     );
     p.value
+}
+
+// In every scenario, in order.
+fn fill_values(
+    curve: Curve,
+    components: Components,
+    days: &[u64],
+    count: usize,
+    nets: &[i64],
+    logs: &[u64],
+    middle: &[u64],
+    upper: &[u64],
+    values: &mut [i64],
+)
+    requires { ⌜ Proper curve × ProperComponents components × Listed (now nets) (now days) count × Tables (now logs) (now middle) (now upper) × (scenarioCount components ≤ length (now values)) ⌝ }
+    ensures kept { λ _. ⌜ length (now (values .exit)) ≡ length (now (values .entry)) ⌝ }
+    ensures each { λ _. ⌜ Valued curve components (now (nets .entry)) (now (values .exit)) ⌝ }
+{
+    let n = components.scenario_count();
+    let mut s: u64 = 0;
+    while s < n {
+        let stressed = curve.stressed(components.scenario(s));
+        let at = s as usize;
+        values[at] = value_on(stressed, days, count, nets, logs, middle, upper);
+        s += 1;
+    }
+}
+
+// In every scenario, in order. The tables of cheap factors and the list of days are made once.
+pub fn values_of(curve: Curve, components: Components, nets: &[i64], values: &mut [i64])
+    requires { ⌜ Proper curve × ProperComponents components × (length (now nets) ≡ 10951) × (netSize (now nets) (listed (now nets)) ≤ 140_000_000_000_000_000) × (scenarioCount components ≤ length (now values)) ⌝ }
+    ensures kept { λ _. ⌜ length (now (values .exit)) ≡ length (now (values .entry)) ⌝ }
+    ensures each { λ _. ⌜ Valued curve components (now (nets .entry)) (now (values .exit)) ⌝ }
+{
+    let mut rows = [0u64; 15627];
+    let mut middle = [0u64; 1024];
+    let mut upper = [0u64; 481];
+    let mut days = [0u64; 10951];
+    logs(&mut rows);
+    fill_powers(&mut middle, &mut upper);
+    let count = list_days(nets, &mut days);
+    fill_values(
+        curve,
+        components,
+        &days,
+        count,
+        nets,
+        &rows,
+        &middle,
+        &upper,
+        values,
+    );
 }

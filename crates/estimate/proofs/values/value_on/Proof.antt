@@ -98,7 +98,7 @@ returns c =
     let l = c .before .before .before .before in
     let p = l .before .before .before .before .before .before .before .before .pre in
     let v = held-all _ (p .0) _ _ _ (p .1) _ _ _ (l .loop .inv) (c .before .before .before .loop-test .left) _ (c .before .before .level2 .ensures) _ (c .before .along3 .ensures .1) in
-    value-read _ (p .0) _ _ _ (p .1) _ v
+    value-read _ _ _ _ (p .1) _ v
 
 pub value-on-spec : {M : Type 1} → statement M
 value-on-spec =

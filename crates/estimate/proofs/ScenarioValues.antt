@@ -1,0 +1,53 @@
+-- The values of the scenarios, filled in one by one. Assumes nothing.
+use mathlib.Core.Path.{_≡_, refl, _∙_, ap}
+use mathlib.Core.List.{List}
+use Prim.Native.Nat.{ℕ, _+_, _≤_, _<_}
+use native.Mathlib.Omega.{arith}
+use borrow.Author.Count.{below-more}
+use lib.IntN.{ℤ, pos}
+use lib.ListN.{length, getD, set, length-set}
+use lib.Seq.{getD-set-same, getD-set-other}
+use Rattle.laws.proofs.Signed.{read}
+use Rattle.curve.specs.declared.Node.{Node}
+use Rattle.curve.specs.declared.Curve.{Curve}
+use Rattle.curve.specs.declared.Components.{Components}
+use Rattle.curve.specs.declared.Scenario.{Scenario}
+use Rattle.curve.specs.Limits.{Proper}
+use Rattle.curve.specs.Rates.{nodesOf}
+use Rattle.curve.specs.Scenarios.{scenarioCount, scenarioAt}
+use Rattle.curve.specs.Stress.{stressedCurve}
+use Rattle.curve.proofs.Stress.{nodes-stressed}
+use Rattle.estimate.specs.Values.{valueAt, scenarioValue, Valued, Listed}
+use Rattle.estimate.proofs.CurveValues.{value-read}
+
+-- what the code values, in scenario s, and read back from its bits
+module _ (c : Curve) (p : Proper c) (x : Components) (nets : List ℤ) (days : List ℕ) (count s : ℕ) (h : Listed nets days count) where
+  pub stressed-read : (k : Scenario) (e : Curve) (z : ℤ) → k ≡ scenarioAt x s → e ≡ stressedCurve k c → z ≡ valueAt (nodesOf e) nets → read z ≡ scenarioValue c x nets s
+  stressed-read k e z f g v =
+      value-read _ nets days count h z (v ∙ ap (λ (ns : List Node). valueAt ns nets) (rw (g, f) (nodes-stressed (scenarioAt x s) c p)))
+
+-- the scenarios before s have their values
+pub record Filled (c : Curve) (x : Components) (nets values₀ values : List ℤ) (s : ℕ) : Type 0 where
+  pub most : s ≤ scenarioCount x
+  pub places : length values ≡ length values₀
+  pub each : (k : ℕ) → k < s → getD values k (pos 0) ≡ scenarioValue c x nets k
+
+module _ (c : Curve) (x : Components) (nets values₀ : List ℤ) where
+  pub filled-none : Filled c x nets values₀ values₀ 0
+  filled-none = record { most = omega arith; places = refl; each = λ k l. absurd (omega arith) }
+
+  module _ (values : List ℤ) (s : ℕ) (h : Filled c x nets values₀ values s) where
+    pub filled-next : s < scenarioCount x → scenarioCount x ≤ length values₀ → (z : ℤ) → z ≡ scenarioValue c x nets s
+        → Filled c x nets values₀ (set values s z) (s + 1)
+    filled-next k l z e =
+        record {
+          most = omega arith;
+          places = length-set values s z ∙ h .places;
+          each =
+              below-more _ _
+              (λ j m. getD-set-other values s j z (pos 0) (λ q. absurd (omega arith)) ∙ h .each j m)
+              (getD-set-same values s z (pos 0) (omega (arith, h .places)) ∙ e);
+        }
+
+    pub filled-all : scenarioCount x ≤ s → Valued c x nets values
+    filled-all k = record { each = λ j l. h .each j (omega arith) }
