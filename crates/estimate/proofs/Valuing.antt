@@ -39,6 +39,13 @@ listed-rising i (x ∷ xs) = go (eqb (natAbs x) 0) (rising-lower i (suc i) (list
     go true h = h
     go false h = (omega arith, h)
 
+-- what holds of every day from there on holds of each of the list
+rising-each : (from : ℕ) (P : ℕ → Type 0) → ((d : ℕ) → from ≤ d → d < 10951 → P d)
+    → (ds : List ℕ) → RisingFrom from ds → All (λ d. d < 10951) ds → All P ds
+rising-each from P f [] r b = tt
+rising-each from P f (d ∷ ds) r b =
+    (f d (r .0) (b .0), rising-each from P f ds (rising-lower from d ds (r .0) (r .1)) (b .1))
+
 -- ---- the days before a day, and the others
 
 module _ (until : ℕ) where
@@ -112,27 +119,21 @@ module _ (rate : ℕ → ℕ) (nets : List ℤ) (days : List ℕ) (count : ℕ) 
 
   module _ (from : ℕ) (p : Part) (h : Valuing from p) where
     module _ (l : Line) (f : Follows rate l from) where
-      on-line : (ds : List ℕ) (k : ℕ) → from ≤ k → RisingFrom k ds → All (λ d. d < 10951) ds → OnLine l ds
-      on-line [] k m r b = tt
-      on-line (d ∷ ds) k m r b =
-          ((b .0, λ u. f .drawn d (omega (arith, r .0)) u (b .0)), on-line ds d (omega (arith, r .0)) (r .1) (b .1))
-
-      on-rates : (ds : List ℕ) (k : ℕ) → from ≤ k → RisingFrom k ds → All (λ d. d < 10951) ds → All (λ d. d < l .until → cheapOn rate d ≡ cheapOn (rateOn l) d) ds
-      on-rates [] k m r b = tt
-      on-rates (d ∷ ds) k m r b = (
-        λ u. ap (λ (x : ℕ). cheapOn (λ t. x) d) (sym (f .same d (omega (arith, r .0)) u (b .0))),
-        on-rates ds d (omega (arith, r .0)) (r .1) (b .1),
-      )
+      on-rates : All (λ d. d < l .until → cheapOn rate d ≡ cheapOn (rateOn l) d) (left p)
+      on-rates =
+          rising-each from (λ d. d < l .until → cheapOn rate d ≡ cheapOn (rateOn l) d)
+          (λ d m b u. ap (λ (x : ℕ). cheapOn (λ t. x) d) (sym (f .same d m u b))) (left p) (h .order) (h .below)
 
       pub valuing-line : OnLine l (left p)
-      valuing-line = on-line (left p) from (omega arith) (h .order) (h .below)
+      valuing-line =
+          rising-each from (λ d. (d < 10951) × (d < l .until → Drawn l d)) (λ d m b. (b, λ u. f .drawn d m u b)) (left p) (h .order) (h .below)
 
       pub valuing-next : (r : Part) → Along l nets days count p r → Valuing (l .until) r
       valuing-next r a =
           let rest = left p in
           let u = l .until in
           let there = netValue (cheapOn (rateOn l)) nets (daysBefore u rest) in
-          let split = split-value u (cheapOn rate) (cheapOn (rateOn l)) nets rest (on-rates rest from (omega arith) (h .order) (h .below)) in
+          let split = split-value u (cheapOn rate) (cheapOn (rateOn l)) nets rest on-rates in
           record {
             value =
                 rw (a .value, a .left)
