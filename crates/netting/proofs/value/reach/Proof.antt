@@ -1,7 +1,7 @@
 -- `netting::value::reach` meets its contract: a day's distance is at most 393. Assumes nothing.
 use borrow.Author.Needs.{needs}
 use mathlib.Core.Path.{refl}
-use Prim.Native.Nat.{_+_, _*_, _/_, _%_, _≤_}
+use Prim.Native.Nat.{_*_, _≤_}
 use native.Mathlib.Nat.{mul-le-mul}
 use native.Mathlib.Omega.{arith}
 use Rattle.discount.specs.Discount.{year, products}
@@ -11,16 +11,15 @@ use Rattle.netting.proofs.Sizes.{distance-size}
 use Rattle.netting.proofs.value.reach.Statement.{statement}
 use Rattle.netting.proofs.value.reach.Tie as tie
 
-bound : (s : tie.Start)
-    → let day = s .args .day in
-    s .args .amount * (26 + (50000 * day / 365 + 2) / 4096 + (day % 365 + day / 365) * 44 / 10000) ≤ 1000000000000 * 393
-unfolding year products distanceUp
+bound : (s : tie.Start) → s .args .amount * distanceUp (s .args .day) ≤ 1000000000000 * 393
 bound s = mul-le-mul (s .pre .0) (distance-size (s .args .day) (s .pre .1))
 
 mul-result : tie.Need-mul-result
+unfolding year products distanceUp
 mul-result c = omega (arith, bound c)
 
 add-result : tie.Need-add-result
+unfolding year products distanceUp
 add-result c = omega (arith, bound c)
 
 returns : tie.Need-returns
