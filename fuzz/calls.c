@@ -25,17 +25,22 @@ typedef struct {
 /* libFuzzer keeps an input that raises one of these: a counter for each call, ground and block. */
 __attribute__((section("__libfuzzer_extra_counters"))) static uint8_t reached[6][17][16];
 
-/* The same over all inputs, without blocks. */
-static uint8_t ever[6][17];
+/* How often each call gave each answer, over all inputs. */
+static uint64_t answers[6][17];
 
-__attribute__((destructor)) static void print_ever(void) {
+__attribute__((destructor)) static void print_answers(void) {
     static const char *calls[] = {"check", "margin", "append", "strike", "read", "present value"};
+    uint64_t all = 0;
     for (int call = 0; call < 6; call++) {
         fprintf(stderr, "%s answered", calls[call]);
-        for (int number = 0; number < 17; number++)
-            if (ever[call][number]) fprintf(stderr, " %d", number);
+        for (int number = 0; number < 17; number++) {
+            uint64_t times = answers[call][number];
+            if (times) fprintf(stderr, " %d: %llu", number, (unsigned long long)times);
+            all += times;
+        }
         fprintf(stderr, "\n");
     }
+    fprintf(stderr, "%llu calls\n", (unsigned long long)all);
 }
 
 static void expect(int holds, const char *promise) {
@@ -50,7 +55,7 @@ static seddolki_answer seen(int call, seddolki_answer answer) {
     expect(answer.number == 0 || names_block || answer.value == 0, "grounds 1 and 13 on: block 0");
     expect(!names_block || answer.value <= 128, "a block is 0 to 128");
     reached[call][answer.number][answer.number ? answer.value % 16 : 0] = 1;
-    ever[call][answer.number] = 1;
+    answers[call][answer.number]++;
     return answer;
 }
 
