@@ -24,4 +24,6 @@ pub use examples::{buyer, seller};
 pub use near_ties::{draw_near_ties, NearTies};
 pub use record::draw_record;
 pub use record_damage::{damage_record, record_grounds};
-pub use timing::{full_book, near_tie_book, small_book, typical_book, zero_component_book};
+pub use timing::{
+    full_book, mixed_book, near_tie_book, small_book, typical_book, zero_component_book,
+};

@@ -12,12 +12,12 @@ const NODE_DAYS: [u16; 10] = [1, 30, 91, 182, 365, 730, 1_095, 1_825, 3_650, 7_3
 
 /// One curve and a few trades.
 pub fn small_book() -> Book {
-    mixed_book(1, 5)
+    mixed_book(1, 5, [MAX_STEPS; 3])
 }
 
 /// A curve for each currency, and trades of every kind.
 pub fn typical_book() -> Book {
-    mixed_book(3, 200)
+    mixed_book(3, 200, [MAX_STEPS; 3])
 }
 
 /// As many blocks as a book can have, and as many payments as a trade can.
@@ -93,9 +93,13 @@ fn book(curves: Vec<Curve>, trades: Vec<Record>) -> Book {
     }
 }
 
-fn mixed_book(curve_count: u8, trade_count: usize) -> Book {
+/// So many curves, each with these steps, and trades of every kind.
+pub fn mixed_book(curve_count: u8, trade_count: usize, steps: [u8; 3]) -> Book {
     let mut draw = Draw::new(curve_count.into());
-    let curves = curves(&mut draw, curve_count);
+    let mut curves = curves(&mut draw, curve_count);
+    for curve in &mut curves {
+        curve.steps = steps;
+    }
     let trades = (0..trade_count)
         .map(|_| draw_record(&mut draw, &curves, 20))
         .collect();
