@@ -1,9 +1,11 @@
 -- `record::rules::principals_fit` meets its contract. Assumes nothing.
 use borrow.Author.Needs.{needs}
+use Rattle.decimal.specs.Product.{unit}
 use Rattle.record.proofs.rules.principals_fit.Statement.{statement}
 use Rattle.record.proofs.rules.principals_fit.Tie as tie
 
 returns : tie.Need-returns
+unfolding unit
 returns c = cc
 
 pub principals-fit-spec : {M : Type 1} → statement M
