@@ -10,4 +10,3 @@ pub mod Antilogs
 pub mod Logarithms
 pub mod Closeness
 pub mod Bound
-pub mod Lines

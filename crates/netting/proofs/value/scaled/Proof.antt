@@ -1,11 +1,22 @@
 -- `netting::value::scaled` meets its contract. Assumes nothing.
-use Prim.Native.Nat.{ℕ, _*_, _/_, _%_, _≤_}
-use native.Mathlib.Nat.{mul-le-mul}
+use mathlib.Core.Path.{_≡_, sym, ap, _∙_}
+use Prim.Native.Nat.{ℕ, _+_, _*_, _/_, _%_, _≤_}
+use native.Mathlib.Nat.{mul-le-mul, add-mul-div-right, div-add-mod', add-comm}
 use native.Mathlib.Omega.{arith}
+use lib.Dec.{lit<}
 use Rattle.sieve.specs.Cheap.{whole}
-use Rattle.sieve.proofs.Lines.{worth-exact}
 use Rattle.netting.proofs.value.scaled.Statement.{statement}
 use Rattle.netting.proofs.value.scaled.Tie as tie
+
+-- the amount's parts above and below 2 ^ 32, each at the factor
+worth-exact : (n c : ℕ) → 2 * (n / 4294967296) * c + n % 4294967296 * c / 2147483648 ≡ n * c / 2147483648
+worth-exact n c =
+    sym (parts (n / 4294967296) (n % 4294967296)) ∙ ap (λ (x : ℕ). x * c / 2147483648) (div-add-mod' n 4294967296)
+  where
+    parts : (a b : ℕ) → (a * 4294967296 + b) * c / 2147483648 ≡ 2 * a * c + b * c / 2147483648
+    parts a b =
+        let e : (a * 4294967296 + b) * c ≡ b * c + 2 * a * c * 2147483648 = omega arith in
+        ap (λ (x : ℕ). x / 2147483648) e ∙ add-mul-div-right (b * c) (2 * a * c) (lit< tt) ∙ add-comm (b * c / 2147483648) (2 * a * c)
 
 -- what the products are at most
 record Small (n c : ℕ) : Type 0 where
