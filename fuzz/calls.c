@@ -22,20 +22,34 @@ typedef struct {
     size_t len, used;
 } input;
 
-/* libFuzzer keeps an input that raises one of these: a counter for each call, ground and block. */
-__attribute__((section("__libfuzzer_extra_counters"))) static uint8_t reached[6][17][16];
+/* libFuzzer keeps an input that raises one of these counters. */
+#define KEPT __attribute__((section("__libfuzzer_extra_counters"))) static uint8_t
 
-/* The same over all inputs, without blocks. */
-static uint8_t ever[6][17];
+/* Each call, ground and block; where an edit was done, whether the book's length changed. */
+KEPT reached[6][17][16];
 
-__attribute__((destructor)) static void print_ever(void) {
+/* Each kind, side, phase and security of a trade in an accepted book; each number of curves. */
+KEPT held[4][4][4][4], curves_held[9];
+
+/* Each worst scenario of a report, by the sign of the base. */
+KEPT worst[2][343];
+
+/* How often each call gave each answer, over all inputs. */
+static uint64_t answers[6][17];
+
+__attribute__((destructor)) static void print_answers(void) {
     static const char *calls[] = {"check", "margin", "append", "strike", "read", "present value"};
+    uint64_t all = 0;
     for (int call = 0; call < 6; call++) {
         fprintf(stderr, "%s answered", calls[call]);
-        for (int number = 0; number < 17; number++)
-            if (ever[call][number]) fprintf(stderr, " %d", number);
+        for (int number = 0; number < 17; number++) {
+            uint64_t times = answers[call][number];
+            if (times) fprintf(stderr, " %d: %llu", number, (unsigned long long)times);
+            all += times;
+        }
         fprintf(stderr, "\n");
     }
+    fprintf(stderr, "%llu calls\n", (unsigned long long)all);
 }
 
 static void expect(int holds, const char *promise) {
@@ -50,7 +64,7 @@ static seddolki_answer seen(int call, seddolki_answer answer) {
     expect(answer.number == 0 || names_block || answer.value == 0, "grounds 1 and 13 on: block 0");
     expect(!names_block || answer.value <= 128, "a block is 0 to 128");
     reached[call][answer.number][answer.number ? answer.value % 16 : 0] = 1;
-    ever[call][answer.number] = 1;
+    answers[call][answer.number]++;
     return answer;
 }
 
@@ -66,6 +80,11 @@ static int all_zero(const uint8_t *bytes, size_t len) {
 
 static size_t field(const uint8_t *bytes) { return bytes[0] | (size_t)bytes[1] << 8; }
 
+/* Flows times scenarios that are valued at most. */
+#ifndef WORK
+#define WORK 20000
+#endif
+
 /* Whether an accepted book's flows times scenarios are few. */
 static int is_quick(const uint8_t *book, size_t used) {
     size_t curves = field(book + 8), flows = 0, scenarios = 0;
@@ -76,7 +95,22 @@ static int is_quick(const uint8_t *book, size_t used) {
     for (size_t at = (1 + curves) * SEDDOLKI_BLOCK; at < used; at += SEDDOLKI_BLOCK)
         for (size_t j = 0; j < book[at + 1]; j++)
             flows += 2 + field(book + at + 4 + j * SEDDOLKI_RECORD + 16);
-    return flows * scenarios < 20000;
+    return flows * scenarios < WORK;
+}
+
+static void note_held(const uint8_t *book, size_t used) {
+    size_t curves = field(book + 8);
+    curves_held[curves] = 1;
+    for (size_t at = (1 + curves) * SEDDOLKI_BLOCK; at < used; at += SEDDOLKI_BLOCK)
+        for (size_t j = 0; j < book[at + 1]; j++) {
+            const uint8_t *record = book + at + 4 + j * SEDDOLKI_RECORD;
+            held[record[0]][record[1]][record[2]][record[5]] = 1;
+        }
+}
+
+static void note_worst(const uint8_t *report) {
+    for (const uint8_t *curve = report + 8; curve < report + 264; curve += 32)
+        if (curve[20]) worst[curve[7] >> 7][field(curve + 16)] = 1;
 }
 
 static void try_margin(const input *in, seddolki_answer checked) {
@@ -93,6 +127,7 @@ static void try_margin(const input *in, seddolki_answer checked) {
         expect(!memcmp(report, before, in->report_len), "a refused margin writes nothing");
         return;
     }
+    note_worst(report);
     expect(report[0] == 9 && !memcmp(report + 4, book + 4, 4), "a report has its head");
     uint32_t check = block_check(report);
     for (int i = 0; i < 4; i++)
@@ -122,6 +157,7 @@ static void try_append(const input *in, seddolki_answer checked) {
     }
     size_t used = answer.value;
     expect(used == in->used || used == in->used + SEDDOLKI_BLOCK, "append adds at most a block");
+    reached[2][0][1] = used > in->used;
     expect(!memcmp(book + used, in->lent + used, in->len - used), "bytes behind stay");
     expect(seddolki_check(book, in->len, used).number == 0, "an appended book is accepted");
     size_t blocks = field(book + 10);
@@ -145,6 +181,7 @@ static void try_strike(const input *in, seddolki_answer checked) {
     }
     size_t used = answer.value;
     expect(used == in->used || used + SEDDOLKI_BLOCK == in->used, "strike frees at most a block");
+    reached[3][0][1] = used < in->used;
     expect(all_zero(book + used, in->used - used), "a block left empty becomes zeros");
     expect(!memcmp(book + in->used, in->lent + in->used, in->len - in->used), "bytes behind stay");
     expect(seddolki_check(book, in->len, used).number == 0, "a struck book is accepted");
@@ -178,6 +215,7 @@ int LLVMFuzzerTestOneInput(const uint8_t *data, size_t size) {
     seddolki_answer checked = seen(0, seddolki_check(book, in.len, in.used));
     expect(!memcmp(book, in.lent, in.len), "check leaves the book");
     expect(checked.number || checked.value == 0, "an accepted book has value 0");
+    if (checked.number == 0) note_held(book, in.used);
     try_margin(&in, checked);
     try_read(&in, checked);
     try_append(&in, checked);

@@ -11,7 +11,7 @@ use lib.ListN.{length}
 use Rattle.ground.specs.declared.Ground.the-variants.{Length}
 use Rattle.ground.specs.declared.Verdict.the-variants.{Accepted}
 use Rattle.layout.proofs.Bytes.{length-part}
-use Rattle.layout.proofs.Verdicts.{unless-accepted}
+use Rattle.ground.proofs.Verdicts.{unless-accepted}
 use Rattle.curve_block.specs.Verdict.{curveVerdict}
 use Rattle.book.specs.Parts.{blockAt, curveCount, tradeBlocks, curvesOf, recordCount, recordPlace, tradeCount, recordAt}
 use Rattle.book.specs.Rules.{breaksLength}

@@ -9,7 +9,7 @@ use Rattle.laws.proofs.Walk.{over-step, over-end}
 use Rattle.ground.specs.declared.Verdict.{Verdict}
 use Rattle.ground.specs.declared.Verdict.the-variants.{Accepted, Refused}
 use Rattle.ground.specs.Verdicts.{orElse}
-use Rattle.layout.proofs.Verdicts.{orElse-accepted}
+use Rattle.ground.proofs.Verdicts.{orElse-accepted}
 use Rattle.book.specs.Verdict.{isAccepted, firstOf}
 
 pub passes : (v next : Verdict) → isAccepted v ≡ true → orElse v next ≡ next

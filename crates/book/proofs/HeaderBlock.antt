@@ -1,20 +1,15 @@
 -- The header that `headerBlock` lays out, and the bytes of a header that breaks nothing. Assumes nothing.
 use mathlib.Core.Path.{_≡_, refl, sym, _∙_}
-use mathlib.Core.Bool.{false}
 use mathlib.Core.List.{List, [], _++_, append-assoc, append-nil}
 use Prim.Native.Nat.{ℕ, _+_, _^_, _≤_, _<_}
 use native.Mathlib.Decide.{decLt}
 use native.Mathlib.Omega.{arith}
-use borrow.Author.Tests.{eqb-true, not-false}
-use lib.Dec.{eqb}
 use lib.ListN.{length, length-append, length-take, List·getD-eq-default}
-use Rattle.laws.proofs.Bools.{both}
 use Rattle.layout.specs.Bytes.{byteAt, part, AreBytes}
 use Rattle.layout.specs.Field.{numberAt, u16At, bytesOf}
-use Rattle.layout.specs.Check.{breaksPlace}
 use Rattle.layout.proofs.Bytes.{byte-part, part-add}
 use Rattle.layout.proofs.Field.{field-front, field-behind, field-part, length-bytes, number-bytes, bytes-number}
-use Rattle.layout.proofs.Sealed.{sound-sealed}
+use Rattle.layout.proofs.Sealed.{sound-sealed, place-kept}
 use Rattle.book.specs.Parts.{account, curveCount, tradeBlocks}
 use Rattle.book.specs.Encode.{block, headerBlock}
 use Rattle.book.proofs.Laid.{length-block, block-count, block-named, block-zeros, block-checked, block-placed, block-of}
@@ -22,14 +17,7 @@ use Rattle.book.proofs.Verdicts.{HeaderSound}
 
 -- ---- of any block
 
--- the kind and the number of a block that stands where it should
-pub placed-at : (b : List ℕ) (kind number : ℕ) → breaksPlace b kind number ≡ false → (byteAt b 0 ≡ kind) × (u16At b 2 ≡ number)
-unfolding breaksPlace
-placed-at b kind number h =
-    let p = both (eqb (byteAt b 0) kind) (eqb (u16At b 2) number) (not-false _ h) in
-    (eqb-true (byteAt b 0) kind (p .0), eqb-true (u16At b 2) number (p .1))
-
--- the bytes of its number
+-- the bytes of a block's number
 pub number-part : (b : List ℕ) (number : ℕ) → AreBytes b → length b ≡ 512 → u16At b 2 ≡ number → part b 2 2 ≡ bytesOf 2 number
 number-part b number bytes h e = sym (rw e at (bytes-number 2 b 2 bytes (omega arith)))
 
@@ -109,7 +97,7 @@ module _ (a c t : ℕ) where
 pub header-of : (b : List ℕ) (blocks : ℕ) → AreBytes b → length b ≡ 512 → HeaderSound b blocks
     → b ≡ headerBlock (account b) (curveCount b) (tradeBlocks b)
 header-of b n bytes h sound =
-    let p = placed-at b 1 0 (sound .placed) in
+    let p = place-kept b 1 0 (sound .placed) in
     let named = fields (account b) (curveCount b) (tradeBlocks b) in
     let l = length-fields (account b) (curveCount b) (tradeBlocks b) in
     let e : part b 4 8 ≡ named =

@@ -1,16 +1,14 @@
 -- Where the parts of a book stand. Assumes nothing.
-use mathlib.Core.Path.{_≡_, sym, ap, _∙_}
+use mathlib.Core.Path.{_≡_, ap, _∙_}
 use mathlib.Core.List.{List, []}
-use Prim.Native.Nat.{ℕ, _+_, _-_, _*_, _/_, _%_, _≤_, _<_}
+use Prim.Native.Nat.{ℕ, _+_, _-_, _*_, _≤_, _<_}
 use native.Mathlib.Nat.{zero-add}
 use native.Mathlib.Omega.{arith}
 use borrow.Author.Tests.{eq-eqb, ne-eqb}
 use lib.ListN.{length, getD, List·getD-eq-default}
 use Rattle.laws.proofs.Walk.{length-table, getD-table}
-use Rattle.layout.specs.Bytes.{part, put}
-use Rattle.layout.proofs.Bytes.{part-part, part-put, part-all, length-put}
 use Rattle.layout.proofs.Field.{field-part}
-use Rattle.book.specs.Parts.{blockAt, account, curveCount, tradeBlocks, curveBlocks, curvesIn, curvesOf, recordCount, tradeCount, recordAt, records, recordPlace}
+use Rattle.book.specs.Parts.{blockAt, account, curveCount, tradeBlocks, curveBlocks, curvesIn, curvesOf, recordCount, tradeCount, recordAt, records}
 
 -- ---- the header's fields, in its block
 
@@ -62,16 +60,3 @@ length-records s = length-table (recordAt s) 0 (tradeCount s)
 pub record-of : (s : List ℕ) (i : ℕ) → i < tradeCount s → getD (records s) i [] ≡ recordAt s i
 unfolding records
 record-of s i l = getD-table (recordAt s) 0 (tradeCount s) i [] l ∙ ap (recordAt s) (zero-add i)
-
--- a list written over one of its own length
-pub put-whole : (s bs : List ℕ) → length bs ≡ length s → put s 0 bs ≡ bs
-put-whole s bs h =
-    let l : 0 + length bs ≤ length s = omega arith in
-    let e : length (put s 0 bs) ≡ length bs = length-put s 0 bs ∙ sym h in
-    sym (part-all (put s 0 bs)) ∙ rw e (part-put s 0 bs l)
-
--- a record's bytes, straight from the book's
-pub record-part : (s : List ℕ) (i : ℕ) → (1 + curveCount s + i / 9) * 512 + 512 ≤ length s
-    → recordAt s i ≡ part s ((1 + curveCount s + i / 9) * 512 + recordPlace (i % 9)) 56
-unfolding recordAt
-record-part s i h = part-part s ((1 + curveCount s + i / 9) * 512) 512 (recordPlace (i % 9)) 56 h (omega arith)

@@ -11,14 +11,14 @@ use Rattle.laws.proofs.Tables.{Each, length-flatten, part-flatten, flatten-part
 use Rattle.ground.specs.declared.Verdict.the-variants.{Accepted}
 use Rattle.layout.specs.Bytes.{part, AreBytes}
 use Rattle.layout.proofs.Bytes.{length-part, part-part}
-use Rattle.layout.proofs.Sealed.{sound-sealed}
+use Rattle.layout.proofs.Sealed.{sound-sealed, place-kept}
 use Rattle.record.specs.declared.Curves.{Curves}
 use Rattle.book.specs.Parts.{recordCount, recordIn}
 use Rattle.book.specs.Verdict.{bytesVerdict}
 use Rattle.book.specs.Encode.{block, tradeBlock}
 use Rattle.book.proofs.Sound.{Counted}
 use Rattle.book.proofs.Laid.{length-block, block-count, block-named, block-zeros, block-checked, block-placed, block-of}
-use Rattle.book.proofs.HeaderBlock.{placed-at, number-part}
+use Rattle.book.proofs.HeaderBlock.{number-part}
 use Rattle.book.proofs.Verdicts.{TradesSound}
 
 module _ (number : ℕ) (rs : List (List ℕ)) where
@@ -68,7 +68,7 @@ recordsIn b = table (recordIn b) 0 (recordCount b)
 pub trades-of : (curves : Curves) (b : List ℕ) (number : ℕ) (last : Bool) → AreBytes b → length b ≡ 512 → TradesSound curves b number last
     → b ≡ tradeBlock number (recordsIn b)
 trades-of curves b number last bytes h sound =
-    let p = placed-at b 3 number (sound .placed) in
+    let p = place-kept b 3 number (sound .placed) in
     let n = length-table (recordIn b) 0 (recordCount b) in
     let most = sound .counts .count .most in
     let e : flatten (recordsIn b) ≡ part b 4 (recordCount b * 56) = flatten-parts 56 b 4 (recordCount b) in

@@ -10,7 +10,7 @@ use lib.Dec.{eqb}
 use lib.ListN.{length}
 use Rattle.ground.specs.declared.Ground.the-variants.{Check, Place, Header, TradeBlock, Form, Days, Amounts, Currency, FlowLimit}
 use Rattle.ground.specs.declared.Verdict.the-variants.{Accepted}
-use Rattle.layout.proofs.Verdicts.{unless-accepted}
+use Rattle.ground.proofs.Verdicts.{unless-accepted}
 use Rattle.layout.specs.Check.{breaksCheck, breaksPlace}
 use Rattle.curve_block.specs.Verdict.{curveVerdict}
 use Rattle.record.specs.declared.Curves.{Curves}

@@ -17,7 +17,7 @@ use Rattle.laws.proofs.Every.{every-at}
 use Rattle.laws.proofs.Walk.{length-table, getD-table}
 use Rattle.ground.specs.declared.Verdict.the-variants.{Accepted}
 use Rattle.layout.specs.Check.{breaksCheck, breaksPlace}
-use Rattle.layout.proofs.Verdicts.{unless-accepted}
+use Rattle.ground.proofs.Verdicts.{unless-accepted}
 use Rattle.curve.specs.declared.Node.{Node}
 use Rattle.curve.specs.declared.Component.{Component}
 use Rattle.curve.specs.Limits.{Limits, Proper, ComponentLimits, ProperComponents, zeroNode}

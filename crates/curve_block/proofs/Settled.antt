@@ -18,7 +18,7 @@ use Rattle.layout.specs.Check.{breaksCheck, breaksPlace}
 use Rattle.layout.proofs.Bytes.{zeros-at}
 use Rattle.layout.proofs.Field.{field-byte, field-bound, field-settles, signed-settles}
 use Rattle.layout.proofs.Sealed.{check-kept, check-same, place-kept}
-use Rattle.layout.proofs.Verdicts.{unless-accepted}
+use Rattle.ground.proofs.Verdicts.{unless-accepted}
 use Rattle.curve.specs.declared.Node.{Node}
 use Rattle.curve.specs.declared.Curve.{Curve}
 use Rattle.curve.specs.declared.Components.{Components}

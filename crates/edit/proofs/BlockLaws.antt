@@ -10,14 +10,13 @@ use Rattle.laws.proofs.Tables.{Each, length-flatten}
 use Rattle.layout.specs.Bytes.{part, put}
 use Rattle.layout.specs.Field.{bytesOf}
 use Rattle.layout.specs.Check.{sealed}
-use Rattle.layout.proofs.Bytes.{length-put, put-put}
+use Rattle.layout.proofs.Bytes.{length-put, put-put, put-whole, put-behind, put-over, part-behind, part-front}
 use Rattle.layout.proofs.Field.{length-bytes}
 use Rattle.layout.proofs.Sealed.{length-sealed, part-sealed}
 use Rattle.book.specs.Parts.{recordPlace}
 use Rattle.book.specs.Encode.{block, headerBlock, tradeBlock}
-use Rattle.book.proofs.Places.{put-whole}
 use Rattle.edit.specs.Blocks.{withRecord, bareBlock, withTradeBlocks, closedUp}
-use Rattle.edit.proofs.Joined.{put-behind, put-front, part-behind, part-front, flatten-none, flatten-cons, flatten-append}
+use Rattle.edit.proofs.Joined.{flatten-none, flatten-cons, flatten-append}
 use Rattle.edit.proofs.Alike.{alike-sym, alike-sealed, alike-set, alike-put, sealed-alike}
 
 -- ---- by way of a spare block: what the copies of `close_up` leave
@@ -75,7 +74,7 @@ over-zeros xs n at r e h =
     ap (λ (k : ℕ). replicate k 0) all ∙ sym (replicate-append-replicate (length r) (n - length r) 0) in
     let place : at ≡ length xs + 0 = omega arith in
     rw (split, place, append-assoc)
-    (put-behind xs (replicate (length r) 0 ++ rest) 0 r ∙ ap (λ (l : List ℕ). xs ++ l) (put-front (replicate (length r) 0) r rest (length-replicate (length r) 0)))
+    (put-behind xs (replicate (length r) 0 ++ rest) 0 r ∙ ap (λ (l : List ℕ). xs ++ l) (put-over (replicate (length r) 0) r rest (length-replicate (length r) 0)))
 
 module _ (number : ℕ) (rs : List (List ℕ)) (r : List ℕ) (each : Each 56 rs) (long : length r ≡ 56) (room : length rs < 9) where
   filled : (count : ℕ) → put (tradeBytes number count rs) (recordPlace (length rs)) r ≡ tradeBytes number count (rs ++ r ∷ [])
@@ -171,7 +170,7 @@ recount a curves trades other =
         let place : 10 ≡ length (headerFront a curves) + 0 = omega (arith, length-headerFront a curves) in
         ap (λ (n : ℕ). put (headerBytes a curves trades) n (bytesOf 2 other)) place
         ∙ put-behind (headerFront a curves) (bytesOf 2 trades ++ replicate 500 0) 0 (bytesOf 2 other)
-        ∙ ap (λ (l : List ℕ). headerFront a curves ++ l) (put-front (bytesOf 2 trades) (bytesOf 2 other) (replicate 500 0) (length-bytes 2 trades ∙ sym (length-bytes 2 other)))
+        ∙ ap (λ (l : List ℕ). headerFront a curves ++ l) (put-over (bytesOf 2 trades) (bytesOf 2 other) (replicate 500 0) (length-bytes 2 trades ∙ sym (length-bytes 2 other)))
 
 -- ---- a gap closed
 
@@ -190,7 +189,7 @@ module _ (before x behind rest next : List ℕ) (same : length x ≡ length next
       put-put (before ++ (x ++ (behind ++ rest))) (length before) behind next
       ∙ ap (λ (n : ℕ). put (before ++ (x ++ (behind ++ rest))) n (behind ++ next)) (sym (add-zero (length before)))
       ∙ put-behind before (x ++ (behind ++ rest)) 0 (behind ++ next)
-      ∙ ap (λ (l : List ℕ). before ++ l) (ap (λ (l : List ℕ). put l 0 (behind ++ next)) (sym (append-assoc x behind rest)) ∙ put-front (x ++ behind) (behind ++ next) rest joined)
+      ∙ ap (λ (l : List ℕ). before ++ l) (ap (λ (l : List ℕ). put l 0 (behind ++ next)) (sym (append-assoc x behind rest)) ∙ put-over (x ++ behind) (behind ++ next) rest joined)
 
 module _ (number : ℕ) (rs : List (List ℕ)) (place : ℕ) (next : List ℕ) (each : Each 56 rs) (few : length rs ≤ 9) (in-block : place < length rs) (long : length next ≡ 56) where
   abbrev heads : List (List ℕ)

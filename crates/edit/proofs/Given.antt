@@ -12,7 +12,7 @@ use Rattle.ground.specs.declared.Ground.the-variants.{Position, BookSpace}
 use Rattle.ground.specs.declared.Verdict.the-variants.{Accepted}
 use Rattle.book.specs.Parts.{curvesOf, tradeCount}
 use Rattle.book.specs.Verdict.{bytesVerdict, verdict}
-use Rattle.layout.proofs.Verdicts.{unless-accepted, orElse-accepted}
+use Rattle.ground.proofs.Verdicts.{unless-accepted, orElse-accepted}
 use Rattle.edit.specs.Refusals.{blockOf, breaksPosition, breaksBookSpace, positionVerdict, newRecordVerdict, appendVerdict}
 
 pub record Placed (s : List ℕ) (used position : ℕ) : Type 0 where

@@ -1,43 +1,16 @@
--- Bytes written into lists that are joined, and into the joined list of lists that are all of one length: records in a
--- block, blocks in a book. Assumes nothing.
+-- Bytes written into the joined list of lists that are all of one length: records in a block, blocks in a book. Assumes nothing.
 use mathlib.Core.Path.{_≡_, refl, sym, _∙_, ap}
 use mathlib.Core.List.{List, [], _∷_, _++_, append-assoc, flatten}
 use Prim.Native.Nat.{ℕ, zero, suc, _+_, _*_, _≤_, _<_}
-use native.Mathlib.Nat.{zero-add, zero-mul, suc-mul}
+use native.Mathlib.Nat.{zero-mul, suc-mul}
 use native.Mathlib.Omega.{arith}
 use lib.ListN.{length, set, take, drop, take-append-drop}
-use lib.Seq.{length-take-le, take-at, drop-append-add}
+use lib.Seq.{length-take-le}
 use Rattle.laws.proofs.Tables.{Each}
-use Rattle.layout.specs.Bytes.{part, put}
+use Rattle.layout.specs.Bytes.{put}
+use Rattle.layout.proofs.Bytes.{put-behind, put-over}
 
--- ---- two lists
-
-put-later : (x : ℕ) (s : List ℕ) (at : ℕ) (bs : List ℕ) → put (x ∷ s) (suc at) bs ≡ x ∷ put s at bs
-unfolding put
-put-later x s at [] = refl
-put-later x s at (b ∷ bs) = put-later x (set s at b) (suc at) bs
-
--- written into the second list
-pub put-behind : (xs s : List ℕ) (at : ℕ) (bs : List ℕ) → put (xs ++ s) (length xs + at) bs ≡ xs ++ put s at bs
-put-behind [] s at bs = rw zero-add
-put-behind (x ∷ xs) s at bs =
-    let e : suc (length xs) + at ≡ suc (length xs + at) = omega arith in
-    rw e (put-later x (xs ++ s) (length xs + at) bs ∙ ap (λ (l : List ℕ). x ∷ l) (put-behind xs s at bs))
-
--- written over the first
-pub put-front : (xs bs s : List ℕ) → length xs ≡ length bs → put (xs ++ s) 0 bs ≡ bs ++ s
-unfolding put
-put-front [] [] s h = refl
-put-front [] (b ∷ bs) s h = absurd (omega arith)
-put-front (x ∷ xs) [] s h = absurd (omega arith)
-put-front (x ∷ xs) (b ∷ bs) s h =
-    put-later b (xs ++ s) 0 bs ∙ ap (λ (l : List ℕ). b ∷ l) (put-front xs bs s (omega arith))
-
-pub part-behind : (xs s : List ℕ) (at n : ℕ) → part (xs ++ s) (length xs + at) n ≡ part s at n
-part-behind xs s at n = ap (take n) (drop-append-add xs s at)
-
-pub part-front : (xs s : List ℕ) (n : ℕ) → length xs ≡ n → part (xs ++ s) 0 n ≡ xs
-part-front xs s n h = take-at xs s n h
+-- ---- joined lists
 
 pub flatten-none : flatten {A = ℕ} [] ≡ []
 unfolding flatten
@@ -60,7 +33,7 @@ module _ (n : ℕ) where
   unfolding flatten
   put-flatten [] each rest k l h e = absurd (omega arith)
   put-flatten (x ∷ ls) each rest zero l h e =
-      rw (append-assoc, zero-mul) (put-front x l (flatten ls ++ rest) (each 0 (omega arith) ∙ sym e))
+      rw (append-assoc, zero-mul) (put-over x l (flatten ls ++ rest) (each 0 (omega arith) ∙ sym e))
       ∙ sym (append-assoc l (flatten ls) rest)
   put-flatten (x ∷ ls) each rest (suc k) l h e =
       let w : suc k * n ≡ length x + k * n = omega (arith, suc-mul k n, each 0 (omega arith)) in
@@ -73,7 +46,7 @@ module _ (n : ℕ) where
   unfolding flatten
   put-next [] each rest l e h =
       rw (zero-mul, append-assoc)
-      (ap (λ (t : List ℕ). put t 0 l) (sym (take-append-drop n rest)) ∙ put-front (take n rest) l (drop n rest) (length-take-le n rest h ∙ sym e))
+      (ap (λ (t : List ℕ). put t 0 l) (sym (take-append-drop n rest)) ∙ put-over (take n rest) l (drop n rest) (length-take-le n rest h ∙ sym e))
   put-next (x ∷ ls) each rest l e h =
       let w : suc (length ls) * n ≡ length x + length ls * n = omega (arith, suc-mul (length ls) n, each 0 (omega arith)) in
       rw (append-assoc, w) (put-behind x (flatten ls ++ rest) (length ls * n) l)

@@ -4,7 +4,6 @@ use mathlib.Core.List.{List}
 use Prim.Native.Nat.{ℕ, _+_, _^_, _≤_, _<_}
 use native.Mathlib.Omega.{arith}
 use lib.IntN.{ℤ, pos, natAbs}
-use lib.ListN.{take, drop}
 use Rattle.laws.proofs.Signed.{read, read-is}
 use Rattle.curve.specs.declared.Node.{Node}
 use Rattle.curve.specs.declared.Curve.{Curve}
@@ -14,59 +13,71 @@ use Rattle.netting.specs.Netting.{listed}
 use Rattle.estimate.specs.declared.lines.Line.{Line}
 use Rattle.estimate.specs.declared.parts.Part.{Part}
 use Rattle.estimate.specs.Lines.{level, lineOf}
-use Rattle.estimate.specs.Values.{valueAt, Along, mostSize, Listed, OnLine}
+use Rattle.estimate.specs.Values.{valueAt, Along, mostSize, Listed, Ready}
 use Rattle.estimate.proofs.LineRates.{line-until}
-use Rattle.estimate.proofs.Valuing.{cheap-size, Valuing, valuing-line, valuing-next, valuing-all, valuing-none}
+use Rattle.estimate.proofs.Valuing.{cheap-size, Follows, Valuing, valuing-line, valuing-next, valuing-all, valuing-none}
 use Rattle.estimate.proofs.CurveLines.{node, rates, Reached, reached-first, reached-next, follows-first, follows-between, follows-last}
 
 -- part p has the days before node a, which stands before place i
 pub record Held (c : Curve) (nets : List ℤ) (days : List ℕ) (count : ℕ) (a : Node) (i : ℕ) (p : Part) : Type 0 where
   pub reached : Reached c a i
   pub done : p .done ≤ count
-  pub valuing : Valuing (rateAt (nodesOf c)) nets (take count days) (a .day) p
+  pub valuing : Valuing (rateAt (nodesOf c)) nets days count (a .day) p
 
 abbrev none : Part
 none = record { done = 0; value = pos 0 }
 
 module _ (c : Curve) (proper : Proper c) (nets : List ℤ) (days : List ℕ) (count : ℕ) (s : Listed nets days count) where
-  pub valuing-start : Valuing (rates c proper) nets (take count days) 0 none
-  valuing-start = rw (s .all) (valuing-none (rates c proper) nets (s .places) (s .size))
+  -- a part that has the days before `from` can go on along a line that follows the curve from there
+  ready : (from : ℕ) (p : Part) → p .done ≤ count → Valuing (rates c proper) nets days count from p
+      → (l : Line) → Follows (rates c proper) l from → Ready l nets days count p
+  ready from p k v l f =
+      record { places = s .places; most = s .most; done = k; each = valuing-line _ _ _ _ _ _ v l f; size = v .size }
 
   -- to the first node
   module _ (l : Line) (e : l ≡ level (node c 0 .rate) (node c 0 .day)) where
-    pub first-line : OnLine l (take count days)
-    first-line = rw e (valuing-line _ _ _ _ _ valuing-start _ (follows-first c proper))
+    start : Valuing (rates c proper) nets days count 0 none
+    start = valuing-none (rates c proper) nets days count s
 
-    pub held-first : (r : Part) → r .done ≤ count → Along l nets (take count days) none r → Held c nets days count (node c 0) 1 r
+    first-follows : Follows (rates c proper) l 0
+    first-follows = rw e (follows-first c proper)
+
+    pub ready-first : Ready l nets days count none
+    ready-first = ready 0 none (omega arith) start l first-follows
+
+    pub held-first : (r : Part) → Along l nets days count none r → Held c nets days count (node c 0) 1 r
     unfolding level
-    held-first r k a =
-        record {
-          reached = reached-first c proper;
-          done = k;
-          valuing = valuing-next _ _ _ _ _ valuing-start _ (follows-first c proper) r (rw e at a);
-        }
+    held-first r a =
+        let v = valuing-next _ _ _ _ _ _ start l first-follows r a in
+        record { reached = reached-first c proper; done = a .done; valuing = rw e at v }
 
   module _ (a : Node) (i : ℕ) (p : Part) (h : Held c nets days count a i p) where
     -- from node a to the next
     module _ (k : i < c .count) (l : Line) (e : l ≡ lineOf a (node c i)) where
-      pub next-line : OnLine l (drop (p .done) (take count days))
-      next-line = rw e (valuing-line _ _ _ _ _ (h .valuing) _ (follows-between c proper a i (h .reached) k))
+      next-follows : Follows (rates c proper) l (a .day)
+      next-follows = rw e (follows-between c proper a i (h .reached) k)
 
-      pub held-next : (r : Part) → r .done ≤ count → Along l nets (take count days) p r → Held c nets days count (node c i) (i + 1) r
-      held-next r m b =
-          let v = valuing-next _ _ _ _ _ (h .valuing) _ (follows-between c proper a i (h .reached) k) r (rw e at b) in
-          record { reached = reached-next c proper a i (h .reached) k; done = m; valuing = rw (line-until a (node c i)) at v }
+      pub ready-next : Ready l nets days count p
+      ready-next = ready (a .day) p (h .done) (h .valuing) l next-follows
+
+      pub held-next : (r : Part) → Along l nets days count p r → Held c nets days count (node c i) (i + 1) r
+      held-next r b =
+          let v = valuing-next _ _ _ _ _ _ (h .valuing) l next-follows r b in
+          record { reached = reached-next c proper a i (h .reached) k; done = b .done; valuing = rw (e, line-until a (node c i)) at v }
 
     -- from the last node on
     module _ (k : c .count ≤ i) (l : Line) (e : l ≡ level (a .rate) 10951) where
-      pub last-line : OnLine l (drop (p .done) (take count days))
-      last-line = rw e (valuing-line _ _ _ _ _ (h .valuing) _ (follows-last c proper a i (h .reached) k))
+      last-follows : Follows (rates c proper) l (a .day)
+      last-follows = rw e (follows-last c proper a i (h .reached) k)
 
-      pub held-all : (r : Part) → Along l nets (take count days) p r → r .value ≡ valueAt (nodesOf c) nets
+      pub ready-last : Ready l nets days count p
+      ready-last = ready (a .day) p (h .done) (h .valuing) l last-follows
+
+      pub held-all : (r : Part) → Along l nets days count p r → r .value ≡ valueAt (nodesOf c) nets
       unfolding level
       held-all r b =
-          let v = valuing-next _ _ _ _ _ (h .valuing) _ (follows-last c proper a i (h .reached) k) r (rw e at b) in
-          rw (s .all) at (valuing-all _ _ _ r v)
+          let v = valuing-next _ _ _ _ _ _ (h .valuing) l last-follows r b in
+          rw (s .all) at (valuing-all _ _ _ _ r (rw e at v))
 
 -- ---- the value at any nodes fits, and is read back from its bits
 

@@ -1,12 +1,12 @@
 -- The days before a line's end, valued one by one at the line's rates. Assumes nothing.
 use mathlib.Core.Path.{_≡_, refl, sym, _∙_}
-use mathlib.Core.List.{List, _∷_}
+use mathlib.Core.List.{List, [], _∷_}
 use Prim.Native.Nat.{ℕ, suc, _+_, _≤_, _<_}
 use native.Mathlib.Numerals.{add-one}
 use native.Mathlib.Omega.{arith}
 use borrow.Author.Tests.{lt-ltb, le-ltb}
 use lib.IntN.{ℤ, natAbs, _+ℤ_, +ℤ-assoc, +ℤ-idr}
-use lib.ListN.{length, take, drop, getD}
+use lib.ListN.{take, drop, getD}
 use Rattle.laws.proofs.Lists.{drop-next, drop-end}
 use Rattle.laws.proofs.Signed.{abs-add}
 use Rattle.sieve.specs.Cheap.{whole}
@@ -16,7 +16,7 @@ use Rattle.netting.proofs.Sizes.{worth-size}
 use Rattle.estimate.specs.declared.lines.Line.{Line}
 use Rattle.estimate.specs.declared.parts.Part.{Part}
 use Rattle.estimate.specs.Lines.{rateOn, Drawn}
-use Rattle.estimate.specs.Values.{daysBefore, daysFrom, Along, mostSize, OnLine, Room}
+use Rattle.estimate.specs.Values.{daysBefore, daysFrom, daysLeft, Along, mostSize, Ready}
 
 -- a net amount at a cheap factor is worth no more than it is
 pub cheap-worth : (rate : ℕ → ℕ) (d : ℕ) (x : ℤ) → natAbs (worth (cheapOn rate d) x) ≤ natAbs x
@@ -24,72 +24,75 @@ unfolding whole
 cheap-worth rate d x = worth-size (cheapOn rate d) x (cheap-le (rate d) d)
 
 module _ (l : Line) (nets : List ℤ) (days : List ℕ) (count : ℕ) where
-  abbrev rest : ℕ → List ℕ
-  rest i = drop i (take count days)
+  abbrev left : Part → List ℕ
+  left r = daysLeft days count r
 
   abbrev lineValue : List ℕ → ℤ
   lineValue ds = netValue (cheapOn (rateOn l)) nets (daysBefore (l .until) ds)
 
-  -- from part p on, the days up to place i have made the value v
-  pub record Going (p : Part) (i : ℕ) (v : ℤ) : Type 0 where
-    pub most : i ≤ count
-    pub value : v +ℤ lineValue (rest i) ≡ p .value +ℤ lineValue (rest (p .done))
-    pub left : daysFrom (l .until) (rest i) ≡ daysFrom (l .until) (rest (p .done))
-    pub room : Room nets v (rest i)
-    pub each : OnLine l (rest i)
+  -- on the way from part p along the line, as far as part r
+  pub record Going (p r : Part) : Type 0 where
+    pub ready : Ready l nets days count r
+    pub value : r .value +ℤ lineValue (left r) ≡ p .value +ℤ lineValue (left p)
+    pub rest : daysFrom (l .until) (left r) ≡ daysFrom (l .until) (left p)
 
-  pub going-first : (p : Part) → p .done ≤ count → OnLine l (rest (p .done)) → Room nets (p .value) (rest (p .done)) → Going p (p .done) (p .value)
-  going-first p k e r = record { most = k; value = refl; left = refl; room = r; each = e }
+  pub going-first : (p : Part) → Ready l nets days count p → Going p p
+  going-first p h = record { ready = h; value = refl; rest = refl }
 
-  module _ (p : Part) (i : ℕ) (v : ℤ) (h : Going p i v) where
-    pub going-end : count ≤ i → Along l nets (take count days) p (record { done = i; value = v })
+  module _ (p r : Part) (h : Going p r) where
+    pub going-end : count ≤ r .done → Along l nets days count p r
     unfolding daysBefore daysFrom netValue
     going-end k =
-        let e = rw (drop-end days count i k) at (h .value) in
-        let f = rw (drop-end days count i k) at (h .left) in
-        record { value = sym (+ℤ-idr v) ∙ e; left = drop-end days count i k ∙ f }
+        let none : left r ≡ [] = drop-end days count (r .done) k in
+        let e = rw none at (h .value) in
+        let f = rw none at (h .rest) in
+        record { done = h .ready .done; value = sym (+ℤ-idr (r .value)) ∙ e; left = none ∙ f }
 
-    module _ (k : i < count) (long : count ≤ length days) where
-      abbrev pub day : ℕ
-      day = getD days i 0
+    module _ (k : r .done < count) where
+      abbrev day : ℕ
+      day = getD days (r .done) 0
 
-      next : rest i ≡ day ∷ rest (suc i)
-      next = drop-next days count i 0 long k
+      next : left r ≡ day ∷ drop (suc (r .done)) (take count days)
+      next = drop-next days count (r .done) 0 (h .ready .most) k
 
       pub going-day : (day < 10951) × (day < l .until → Drawn l day)
-      going-day = (rw next at (h .each)) .0
+      going-day = (rw next at (h .ready .each)) .0
 
-      pub going-stop : l .until ≤ day → Along l nets (take count days) p (record { done = i; value = v })
+      pub going-stop : l .until ≤ day → Along l nets days count p r
       unfolding daysBefore daysFrom netValue
       going-stop m =
           let e = rw (next, le-ltb day (l .until) m) at (h .value) in
-          let f = rw (next, le-ltb day (l .until) m) at (h .left) in
-          record { value = sym (+ℤ-idr v) ∙ e; left = next ∙ f }
+          let f = rw (next, le-ltb day (l .until) m) at (h .rest) in
+          record { done = h .ready .done; value = sym (+ℤ-idr (r .value)) ∙ e; left = next ∙ f }
 
-      abbrev pub dayWorth : ℤ
+      abbrev dayWorth : ℤ
       dayWorth = worth (cheapOn (rateOn l) day) (netOn nets day)
 
-      room-next : natAbs v + (natAbs (netOn nets day) + netSize nets (rest (suc i))) ≤ mostSize
+      abbrev further : Part
+      further = record { done = r .done + 1; value = r .value +ℤ dayWorth }
+
+      size-next : natAbs (r .value) + (natAbs (netOn nets day) + netSize nets (drop (suc (r .done)) (take count days))) ≤ mostSize
       unfolding netSize
-      room-next = rw next at (h .room .size)
+      size-next = rw next at (h .ready .size)
 
       pub amount-most : natAbs (netOn nets day) ≤ mostSize
-      amount-most = omega (arith, room-next)
+      amount-most = omega (arith, size-next)
 
-      pub sum-size : natAbs (v +ℤ dayWorth) ≤ mostSize
-      sum-size = omega (arith, room-next, abs-add v dayWorth, cheap-worth (rateOn l) day (netOn nets day))
+      size-kept : natAbs (r .value +ℤ dayWorth) + netSize nets (drop (suc (r .done)) (take count days)) ≤ mostSize
+      size-kept = omega (arith, size-next, abs-add (r .value) dayWorth, cheap-worth (rateOn l) day (netOn nets day))
 
-      pub going-next : day < l .until → Going p (i + 1) (v +ℤ dayWorth)
+      pub sum-size : natAbs (r .value +ℤ dayWorth) ≤ mostSize
+      sum-size = omega (arith, size-kept)
+
+      pub going-next : day < l .until → Going p further
       unfolding daysBefore daysFrom netValue
       going-next m =
           let e = rw (next, lt-ltb day (l .until) m) at (h .value) in
-          let f = rw (next, lt-ltb day (l .until) m) at (h .left) in
-          let g = rw next at (h .each) in
+          let f = rw (next, lt-ltb day (l .until) m) at (h .rest) in
+          let g = rw next at (h .ready .each) in
           rw add-one
           (record {
-            most = k;
-            value = +ℤ-assoc v dayWorth (lineValue (rest (suc i))) ∙ e;
-            left = f;
-            room = record { size = omega (arith, room-next, abs-add v dayWorth, cheap-worth (rateOn l) day (netOn nets day)) };
-            each = g .1;
+            ready = record { places = h .ready .places; most = h .ready .most; done = k; each = g .1; size = size-kept };
+            value = +ℤ-assoc (r .value) dayWorth (lineValue (drop (suc (r .done)) (take count days))) ∙ e;
+            rest = f;
           })

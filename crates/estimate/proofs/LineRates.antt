@@ -21,13 +21,13 @@ parts-some : 0 < parts
 unfolding parts
 parts-some = omega arith
 
--- ---- where a line stands, g days after the node that it comes from
+-- ---- where a line stands, from a node's rate r in parts
 
--- it has risen by x
+-- risen by z, of which y came before the node
 risen : (r y z : ℕ) → y ≤ z → (pos r -ℤ pos y) +ℤ pos z ≡ pos (r + (z - y))
 risen r y z h = +ℤ-assoc (pos r) (negℤ (pos y)) (pos z) ∙ ap (λ (k : ℤ). pos r +ℤ k) (+ℤ-comm (negℤ (pos y)) (pos z) ∙ sub-up z y h)
 
--- it has fallen by x, in parts of n
+-- fallen by x, with n parts to a rate
 module _ (r n x : ℕ) (some : 0 < n) (less : x / n ≤ r) where
   fall-le : x ≤ r * n + (n - 1)
   fall-le = omega (arith, lt-div-mul-add {a = x} some, mul-le-mul-right n less)
@@ -53,7 +53,7 @@ module _ (a b : Node) (t : ℕ) (h : Ahead a b) (m : Between a b t) where
   unfolding parts
   room = le-trans (mul-le-mul {n₂ = 10950} {m₂ = 10950} (omega arith) (omega arith)) (omega arith)
 
-  -- the way gone
+  -- the way gone, as document 01 cuts it
   way-is : (way : ℕ) → slopeOf way run * gone / parts ≡ way * gone / run
   unfolding slopeOf
   way-is way = slope-exact parts way gone run (omega arith) room

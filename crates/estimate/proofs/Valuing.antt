@@ -7,18 +7,18 @@ use native.Mathlib.Omega.{arith}
 use borrow.Author.Tests.{ltb-true, ltb-false}
 use lib.Dec.{ltb, eqb}
 use lib.IntN.{ℤ, pos, natAbs, _+ℤ_, +ℤ-assoc, +ℤ-idl, +ℤ-idr}
-use lib.ListN.{length, drop}
+use lib.ListN.{take}
 use Rattle.laws.specs.All.{All}
 use Rattle.laws.proofs.Signed.{abs-add}
 use Rattle.sieve.specs.Cheap.{whole}
 use Rattle.sieve.proofs.Bound.{cheap-le}
-use Rattle.netting.specs.Netting.{listedFrom, listed, netOn, worth, netValue, netSize, cheapOn}
+use Rattle.netting.specs.Netting.{listedFrom, netOn, worth, netValue, netSize, cheapOn}
 use Rattle.netting.proofs.DaySums.{listed-below}
 use Rattle.netting.proofs.Sizes.{value-size}
 use Rattle.estimate.specs.declared.lines.Line.{Line}
 use Rattle.estimate.specs.declared.parts.Part.{Part}
 use Rattle.estimate.specs.Lines.{rateOn, Drawn}
-use Rattle.estimate.specs.Values.{daysBefore, daysFrom, Along, mostSize, OnLine, Room}
+use Rattle.estimate.specs.Values.{daysBefore, daysFrom, daysLeft, Along, mostSize, Listed, OnLine}
 
 -- ---- lists that do not fall, from a day on
 
@@ -38,6 +38,13 @@ listed-rising i (x ∷ xs) = go (eqb (natAbs x) 0) (rising-lower i (suc i) (list
     go : (t : Bool) → RisingFrom i (listedFrom (suc i) xs) → RisingFrom i (cond t (listedFrom (suc i) xs) (i ∷ listedFrom (suc i) xs))
     go true h = h
     go false h = (omega arith, h)
+
+-- what holds of every day from there on holds of each of the list
+rising-each : (from : ℕ) (P : ℕ → Type 0) → ((d : ℕ) → from ≤ d → d < 10951 → P d)
+    → (ds : List ℕ) → RisingFrom from ds → All (λ d. d < 10951) ds → All P ds
+rising-each from P f [] r b = tt
+rising-each from P f (d ∷ ds) r b =
+    (f d (r .0) (b .0), rising-each from P f ds (rising-lower from d ds (r .0) (r .1)) (b .1))
 
 -- ---- the days before a day, and the others
 
@@ -95,46 +102,46 @@ pub record Follows (rate : ℕ → ℕ) (l : Line) (from : ℕ) : Type 0 where
   pub drawn : (t : ℕ) → from ≤ t → t < l .until → t < 10951 → Drawn l t
   pub same : (t : ℕ) → from ≤ t → t < l .until → t < 10951 → rateOn l t ≡ rate t
 
--- ---- part p of the days ds is valued: all before the day `from`
+-- ---- part p has all days before the day `from`
 
-module _ (rate : ℕ → ℕ) (nets : List ℤ) (ds : List ℕ) where
+module _ (rate : ℕ → ℕ) (nets : List ℤ) (days : List ℕ) (count : ℕ) where
+  abbrev all : List ℕ
+  all = take count days
+
+  abbrev left : Part → List ℕ
+  left p = daysLeft days count p
+
   pub record Valuing (from : ℕ) (p : Part) : Type 0 where
-    pub value : p .value +ℤ netValue (cheapOn rate) nets (drop (p .done) ds) ≡ netValue (cheapOn rate) nets ds
-    pub room : Room nets (p .value) (drop (p .done) ds)
-    pub days : RisingFrom from (drop (p .done) ds)
-    pub below : All (λ d. d < 10951) (drop (p .done) ds)
+    pub value : p .value +ℤ netValue (cheapOn rate) nets (left p) ≡ netValue (cheapOn rate) nets all
+    pub size : natAbs (p .value) + netSize nets (left p) ≤ mostSize
+    pub order : RisingFrom from (left p)
+    pub below : All (λ d. d < 10951) (left p)
 
   module _ (from : ℕ) (p : Part) (h : Valuing from p) where
     module _ (l : Line) (f : Follows rate l from) where
-      on-line : (ds : List ℕ) (k : ℕ) → from ≤ k → RisingFrom k ds → All (λ d. d < 10951) ds → OnLine l ds
-      on-line [] k m r b = tt
-      on-line (d ∷ ds) k m r b =
-          ((b .0, λ u. f .drawn d (omega (arith, r .0)) u (b .0)), on-line ds d (omega (arith, r .0)) (r .1) (b .1))
+      on-rates : All (λ d. d < l .until → cheapOn rate d ≡ cheapOn (rateOn l) d) (left p)
+      on-rates =
+          rising-each from (λ d. d < l .until → cheapOn rate d ≡ cheapOn (rateOn l) d)
+          (λ d m b u. ap (λ (x : ℕ). cheapOn (λ t. x) d) (sym (f .same d m u b))) (left p) (h .order) (h .below)
 
-      on-rates : (ds : List ℕ) (k : ℕ) → from ≤ k → RisingFrom k ds → All (λ d. d < 10951) ds → All (λ d. d < l .until → cheapOn rate d ≡ cheapOn (rateOn l) d) ds
-      on-rates [] k m r b = tt
-      on-rates (d ∷ ds) k m r b = (
-        λ u. ap (λ (x : ℕ). cheapOn (λ t. x) d) (sym (f .same d (omega (arith, r .0)) u (b .0))),
-        on-rates ds d (omega (arith, r .0)) (r .1) (b .1),
-      )
+      pub valuing-line : OnLine l (left p)
+      valuing-line =
+          rising-each from (λ d. (d < 10951) × (d < l .until → Drawn l d)) (λ d m b. (b, λ u. f .drawn d m u b)) (left p) (h .order) (h .below)
 
-      pub valuing-line : OnLine l (drop (p .done) ds)
-      valuing-line = on-line (drop (p .done) ds) from (omega arith) (h .days) (h .below)
-
-      pub valuing-next : (r : Part) → Along l nets ds p r → Valuing (l .until) r
+      pub valuing-next : (r : Part) → Along l nets days count p r → Valuing (l .until) r
       valuing-next r a =
-          let rest = drop (p .done) ds in
+          let rest = left p in
           let u = l .until in
           let there = netValue (cheapOn (rateOn l)) nets (daysBefore u rest) in
-          let split = split-value u (cheapOn rate) (cheapOn (rateOn l)) nets rest (on-rates rest from (omega arith) (h .days) (h .below)) in
+          let split = split-value u (cheapOn rate) (cheapOn (rateOn l)) nets rest on-rates in
           record {
             value =
                 rw (a .value, a .left)
                 (+ℤ-assoc (p .value) there (netValue (cheapOn rate) nets (daysFrom u rest)) ∙ ap (λ (z : ℤ). p .value +ℤ z) (sym split) ∙ h .value);
-            room =
+            size =
                 rw (a .value, a .left)
-                (record { size = omega (arith, h .room .size, abs-add (p .value) there, cheap-size (rateOn l) nets (daysBefore u rest), split-size u nets rest) });
-            days = rw (a .left) (from-rising u from rest (h .days));
+                (omega (arith, h .size, abs-add (p .value) there, cheap-size (rateOn l) nets (daysBefore u rest), split-size u nets rest));
+            order = rw (a .left) (from-rising u from rest (h .order));
             below = rw (a .left) (from-all u (λ d. d < 10951) rest (h .below));
           }
 
@@ -142,18 +149,17 @@ module _ (rate : ℕ → ℕ) (nets : List ℤ) (ds : List ℕ) where
   none-left [] r b = refl
   none-left (d ∷ rest) r b = absurd (omega (arith, r .0, b .0))
 
-  pub valuing-all : (p : Part) → Valuing 10951 p → p .value ≡ netValue (cheapOn rate) nets ds
+  pub valuing-all : (p : Part) → Valuing 10951 p → p .value ≡ netValue (cheapOn rate) nets all
   unfolding netValue
   valuing-all p h =
-      let e = rw (none-left (drop (p .done) ds) (h .days) (h .below)) at (h .value) in
+      let e = rw (none-left (left p) (h .order) (h .below)) at (h .value) in
       sym (+ℤ-idr (p .value)) ∙ e
 
-pub valuing-none : (rate : ℕ → ℕ) (nets : List ℤ) → length nets ≡ 10951 → netSize nets (listed nets) ≤ mostSize
-    → Valuing rate nets (listed nets) 0 (record { done = 0; value = pos 0 })
-valuing-none rate nets e h =
-    record {
-      value = +ℤ-idl (netValue (cheapOn rate) nets (listed nets));
-      room = record { size = omega arith };
-      days = listed-rising 0 nets;
-      below = rw e at (listed-below nets);
-    }
+  pub valuing-none : Listed nets days count → Valuing 0 (record { done = 0; value = pos 0 })
+  valuing-none s =
+      record {
+        value = +ℤ-idl (netValue (cheapOn rate) nets all);
+        size = rw (s .all) (omega (arith, s .size));
+        order = rw (s .all) (listed-rising 0 nets);
+        below = rw (s .all) (rw (s .places) at (listed-below nets));
+      }

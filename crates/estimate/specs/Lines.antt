@@ -21,11 +21,11 @@ slopeOf way run = way * parts / run + 1
 unfoldable pub level : ℕ → ℕ → Line
 level rate until = record { until = until; start = pos (rate * parts); slope = pos 0 }
 
--- from node a to node b, by its slope: it starts where it would stand on day 0
+-- from node a up to node b, by its slope: it starts where it would stand on day 0
 abbrev pub up : ℕ → Node → Node → Line
 up s a b = record { until = b .day; start = pos (a .rate * parts) -ℤ pos (s * a .day); slope = pos s }
 
--- what a rate falls is cut towards zero: so a falling line starts a part below the next rate
+-- and down: what a rate falls is cut towards zero, so the line starts a part below the next rate
 abbrev pub down : ℕ → Node → Node → Line
 down s a b =
     record { until = b .day; start = pos (a .rate * parts + (parts - 1) + s * a .day); slope = negℤ (pos s) }

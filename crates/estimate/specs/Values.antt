@@ -43,14 +43,19 @@ unfoldable pub daysFrom : ℕ → List ℕ → List ℕ
 daysFrom until [] = []
 daysFrom until (d ∷ ds) = cond (ltb d until) (daysFrom until ds) (d ∷ ds)
 
--- from part p of the listed days ds on, those before the line's end are valued at the line's rates: that is part r
-pub record Along (l : Line) (nets : List ℤ) (ds : List ℕ) (p r : Part) : Type 0 where
-  pub value : r .value ≡ p .value +ℤ netValue (cheapOn (rateOn l)) nets (daysBefore (l .until) (drop (p .done) ds))
-  pub left : drop (r .done) ds ≡ daysFrom (l .until) (drop (p .done) ds)
+-- the first `count` days that part p does not have
+abbrev pub daysLeft : List ℕ → ℕ → Part → List ℕ
+daysLeft days count p = drop (p .done) (take count days)
+
+-- part r is part p with the days before the line's end, at the line's rates
+pub record Along (l : Line) (nets : List ℤ) (days : List ℕ) (count : ℕ) (p r : Part) : Type 0 where
+  pub done : r .done ≤ count
+  pub value : r .value ≡ p .value +ℤ netValue (cheapOn (rateOn l)) nets (daysBefore (l .until) (daysLeft days count p))
+  pub left : daysLeft days count r ≡ daysFrom (l .until) (daysLeft days count p)
 
 -- ---- what is asked
 
--- the net amounts of a book's flows, all together, in any of its currencies
+-- the most that net amounts are together: 140,000 flows of 10 ^ 12
 unfoldable pub mostSize : ℕ
 mostSize = 140000000000000000
 
@@ -67,10 +72,14 @@ pub record Listed (nets : List ℤ) (days : List ℕ) (count : ℕ) : Type 0 whe
   pub all : take count days ≡ listed nets
   pub size : netSize nets (listed nets) ≤ mostSize
 
--- on each day of ds there is an amount, and those before the line's end are on it
+-- every day has its place among the net amounts, and those before the line's end are on it
 abbrev pub OnLine : Line → List ℕ → Type 0
 OnLine l ds = All (λ d. (d < 10951) × (d < l .until → Drawn l d)) ds
 
--- a value of some days, and those still to come, fit together
-pub record Room (nets : List ℤ) (value : ℤ) (ds : List ℕ) : Type 0 where
-  pub size : natAbs value + netSize nets ds ≤ mostSize
+-- part p can go on along the line, and its value with the amounts to come fits
+pub record Ready (l : Line) (nets : List ℤ) (days : List ℕ) (count : ℕ) (p : Part) : Type 0 where
+  pub places : length nets ≡ 10951
+  pub most : count ≤ length days
+  pub done : p .done ≤ count
+  pub each : OnLine l (daysLeft days count p)
+  pub size : natAbs (p .value) + netSize nets (daysLeft days count p) ≤ mostSize

@@ -34,6 +34,7 @@ pub fn level(rate: u64, until: u64) -> Line
     }
 }
 
+// Up from node a to node b.
 fn rising(a: Node, b: Node) -> Line
     requires { ⌜ Ahead a b × (a .rate ≤ b .rate) ⌝ }
     ensures { λ r. ⌜ r ≡ rising a b ⌝ }
@@ -47,6 +48,7 @@ fn rising(a: Node, b: Node) -> Line
     }
 }
 
+// Down from node a to node b: what it falls is cut towards zero, so it starts a part below the next rate.
 fn falling(a: Node, b: Node) -> Line
     requires { ⌜ Ahead a b × (b .rate ≤ a .rate) ⌝ }
     ensures { λ r. ⌜ r ≡ falling a b ⌝ }

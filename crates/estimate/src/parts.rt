@@ -1,11 +1,10 @@
 // The listed days valued along a curve's lines.
 ghost use mathlib.Core.Path.{_≡_};
-ghost use Prim.Native.Nat.{_≤_, _<_};
+ghost use Prim.Native.Nat.{_≤_};
 ghost use lib.IntN.{natAbs};
-ghost use lib.ListN.{length, take, drop};
 ghost use Rattle.netting.specs.Netting.{worth, cheapOn};
 ghost use Rattle.estimate.specs.Lines.{rateOn, Drawn};
-ghost use Rattle.estimate.specs.Values.{Along, mostSize, Tables, OnLine, Room};
+ghost use Rattle.estimate.specs.Values.{Along, mostSize, Tables, Ready};
 use super::lines::Line;
 use netting::value::worth;
 use sieve::cheap::factor;
@@ -36,9 +35,8 @@ impl Part {
         middle: &[u64],
         upper: &[u64],
     ) -> Part
-        requires { ⌜ (self .done ≤ count) × (count ≤ length (now days)) × (length (now nets) ≡ 10951) × Tables (now logs) (now middle) (now upper) × OnLine line (drop (self .done) (take count (now days))) × Room (now nets) (self .value) (drop (self .done) (take count (now days))) ⌝ }
-        ensures reached { λ r. ⌜ r .done ≤ count ⌝ }
-        ensures valued { λ r. ⌜ Along line (now (nets .entry)) (take count (now (days .entry))) self r ⌝ }
+        requires { ⌜ Ready line (now nets) (now days) count self × Tables (now logs) (now middle) (now upper) ⌝ }
+        ensures { λ r. ⌜ Along line (now (nets .entry)) (now (days .entry)) count self r ⌝ }
     {
         let mut i = self.done;
         let mut value = self.value;

@@ -38,10 +38,6 @@ unfolding table flowsOn
 off-curve curve f i zero h = refl
 off-curve curve f i (suc n) h = rw (h i, off-curve curve f (suc i) n h) refl
 
-no-flows : (curve : ℕ) → flowsOn curve [] ≡ []
-unfolding flowsOn
-no-flows curve = refl
-
 pub on-append : (curve : ℕ) (a b : List Flow) → flowsOn curve (a ++ b) ≡ flowsOn curve a ++ flowsOn curve b
 unfolding flowsOn
 on-append curve [] b = refl

@@ -3,11 +3,10 @@ use mathlib.Core.Path.{_≡_, refl, sym, ap, subst}
 use mathlib.Core.Bool.{Bool, true, false}
 use Prim.Native.Nat.{ℕ, zero, suc, _≤_}
 use native.Mathlib.Omega.{arith}
-use Rattle.decimal.specs.Product.{unit}
 use Rattle.record.specs.declared.Curves.{Curves}
 use Rattle.record.specs.declared.Fields.{Fields}
 use Rattle.record.specs.Uses.{isOutright, hasSettled, hasCoupons}
-use Rattle.record.specs.Rules.{breaksForm, breaksDays, breaksAmounts}
+use Rattle.record.specs.Rules.{lastDay, breaksForm, breaksDays, breaksAmounts}
 use Rattle.record.proofs.Facts.{Kind, outright, pool, specified, Formed, formed, Dated, dated, Priced, priced}
 use Rattle.trade.specs.Read.{securityOf, outrightOf, repoOf, pickTrade, couponBondOf, tradeOf}
 use Rattle.flows.specs.Limits.{BondLimits, SecurityLimits, OutrightLimits, RepoLimits, TradeLimits}
@@ -20,14 +19,13 @@ pub record Sound (curves : Curves) (f : Fields) : Type 0 where
 
 module _ {curves : Curves} (f : Fields) (r : Sound curves f) where
   bond : hasCoupons (f .form .security) ≡ true → BondLimits (couponBondOf f)
-  unfolding unit
   bond e =
       let c = r .days .coupons e in
       record { nominal = r .amounts .nominal; coupon = r .amounts .coupon; few = c .number .some .high; reach = c .last }
 
   -- the security by its number
   security-at : (number : ℕ) → f .form .security ≡ number → number ≤ 3 → SecurityLimits (securityOf f)
-  unfolding securityOf unit
+  unfolding securityOf
   security-at zero e h = rw e tt
   security-at (suc zero) e h = rw e record { nominal = r .amounts .nominal; reach = r .days .paid (rw e) }
   security-at (suc (suc zero)) e h = rw e (bond (rw e))
@@ -49,12 +47,11 @@ module _ {curves : Curves} (f : Fields) (r : Sound curves f) where
   }
 
   -- value day 1 is before value day 2, or unused and 0
-  day1 : isOutright (f .form .kind) ≡ false → (settled : Bool) → hasSettled (f .form .kind) (f .form .phase) ≡ settled → f .days .day1 ≤ 10950
+  day1 : isOutright (f .form .kind) ≡ false → (settled : Bool) → hasSettled (f .form .kind) (f .form .phase) ≡ settled → f .days .day1 ≤ lastDay
   day1 o true e = omega (arith, r .amounts .settled e)
   day1 o false e = omega (arith, r .days .ahead o e, r .days .lent o .1)
 
   lent : isOutright (f .form .kind) ≡ false → f .form .phase ≤ 3 → RepoLimits (repoOf f)
-  unfolding unit
   lent o phases = record {
     sides = record { low = r .form .sides .low; high = r .form .sides .high };
     phases = phases;

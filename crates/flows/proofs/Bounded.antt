@@ -14,15 +14,13 @@ use Rattle.laws.proofs.All.{all-append, all-table, all-both}
 use Rattle.laws.proofs.Bools.{neither}
 use Rattle.decimal.specs.Product.{unit}
 use Rattle.discount.specs.declared.Flow.{Flow}
-use Rattle.ground.specs.declared.Ground.{Ground}
-use Rattle.ground.specs.declared.Verdict.{Verdict}
 use Rattle.ground.specs.declared.Verdict.the-variants.{Accepted}
 use Rattle.ground.specs.declared.Ground.the-variants.{Form, Days, Amounts, Currency, FlowLimit}
-use Rattle.ground.specs.Verdicts.{unless}
+use Rattle.ground.proofs.Verdicts.{unless-accepted}
 use Rattle.record.specs.declared.Curves.{Curves}
 use Rattle.record.specs.declared.Fields.{Fields}
 use Rattle.record.specs.Uses.{hasSettled}
-use Rattle.record.specs.Rules.{breaksForm, breaksDays, breaksAmounts, breaksCurrency}
+use Rattle.record.specs.Rules.{lastDay, breaksForm, breaksDays, breaksAmounts, breaksCurrency}
 use Rattle.record.proofs.Limits.{Within}
 use Rattle.record.proofs.Facts.{Kind, outright, pool, specified}
 use Rattle.trade.specs.Prices.{dirtyOf}
@@ -42,10 +40,6 @@ use Rattle.flows.proofs.Reach.{trade-reach, span}
 
 -- ---- from the verdict
 
-passed : (t : Bool) (g : Ground) (k : ℕ) (next : Verdict) → unless t g k next ≡ Accepted → (t ≡ false) × (next ≡ Accepted)
-passed true g k next h = let bad : _≡_ {A = ℕ} 0 1 = cc in absurd (omega arith)
-passed false g k next h = (refl, h)
-
 pub record AcceptedRecord (curves : Curves) (f : Fields) : Type 0 where
   pub sound : Sound curves f
   pub form : breaksForm curves (f .form) ≡ false
@@ -57,11 +51,11 @@ pub record AcceptedRecord (curves : Curves) (f : Fields) : Type 0 where
 pub accepted : (curves : Curves) (f : Fields) (block : ℕ) → recordVerdict curves f block ≡ Accepted → AcceptedRecord curves f
 unfolding recordVerdict
 accepted curves f block h =
-    let p = passed (breaksForm curves (f .form)) Form block _ h in
-    let q = passed (breaksDays (f .form) (f .days)) Days block _ (p .1) in
-    let r = passed (breaksAmounts (f .form) (f .days) (f .amounts)) Amounts block _ (q .1) in
-    let s = passed (breaksCurrency curves (f .form)) Currency block _ (r .1) in
-    let t = passed (breaksFlowLimit (tradeOf f)) FlowLimit block _ (s .1) in
+    let p = unless-accepted (breaksForm curves (f .form)) Form block _ h in
+    let q = unless-accepted (breaksDays (f .form) (f .days)) Days block _ (p .1) in
+    let r = unless-accepted (breaksAmounts (f .form) (f .days) (f .amounts)) Amounts block _ (q .1) in
+    let s = unless-accepted (breaksCurrency curves (f .form)) Currency block _ (r .1) in
+    let t = unless-accepted (breaksFlowLimit (tradeOf f)) FlowLimit block _ (s .1) in
     let all = sound curves f (p .0) (q .0) (r .0) in
     record {
       sound = all;
@@ -90,7 +84,7 @@ abbrev Held : ℕ → Leg → Type 0
 Held count l = 0 < l .count → Within 1 (l .curve) count
 
 record Placed (count : ℕ) (f : Flow) : Type 0 where
-  day : f .day ≤ 10950
+  day : f .day ≤ lastDay
   curve : Within 1 (f .curve) count
 
 leg-placed : (count : ℕ) (l : Leg) → LegLimits l → Held count l → All (Placed count) (legFlows l)
@@ -149,7 +143,7 @@ module _ {curves : Curves} (f : Fields) (r : Sound curves f) where
 
 pub record FlowBounds (count : ℕ) (f : Flow) : Type 0 where
   pub amount : f .amount ≤ unit
-  pub day : f .day ≤ 10950
+  pub day : f .day ≤ lastDay
   pub curve : Within 1 (f .curve) count
 
 pub flows-bounded : {curves : Curves} (f : Fields) → AcceptedRecord curves f → All (FlowBounds (curves .count)) (flowsOf (tradeOf f))

@@ -3,6 +3,7 @@ use Prim.Native.Nat.{ℕ, zero, suc, _+_, _-_, _*_, _≤_, _<_}
 use native.Mathlib.Nat.{mul-le-mul-right}
 use native.Mathlib.Omega.{arith}
 use lib.IntN.{ℤ, pos, negsuc}
+use Rattle.record.specs.Rules.{lastDay}
 use Rattle.trade.specs.declared.Security.{Security}
 use Rattle.trade.specs.declared.Security.the-variants.{Nothing, Single, Coupons, Indexed}
 use Rattle.trade.specs.declared.Trade.{Trade}
@@ -16,7 +17,7 @@ use Rattle.flows.specs.Limits.{SecurityLimits, TradeLimits, LegLimits, L
 none : LegLimits noLeg
 none = record { few = omega arith; reach = omega arith }
 
-one : (curve day amount : ℕ) → day ≤ 10950 → LegLimits (oneFlow curve day amount)
+one : (curve day amount : ℕ) → day ≤ lastDay → LegLimits (oneFlow curve day amount)
 one curve day amount h = record { few = omega arith; reach = omega arith }
 
 payments : (s : Security) → SecurityLimits s → LegLimits (paymentsOf s)
@@ -57,5 +58,5 @@ capped-reach l h = record {
 }
 
 -- the days from a leg's first flow to flow k
-pub span : (l : Leg) (k : ℕ) → LegLimits l → k < l .count → l .first + k * l .period ≤ 10950
+pub span : (l : Leg) (k : ℕ) → LegLimits l → k < l .count → l .first + k * l .period ≤ lastDay
 span l k h g = omega (arith, h .reach, mul-le-mul-right {m = k} {n = l .count - 1} (l .period) (omega arith))

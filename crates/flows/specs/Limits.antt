@@ -3,6 +3,7 @@ use Prim.Native.Nat.{ℕ, _+_, _-_, _*_, _≤_, _<_}
 use mathlib.Core.Path.{_≡_}
 use mathlib.Core.Bool.{false}
 use Rattle.decimal.specs.Product.{unit}
+use Rattle.record.specs.Rules.{lastDay}
 use Rattle.trade.specs.declared.SinglePayment.{SinglePayment}
 use Rattle.trade.specs.declared.CouponBond.{CouponBond}
 use Rattle.trade.specs.declared.IndexedBond.{IndexedBond}
@@ -20,7 +21,7 @@ pub record BondLimits (b : CouponBond) : Type 0 where
   pub nominal : b .nominal ≤ unit
   pub coupon : b .coupon ≤ 1000000
   pub few : b .payments ≤ 120
-  pub reach : b .first + (b .payments - 1) * b .period ≤ 10950
+  pub reach : b .first + (b .payments - 1) * b .period ≤ lastDay
 
 pub record IndexLimits (i : IndexedBond) : Type 0 where
   pub bond : BondLimits (i .bond)
@@ -31,7 +32,7 @@ pub record IndexLimits (i : IndexedBond) : Type 0 where
 
 pub record SingleLimits (p : SinglePayment) : Type 0 where
   pub nominal : p .nominal ≤ unit
-  pub reach : p .first ≤ 10950
+  pub reach : p .first ≤ lastDay
 
 abbrev pub SecurityLimits : Security → Type 0
 SecurityLimits Nothing = Unit {0}
@@ -45,7 +46,7 @@ pub record Sides (side : ℕ) : Type 0 where
 
 pub record OutrightLimits (t : OutrightTrade) : Type 0 where
   pub sides : Sides (t .side)
-  pub reach : t .day1 ≤ 10950
+  pub reach : t .day1 ≤ lastDay
   pub price : t .price .0 ≤ 4000000
   pub accrued : t .accrued ≤ 1000000
   pub security : SecurityLimits (t .security)
@@ -53,8 +54,8 @@ pub record OutrightLimits (t : OutrightTrade) : Type 0 where
 pub record RepoLimits (t : RepoTrade) : Type 0 where
   pub sides : Sides (t .side)
   pub phases : t .phase ≤ 3
-  pub reach1 : t .day1 ≤ 10950
-  pub reach2 : t .day2 ≤ 10950
+  pub reach1 : t .day1 ≤ lastDay
+  pub reach2 : t .day2 ≤ lastDay
   pub cash : t .cash ≤ unit
   pub rate : t .rate ≤ 1000000
   pub term : t .term ≤ 730
@@ -73,7 +74,7 @@ pub record Valued (t : Trade) : Type 0 where
 -- a leg's flows are few, and all on days in reach
 pub record LegLimits (l : Leg) : Type 0 where
   pub few : l .count ≤ 120
-  pub reach : l .first + (l .count - 1) * l .period ≤ 10950
+  pub reach : l .first + (l .count - 1) * l .period ≤ lastDay
 
 pub record LegsLimits (l : Legs) : Type 0 where
   pub first : LegLimits (l .first)

@@ -5,9 +5,6 @@ pub mod trade_legs;
 pub mod verdict;
 pub mod walk;
 
-// The largest amount.
-const LARGEST: u64 = 1_000_000_000_000;
-
 // Flows of one kind on one curve: `count` of them from the day `first` on, `period` days apart, all received or all paid. Each is of the
 // amount `each`, but the last is of the amount `last`.
 pub struct Leg {

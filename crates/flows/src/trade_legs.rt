@@ -1,11 +1,11 @@
 // A trade's legs. An amount above the largest stands as one above the largest.
-use crate::LARGEST;
 use crate::Leg;
 use crate::Legs;
 use crate::amounts;
 use crate::signs;
 use crate::signs::Signs;
 use decimal::round::Scaled;
+use record::LARGEST;
 use trade::CouponBond;
 use trade::IndexedBond;
 use trade::OutrightTrade;

@@ -1,9 +1,9 @@
 // A trade's flows by number, without a list of them; and the limit on them.
-use crate::LARGEST;
 use crate::Leg;
 use crate::Legs;
 use crate::trade_legs;
 use discount::Flow;
+use record::LARGEST;
 use trade::Trade;
 ghost use mathlib.Core.Path.{_≡_};
 ghost use Prim.Native.Nat.{_<_};

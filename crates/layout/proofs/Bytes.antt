@@ -4,12 +4,12 @@ use mathlib.Core.Logic.{_⊎_, inl, inr}
 use mathlib.Core.Bool.{true}
 use mathlib.Core.List.{List, [], _∷_, _++_, append-assoc}
 use Prim.Native.Nat.{ℕ, zero, suc, _+_, _-_, _≤_, _<_}
-use native.Mathlib.Nat.{add-zero}
+use native.Mathlib.Nat.{add-zero, zero-add}
 use native.Mathlib.Omega.{arith}
 use borrow.Author.Tests.{eqb-true, eq-eqb}
 use lib.Dec.{eqb}
 use lib.ListN.{length, set, take, drop, replicate, length-set, length-take, length-drop, length-replicate, getD-replicate, take-append-drop}
-use lib.Seq.{getD-set-same, getD-set-other, getD-take, getD-drop, drop-drop, take-add, take-length, ext-getD, sets, sets-eq}
+use lib.Seq.{getD-set-same, getD-set-other, getD-take, getD-drop, drop-drop, drop-append-add, take-add, take-at, take-length, ext-getD, sets, sets-eq}
 use Rattle.laws.proofs.Every.{every-at, every-of}
 use Rattle.layout.specs.Bytes.{byteAt, part, put, onBlock, zeros, AreBytes}
 
@@ -52,6 +52,10 @@ is-sets s at (b ∷ bs) = is-sets (set s at b) (suc at) bs
 -- what stands before, what is written, what stands behind
 pub put-split : (s : List ℕ) (at : ℕ) (bs : List ℕ) → at + length bs ≤ length s → put s at bs ≡ take at s ++ (bs ++ drop (at + length bs) s)
 put-split s at bs h = is-sets s at bs ∙ sets-eq bs s at h ∙ append-assoc (take at s) bs (drop (at + length bs) s)
+
+-- at the start: the bytes, and what lies past them
+pub put-front : (s bs : List ℕ) → length bs ≤ length s → put s 0 bs ≡ bs ++ drop (length bs) s
+put-front s bs h = put-split s 0 bs (omega arith) ∙ rw zero-add
 
 -- what a call leaves that was lent the n bytes from a place on
 pub put-lent : (s : List ℕ) (at n : ℕ) (bs : List ℕ) → at + n ≤ length s → length bs ≡ n → take at s ++ (bs ++ drop n (drop at s)) ≡ put s at bs
@@ -128,6 +132,13 @@ part-put s at bs h =
     part-same (put s at bs) at bs 0 (length bs) (rw length-put h) (omega arith) (λ k b. byte-put s at bs k h b ∙ ap (byteAt bs) (omega arith))
     ∙ part-all bs
 
+-- a list written over one of its own length
+pub put-whole : (s bs : List ℕ) → length bs ≡ length s → put s 0 bs ≡ bs
+put-whole s bs h =
+    let l : 0 + length bs ≤ length s = omega arith in
+    let e : length (put s 0 bs) ≡ length bs = length-put s 0 bs ∙ sym h in
+    sym (part-all (put s 0 bs)) ∙ rw e (part-put s 0 bs l)
+
 -- a part of it
 pub part-of-put : (s : List ℕ) (at : ℕ) (bs : List ℕ) (k n : ℕ) → at + length bs ≤ length s → k + n ≤ length bs → part (put s at bs) (at + k) n ≡ part bs k n
 part-of-put s at bs k n h l =
@@ -153,6 +164,35 @@ put-part s at n h =
 pub put-again : (s : List ℕ) (at : ℕ) (bs : List ℕ) → at + length bs ≤ length s → put (put s at bs) at bs ≡ put s at bs
 put-again s at bs h =
     ap (put (put s at bs) at) (sym (part-put s at bs h)) ∙ put-part (put s at bs) at (length bs) (rw length-put h)
+
+-- ---- two lists, one behind the other
+
+put-later : (x : ℕ) (s : List ℕ) (at : ℕ) (bs : List ℕ) → put (x ∷ s) (suc at) bs ≡ x ∷ put s at bs
+unfolding put
+put-later x s at [] = refl
+put-later x s at (b ∷ bs) = put-later x (set s at b) (suc at) bs
+
+-- written into the second list
+pub put-behind : (xs s : List ℕ) (at : ℕ) (bs : List ℕ) → put (xs ++ s) (length xs + at) bs ≡ xs ++ put s at bs
+put-behind [] s at bs = rw zero-add
+put-behind (x ∷ xs) s at bs =
+    let e : suc (length xs) + at ≡ suc (length xs + at) = omega arith in
+    rw e (put-later x (xs ++ s) (length xs + at) bs ∙ ap (λ (l : List ℕ). x ∷ l) (put-behind xs s at bs))
+
+-- written over the first
+pub put-over : (xs bs s : List ℕ) → length xs ≡ length bs → put (xs ++ s) 0 bs ≡ bs ++ s
+unfolding put
+put-over [] [] s h = refl
+put-over [] (b ∷ bs) s h = absurd (omega arith)
+put-over (x ∷ xs) [] s h = absurd (omega arith)
+put-over (x ∷ xs) (b ∷ bs) s h =
+    put-later b (xs ++ s) 0 bs ∙ ap (λ (l : List ℕ). b ∷ l) (put-over xs bs s (omega arith))
+
+pub part-behind : (xs s : List ℕ) (at n : ℕ) → part (xs ++ s) (length xs + at) n ≡ part s at n
+part-behind xs s at n = ap (take n) (drop-append-add xs s at)
+
+pub part-front : (xs s : List ℕ) (n : ℕ) → length xs ≡ n → part (xs ++ s) 0 n ≡ xs
+part-front xs s n h = take-at xs s n h
 
 -- ---- a block changed
 

@@ -2,4 +2,3 @@ pub mod Bytes
 pub mod Field
 pub mod Sealed
 pub mod Signed
-pub mod Verdicts

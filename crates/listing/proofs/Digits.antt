@@ -71,9 +71,6 @@ length-more n h l = ap length (decimal-more n h l) ∙ length-append (decimalOf 
 
 -- ---- with its sign
 
-clash : _≡_ {A = Bool} false true → _≡_ {A = ℕ} 0 1
-clash e = cc
-
 pub signed-negative : (z : ℤ) → ltZ z (pos 0) ≡ true → signedText z ≡ 45 ∷ decimalOf (mag z + 1)
 unfolding signedText
 signed-negative (pos n) e = let l : n < 0 = ltb-true n 0 e in absurd (omega arith)

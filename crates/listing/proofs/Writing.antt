@@ -2,11 +2,10 @@
 use mathlib.Core.Path.{_≡_, refl, sym, _∙_}
 use mathlib.Core.List.{List, [], _∷_, _++_}
 use Prim.Native.Nat.{ℕ, _+_, _≤_}
-use native.Mathlib.Nat.{zero-add}
 use native.Mathlib.Omega.{arith}
 use lib.ListN.{length, set, drop, length-append}
 use Rattle.layout.specs.Bytes.{put}
-use Rattle.layout.proofs.Bytes.{then, put-none, put-byte, put-put, put-split}
+use Rattle.layout.proofs.Bytes.{then, put-none, put-byte, put-put, put-front}
 use Rattle.listing.specs.Written.{Written}
 
 pub written-none : (s : List ℕ) (at : ℕ) → Written s at [] s at
@@ -24,7 +23,7 @@ and-then {s} {at} {p} {t} {i} {q} a b =
 pub written-front : {s text t : List ℕ} {end : ℕ} → Written s 0 text t end → end ≤ length s → (end ≡ length text) × (t ≡ text ++ drop end s)
 written-front {s} {text} {t} {end} w h =
     let e : end ≡ length text = omega (arith, w .place) in
-    (e, w .bytes ∙ put-split s 0 text (omega arith) ∙ rw (zero-add, e))
+    (e, w .bytes ∙ put-front s text (omega arith) ∙ rw e)
 
 -- what a loop holds: a text is what is written, with what is left to write
 pub record Left (s : List ℕ) (at : ℕ) (text t : List ℕ) (next : ℕ) (rest : List ℕ) : Type 0 where

@@ -12,11 +12,11 @@ use Rattle.laws.proofs.Signed.{abs-add, read, read-is}
 use Rattle.decimal.specs.Product.{unit}
 use Rattle.discount.specs.declared.Flow.{Flow}
 use Rattle.discount.specs.Flows.{signed, sum}
-use Rattle.netting.specs.Netting.{netted, netOn, flowReach}
-use Rattle.netting.proofs.Sizes.{nets-length, reach-size}
+use Rattle.netting.specs.Netting.{noNets, netted, netOn, listed, netSize, flowReach}
+use Rattle.netting.proofs.Sizes.{nets-length, net-size, net-size-on, reach-size}
 use Rattle.margin.specs.Factors.{dayCount}
 use Rattle.margin.specs.Netted.{NetRoom, NetsRoom}
-use Rattle.margin.specs.Totals.{FlowLimits, AllFlowLimits}
+use Rattle.margin.specs.Totals.{FlowLimits, AllFlowLimits, mostFlows}
 use Rattle.margin.proofs.Totals.{signed-size}
 
 -- ---- room
@@ -39,6 +39,10 @@ nets-one n nets day h = room-less 1 (suc n) (netOn nets day) (omega arith) (h .e
 pub nets-part : (nets : List ℤ) (xs ys : List Flow) → NetsRoom (length (xs ++ ys)) nets → NetsRoom (length xs) nets
 nets-part nets xs ys h =
     record { each = λ day. room-less (length xs) (length (xs ++ ys)) (netOn nets day) (omega (arith, length-append xs ys)) (h .each day) }
+
+pub nets-none : (n : ℕ) → n ≤ mostFlows → NetsRoom n noNets
+unfolding netted sum
+nets-none n h = record { each = λ day. record { room = omega (arith, net-size-on [] day, mul-le-mul-right unit h) } }
 
 -- the net amounts with one flow more
 abbrev pub withFlow : List ℤ → Flow → List ℤ
@@ -101,3 +105,14 @@ pub reach-most : (fs : List Flow) → AllFlowLimits fs → sum flowReach fs ≤ 
 unfolding sum
 reach-most [] h = omega arith
 reach-most (f ∷ fs) h = omega (arith, reach-size (f .amount) (f .day) (h .0 .amount) (h .0 .day), reach-most fs (h .1))
+
+-- ---- and how much they are
+
+amounts-most : (fs : List Flow) → AllFlowLimits fs → sum (λ f. f .amount) fs ≤ length fs * unit
+unfolding sum
+amounts-most [] h = omega arith
+amounts-most (f ∷ fs) h = omega (arith, h .0 .amount, amounts-most fs (h .1))
+
+pub nets-size : (fs : List Flow) → AllFlowLimits fs → length fs ≤ mostFlows → netSize (netted fs noNets) (listed (netted fs noNets)) ≤ 140000000000000000
+unfolding unit
+nets-size fs h few = omega (arith, net-size fs, amounts-most fs h, mul-le-mul-right unit few)

@@ -7,12 +7,13 @@ use native.Mathlib.Omega.{arith}
 use lib.Dec.{eqb, leb, ltb}
 use borrow.Author.Tests.{eqb-true, leb-true, ltb-true, not-false}
 use Rattle.laws.proofs.Bools.{both, three, four, six, either, first-arm, other-arm}
+use Rattle.decimal.specs.Product.{unit}
 use Rattle.record.specs.declared.Form.{Form}
 use Rattle.record.specs.declared.Days.{Days}
 use Rattle.record.specs.declared.Amounts.{Amounts}
 use Rattle.record.specs.declared.Curves.{Curves}
 use Rattle.record.specs.Uses.{within, usedWithin, asked, isOutright, isPool, isSpecified, hasSettled, hasSecurity, hasCoupons, isIndexed}
-use Rattle.record.specs.Rules.{phaseFits, securityFits, curvesFit, breaksForm, inReach, legsAhead, secondLegAhead, valueDaysFit, firstPaymentFits}
+use Rattle.record.specs.Rules.{phaseFits, securityFits, curvesFit, breaksForm, lastDay, inReach, legsAhead, secondLegAhead, valueDaysFit, firstPaymentFits}
 use Rattle.record.specs.Rules.{countsFit, couponDaysFit, breaksDays, unusedDaysFit, principalsFit, priceFits, couponsFit, indicesFit, breaksAmounts}
 use Rattle.record.proofs.Limits.{Within, within-true, used, unused, at-most, asked-true, Counts, counts}
 
@@ -64,23 +65,23 @@ formed curves f h =
 
 pub record Coupons (d : Days) : Type 0 where
   pub number : Counts (d .period) (d .payments)
-  pub last : d .first + (d .payments - 1) * d .period ≤ 10950
+  pub last : d .first + (d .payments - 1) * d .period ≤ lastDay
 
 pub record Dated (f : Form) (d : Days) : Type 0 where
-  pub bought : isOutright (f .kind) ≡ true → d .day1 ≤ 10950
-  pub lent : isOutright (f .kind) ≡ false → (d .term ≤ 730) × (d .day2 ≤ 10950)
+  pub bought : isOutright (f .kind) ≡ true → d .day1 ≤ lastDay
+  pub lent : isOutright (f .kind) ≡ false → (d .term ≤ 730) × (d .day2 ≤ lastDay)
   pub ahead : isOutright (f .kind) ≡ false → hasSettled (f .kind) (f .phase) ≡ false → d .day1 < d .day2
-  pub paid : hasSecurity (f .security) ≡ true → d .first ≤ 10950
+  pub paid : hasSecurity (f .security) ≡ true → d .first ≤ lastDay
   pub coupons : hasCoupons (f .security) ≡ true → Coupons d
 
 -- a repo's two cases
 module _ (d : Days) where
-  ahead-tests : legsAhead d ≡ true → (Within 1 (d .term) 730) × ((d .day1 < d .day2) × (d .day2 ≤ 10950))
+  ahead-tests : legsAhead d ≡ true → (Within 1 (d .term) 730) × ((d .day1 < d .day2) × (d .day2 ≤ lastDay))
   ahead-tests h =
       let p = four (within 1 (d .term) 730) (ltb (d .day1) (d .day2)) (eqb (d .day2 - d .day1) (d .term)) (inReach (d .day2)) h in
-      (within-true 1 (d .term) 730 (p .0), (ltb-true (d .day1) (d .day2) (p .1 .0), leb-true (d .day2) 10950 (p .1 .1 .1)))
+      (within-true 1 (d .term) 730 (p .0), (ltb-true (d .day1) (d .day2) (p .1 .0), leb-true (d .day2) lastDay (p .1 .1 .1)))
 
-  repo-days : (settled : Bool) → cond settled (secondLegAhead d) (legsAhead d) ≡ true → (d .term ≤ 730) × (d .day2 ≤ 10950)
+  repo-days : (settled : Bool) → cond settled (secondLegAhead d) (legsAhead d) ≡ true → (d .term ≤ 730) × (d .day2 ≤ lastDay)
   repo-days true h =
       let p = both (within 1 (d .term) 730) (leb (d .day2) (d .term)) h in
       let t = within-true 1 (d .term) 730 (p .0) in
@@ -98,15 +99,15 @@ dated f d h =
     let rule = couponDaysFit (d .first) (d .period) (d .payments) in
     let p = three (valueDaysFit f d) (asked paying (firstPaymentFits f d)) (asked coupons rule) (not-false _ h) in
     record {
-      bought = λ e. leb-true (d .day1) 10950 (first-arm o (inReach (d .day1)) repo (p .0) e);
+      bought = λ e. leb-true (d .day1) lastDay (first-arm o (inReach (d .day1)) repo (p .0) e);
       lent = λ e. repo-days d s (other-arm o (inReach (d .day1)) repo (p .0) e);
       ahead = λ e g. ahead-tests d (other-arm s (secondLegAhead d) (legsAhead d) (other-arm o (inReach (d .day1)) repo (p .0) e) g) .1 .0;
       paid = λ e.
           let after = cond o (ltb (d .day1) (d .first)) (ltb (d .day2) (d .first)) in
-          leb-true (d .first) 10950 (both after (inReach (d .first)) (asked-true paying (firstPaymentFits f d) (p .1 .0) e) .1);
+          leb-true (d .first) lastDay (both after (inReach (d .first)) (asked-true paying (firstPaymentFits f d) (p .1 .0) e) .1);
       coupons = λ e.
           let q = both (countsFit (d .period) (d .payments)) (inReach (d .first + (d .payments - 1) * d .period)) (asked-true coupons rule (p .1 .1) e) in
-          record { number = counts (d .period) (d .payments) (q .0); last = leb-true _ 10950 (q .1) };
+          record { number = counts (d .period) (d .payments) (q .0); last = leb-true _ lastDay (q .1) };
     }
 
 -- ---- 10
@@ -120,8 +121,8 @@ pub record Priced (f : Form) (d : Days) (a : Amounts) : Type 0 where
   pub flat : hasCoupons (f .security) ≡ false → (d .period ≡ 0) × ((d .payments ≡ 0) × (a .coupon ≡ 0))
   pub plain : isIndexed (f .security) ≡ false → (a .index ≡ 0) × (a .issue ≡ 0)
   pub indexed : isIndexed (f .security) ≡ true → Within 1 (a .index) 10000000 × Within 1 (a .issue) 10000000
-  pub nominal : a .nominal ≤ 1000000000000
-  pub cash : a .cash ≤ 1000000000000
+  pub nominal : a .nominal ≤ unit
+  pub cash : a .cash ≤ unit
   pub accrued : a .accrued ≤ 1000000
   pub coupon : a .coupon ≤ 1000000
 
@@ -139,7 +140,7 @@ priced f d a h =
     let noCoupon = eqb (d .period) 0 && eqb (d .payments) 0 in
     let z = four (asked o noLeg) (asked s (eqb (d .day1) 0)) (asked (not paying) (eqb (d .first) 0)) (asked (not coupons) noCoupon) (p .1 .0) in
     -- the amounts
-    let sums = both (usedWithin paying 1 (a .nominal) 1000000000000) (usedWithin (not o) 1 (a .cash) 1000000000000) (p .1 .1 .0) in
+    let sums = both (usedWithin paying 1 (a .nominal) unit) (usedWithin (not o) 1 (a .cash) unit) (p .1 .1 .0) in
     let rates = both (usedWithin o 0 (a .accrued) 1000000) (usedWithin coupons 0 (a .coupon) 1000000) (p .1 .1 .1 .1 .0) in
     let ratio = both (usedWithin i 1 (a .index) 10000000) (usedWithin i 1 (a .issue) 10000000) (p .1 .1 .1 .1 .1) in
     record {
@@ -150,7 +151,7 @@ priced f d a h =
             (
               eqb-true _ 0 (q .1),
               (
-                unused (not o) 1 (a .cash) 1000000000000 (sums .1) (rw e),
+                unused (not o) 1 (a .cash) unit (sums .1) (rw e),
                 within-true 1 _ 4000000 (first-arm o (within 1 (a .price) 4000000) (leb (a .price) 1000000) (p .1 .1 .1 .0) e) .high,
               ),
             ),
@@ -162,15 +163,15 @@ priced f d a h =
       settled = λ e. eqb-true _ 0 (asked-true s (eqb (d .day1) 0) (z .1 .0) e);
       bare = λ e. (
         eqb-true _ 0 (asked-true (not paying) (eqb (d .first) 0) (z .1 .1 .0) (rw e)),
-        unused paying 1 (a .nominal) 1000000000000 (sums .0) e,
+        unused paying 1 (a .nominal) unit (sums .0) e,
       );
       flat = λ e.
           let q = both (eqb (d .period) 0) (eqb (d .payments) 0) (asked-true (not coupons) noCoupon (z .1 .1 .1) (rw e)) in
           (eqb-true _ 0 (q .0), (eqb-true _ 0 (q .1), unused coupons 0 (a .coupon) 1000000 (rates .1) e));
       plain = λ e. (unused i 1 (a .index) 10000000 (ratio .0) e, unused i 1 (a .issue) 10000000 (ratio .1) e);
       indexed = λ e. (used i 1 (a .index) 10000000 (ratio .0) e, used i 1 (a .issue) 10000000 (ratio .1) e);
-      nominal = at-most paying 1 (a .nominal) 1000000000000 (sums .0);
-      cash = at-most (not o) 1 (a .cash) 1000000000000 (sums .1);
+      nominal = at-most paying 1 (a .nominal) unit (sums .0);
+      cash = at-most (not o) 1 (a .cash) unit (sums .1);
       accrued = at-most o 0 (a .accrued) 1000000 (rates .0);
       coupon = at-most coupons 0 (a .coupon) 1000000 (rates .1);
     }

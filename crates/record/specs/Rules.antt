@@ -3,6 +3,7 @@ use Prim.Native.Nat.{ℕ, _+_, _-_, _*_}
 use mathlib.Core.Bool.{Bool, _&&_, _||_, not, cond}
 use lib.Dec.{eqb, leb, ltb}
 use lib.ListN.{getD}
+use Rattle.decimal.specs.Product.{unit}
 use Rattle.record.specs.declared.Form.{Form}
 use Rattle.record.specs.declared.Days.{Days}
 use Rattle.record.specs.declared.Amounts.{Amounts}
@@ -36,8 +37,11 @@ breaksForm curves f = not (
 -- ---- 9. A day, period, payment count or term that the record uses breaks its rule.
 
 -- "All days, payments' too, are at most 10,950."
+abbrev pub lastDay : ℕ
+lastDay = 10950
+
 abbrev pub inReach : ℕ → Bool
-inReach day = leb day 10950
+inReach day = leb day lastDay
 
 -- "In pool phases 1, 2 and specified phase 1, value day 1 is before value day 2 and the term is their difference."
 abbrev pub legsAhead : Days → Bool
@@ -82,8 +86,8 @@ unusedDaysFit f d =
 -- "nominal", "repo cash (each 1 to 10^12)"
 abbrev pub principalsFit : Form → Amounts → Bool
 principalsFit f a =
-    usedWithin (hasSecurity (f .security)) 1 (a .nominal) 1000000000000
-    && usedWithin (not (isOutright (f .kind))) 1 (a .cash) 1000000000000
+    usedWithin (hasSecurity (f .security)) 1 (a .nominal) unit
+    && usedWithin (not (isOutright (f .kind))) 1 (a .cash) unit
 
 -- "clean price (1 to 4,000,000) or repo rate (0 to 1,000,000)"
 abbrev pub priceFits : Form → Amounts → Bool

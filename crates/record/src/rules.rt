@@ -3,6 +3,8 @@ use crate::Amounts;
 use crate::Curves;
 use crate::Days;
 use crate::Form;
+use crate::LARGEST;
+use crate::LAST_DAY;
 ghost use mathlib.Core.Path.{_≡_};
 ghost use mathlib.Core.Bool.{true, cond};
 ghost use Prim.Native.Nat.{_+_, _-_, _*_};
@@ -114,7 +116,7 @@ pub fn breaks_form(curves: Curves, f: Form) -> bool
 fn in_reach(day: u64) -> bool
     ensures { λ r. ⌜ r ≡ inReach day ⌝ }
 {
-    day <= 10_950
+    day <= LAST_DAY
 }
 
 // The difference, 0 where it would be negative.
@@ -214,8 +216,8 @@ fn unused_days_fit(f: Form, d: Days) -> bool
 fn principals_fit(f: Form, a: Amounts) -> bool
     ensures { λ r. ⌜ r ≡ principalsFit f a ⌝ }
 {
-    used_within(has_security(f.security), 1, a.nominal, 1_000_000_000_000)
-        & used_within(!is_outright(f.kind), 1, a.cash, 1_000_000_000_000)
+    used_within(has_security(f.security), 1, a.nominal, LARGEST)
+        & used_within(!is_outright(f.kind), 1, a.cash, LARGEST)
 }
 
 fn price_fits(f: Form, a: Amounts) -> bool

@@ -2,18 +2,13 @@
 use mathlib.Core.Path.{_≡_, refl, sym, _∙_, ap}
 use mathlib.Core.List.{List, [], _∷_, _++_, flatMap}
 use Prim.Native.Nat.{ℕ, zero, suc, _+_, _*_, _≤_, _<_}
-use native.Mathlib.Nat.{zero-add}
 use native.Mathlib.Omega.{arith}
 use lib.ListN.{length, getD, drop, replicate, length-append}
 use lib.Seq.{drop-cons, drop-length}
 use Rattle.layout.specs.Bytes.{put}
 use Rattle.layout.specs.Field.{numberAt, bytesOf}
-use Rattle.layout.proofs.Bytes.{put-none, put-put, put-split}
+use Rattle.layout.proofs.Bytes.{put-none, put-put}
 use Rattle.layout.proofs.Field.{field-front, field-behind}
-
--- at the start: the bytes, and what lies past them
-pub put-front : (s bs : List ℕ) → length bs ≤ length s → put s 0 bs ≡ bs ++ drop (length bs) s
-put-front s bs h = put-split s 0 bs (omega arith) ∙ rw zero-add
 
 pub bytes-zero : (n : ℕ) → bytesOf n 0 ≡ replicate n 0
 unfolding bytesOf

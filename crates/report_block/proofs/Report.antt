@@ -15,7 +15,7 @@ use Rattle.laws.proofs.Lists.{length-flatMap}
 use Rattle.layout.specs.Bytes.{byteAt, part, put}
 use Rattle.layout.specs.Field.{u16At, numberAt, bytesOf, twos}
 use Rattle.layout.specs.Check.{sealed, breaksCheck, breaksPlace}
-use Rattle.layout.proofs.Bytes.{then}
+use Rattle.layout.proofs.Bytes.{then, put-front}
 use Rattle.layout.proofs.Field.{length-bytes, field-byte, field-front}
 use Rattle.layout.proofs.Signed.{code-read}
 use Rattle.layout.proofs.Sealed.{length-sealed, field-sealed, sealed-sound}
@@ -24,7 +24,7 @@ use Rattle.margin.specs.declared.CurrencyMargin.{CurrencyMargin}
 use Rattle.margin.specs.declared.Margin.{Margin}
 use Rattle.margin.specs.Margins.{noCurve, noCurrency}
 use Rattle.report_block.specs.Report.{curveBytes, currencyBytes, fieldBytes, reportBytes}
-use Rattle.report_block.proofs.Records.{put-front, bytes-zero}
+use Rattle.report_block.proofs.Records.{bytes-zero}
 
 -- a margin has places for eight curves and three currencies
 pub record Places (m : Margin) : Type 0 where

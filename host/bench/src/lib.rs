@@ -1,8 +1,11 @@
 //! Safe calls of the inner functions that the crate `probe` exports, and how times are taken.
 
+pub mod peer;
 mod timing;
+mod whole;
 
-pub use timing::best_time;
+pub use timing::{best_time, middle, processor_time, ratio, repeats, shown, turn_time};
+pub use whole::{margin, work, Work};
 
 mod ffi {
     unsafe extern "C" {

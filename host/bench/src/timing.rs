@@ -8,6 +8,9 @@ const ROUNDS: usize = 9;
 /// No round starts after this.
 const LONGEST: Duration = Duration::from_secs(5);
 
+/// Short work is repeated for as long as this in a turn.
+const TURN: Duration = Duration::from_millis(50);
+
 /// The best of several rounds; of one alone, if that takes long.
 pub fn best_time<T>(mut work: impl FnMut() -> T) -> Duration {
     let start = Instant::now();
@@ -21,4 +24,75 @@ pub fn best_time<T>(mut work: impl FnMut() -> T) -> Duration {
         }
     }
     best
+}
+
+/// The time of the work once, over as many repeats as fill a turn.
+pub fn turn_time<T>(mut work: impl FnMut() -> T) -> Duration {
+    let start = Instant::now();
+    let mut repeats = 0;
+    while repeats == 0 || start.elapsed() < TURN {
+        black_box(work());
+        repeats += 1;
+    }
+    start.elapsed() / repeats
+}
+
+/// The same in time of the processor, which others that run do not lengthen much.
+pub fn processor_time<T>(mut work: impl FnMut() -> T) -> Duration {
+    let start = processor();
+    let mut repeats = 0;
+    while repeats == 0 || processor() - start < TURN {
+        black_box(work());
+        repeats += 1;
+    }
+    (processor() - start) / repeats
+}
+
+/// What the thread has had of the processor so far.
+fn processor() -> Duration {
+    const OF_THIS_THREAD: i32 = 3;
+    #[repr(C)]
+    struct Clock {
+        seconds: i64,
+        nanoseconds: i64,
+    }
+    unsafe extern "C" {
+        fn clock_gettime(clock: i32, time: *mut Clock) -> i32;
+    }
+    let mut clock = Clock {
+        seconds: 0,
+        nanoseconds: 0,
+    };
+    // SAFETY: the C library fills the struct, which has its 64-bit Linux layout
+    assert_eq!(unsafe { clock_gettime(OF_THIS_THREAD, &mut clock) }, 0);
+    Duration::new(clock.seconds as u64, clock.nanoseconds as u32)
+}
+
+/// How often work that takes so long is repeated to fill a turn.
+pub fn repeats(time: Duration) -> u32 {
+    let count = TURN.as_nanos() / time.as_nanos().max(1);
+    count.clamp(1, 1_000) as u32
+}
+
+/// The middle of some times.
+pub fn middle(mut times: Vec<Duration>) -> Duration {
+    times.sort();
+    times[times.len() / 2]
+}
+
+/// A time in the unit that suits it.
+pub fn shown(time: Duration) -> String {
+    let seconds = time.as_secs_f64();
+    if seconds < 1e-3 {
+        format!("{:.1} µs", seconds * 1e6)
+    } else if seconds < 1.0 {
+        format!("{:.2} ms", seconds * 1e3)
+    } else {
+        format!("{seconds:.2} s")
+    }
+}
+
+/// How many times as long the first takes as the second.
+pub fn ratio(first: Duration, second: Duration) -> f64 {
+    first.as_secs_f64() / second.as_secs_f64()
 }

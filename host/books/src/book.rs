@@ -53,7 +53,7 @@ fn most_payments(draw: &mut Draw, trades: usize, work: usize) -> u64 {
 }
 
 /// Takes steps from the curve with the most work until the whole is held.
-fn hold_to_work(book: &mut Book, work: usize) {
+pub(crate) fn hold_to_work(book: &mut Book, work: usize) {
     let flows: Vec<usize> = book
         .curves
         .iter()

@@ -3,6 +3,7 @@
 use crate::book::{assemble, draw_book};
 use crate::damage::{book_grounds, damage_anywhere, damage_book, draw_bad_used};
 use crate::draw::Draw;
+use crate::near_ties::{draw_near_ties, NearTies};
 use crate::record::draw_record;
 use crate::record_damage::{damage_record, record_grounds};
 use seddolki_model::accept::Book;
@@ -125,9 +126,15 @@ impl Case {
     }
 }
 
-/// Any call on any book, whole or spoiled. `work` is as in `draw_book`.
+/// Any call on any book, whole or spoiled, now and then one whose losses are
+/// near each other. `work` is as in `draw_book`.
 pub fn draw_case(draw: &mut Draw, work: usize) -> Case {
-    let book = draw_book(draw, work);
+    let book = if draw.once_in(8) {
+        let ties = draw.pick(&NearTies::ALL);
+        draw_near_ties(draw, ties, work)
+    } else {
+        draw_book(draw, work)
+    };
     let mut lent = draw_bytes(draw, &book);
     let length = lent.len();
     let behind = draw.within(0..=2 * BLOCK as u64) as usize;

@@ -10,6 +10,7 @@ pub mod damage;
 pub mod demand_3;
 pub mod draw;
 pub mod examples;
+pub mod near_ties;
 pub mod record;
 pub mod record_damage;
 pub mod timing;
@@ -20,6 +21,9 @@ pub use damage::{book_grounds, damage_anywhere, damage_book, draw_bad_used};
 pub use demand_3::assert_demand_3;
 pub use draw::Draw;
 pub use examples::{buyer, seller};
+pub use near_ties::{draw_near_ties, NearTies};
 pub use record::draw_record;
 pub use record_damage::{damage_record, record_grounds};
-pub use timing::{full_book, small_book, typical_book};
+pub use timing::{
+    full_book, mixed_book, near_tie_book, small_book, typical_book, zero_component_book,
+};

@@ -5,18 +5,19 @@ use crate::record::draw_record;
 use seddolki_model::accept::Book;
 use seddolki_model::block::{Curve, Node, CURVE};
 use seddolki_model::limits::{FULL_BLOCK, MAX_BLOCKS, MAX_CURRENCIES, MAX_STEPS, PAYMENTS};
-use seddolki_model::record::{Record, COUPONS, FIRST_SIDE, OUTRIGHT, SECOND_SIDE};
+use seddolki_model::record::{Record, COUPONS, FIRST_SIDE, OUTRIGHT, SECOND_SIDE, SINGLE_PAYMENT};
+use seddolki_model::units::ONE;
 
 const NODE_DAYS: [u16; 10] = [1, 30, 91, 182, 365, 730, 1_095, 1_825, 3_650, 7_300];
 
 /// One curve and a few trades.
 pub fn small_book() -> Book {
-    mixed_book(1, 5)
+    mixed_book(1, 5, [MAX_STEPS; 3])
 }
 
 /// A curve for each currency, and trades of every kind.
 pub fn typical_book() -> Book {
-    mixed_book(3, 200)
+    mixed_book(3, 200, [MAX_STEPS; 3])
 }
 
 /// As many blocks as a book can have, and as many payments as a trade can.
@@ -28,6 +29,62 @@ pub fn full_book() -> Book {
     book(curves, trades)
 }
 
+/// A typical book whose second component is 0 at every node: each scenario
+/// has six others with the same stressed nodes.
+pub fn zero_component_book() -> Book {
+    let mut book = typical_book();
+    for curve in &mut book.curves {
+        for node in &mut curve.places {
+            node.components[1] = 0;
+        }
+    }
+    book
+}
+
+/// As many curves and trades as a typical book. Only a node behind all other
+/// flows is stressed, and a lira and a half falls there: no two scenarios of
+/// a curve have the same nodes, and all lose within some kuruş of each other.
+pub fn near_tie_book() -> Book {
+    let mut draw = Draw::new(5);
+    let mut curves = curves(&mut draw, 3);
+    let trades = (0..200)
+        .map(|i| match curves.get(i) {
+            Some(curve) => far_payment(curve),
+            None => Record {
+                payments: 3,
+                ..bond(&mut draw, &curves)
+            },
+        })
+        .collect();
+    for curve in &mut curves {
+        stress_the_last_node_alone(curve);
+    }
+    book(curves, trades)
+}
+
+fn stress_the_last_node_alone(curve: &mut Curve) {
+    let last = usize::from(curve.node_count) - 1;
+    for node in &mut curve.places[..last] {
+        node.components = [0; 3];
+    }
+    curve.places[last].components = [20_000, 3_000, 500];
+}
+
+/// A single payment of a lira and a half on the last node's day, for as much today.
+fn far_payment(curve: &Curve) -> Record {
+    Record {
+        kind: OUTRIGHT,
+        side: FIRST_SIDE,
+        security: SINGLE_PAYMENT,
+        security_curve: curve.id,
+        cash_curve: curve.id,
+        first_payment_day: curve.nodes()[curve.nodes().len() - 1].day,
+        nominal: 150,
+        price_or_rate: ONE as u32,
+        ..Record::default()
+    }
+}
+
 fn book(curves: Vec<Curve>, trades: Vec<Record>) -> Book {
     Book {
         account: 42,
@@ -36,9 +93,13 @@ fn book(curves: Vec<Curve>, trades: Vec<Record>) -> Book {
     }
 }
 
-fn mixed_book(curve_count: u8, trade_count: usize) -> Book {
+/// So many curves, each with these steps, and trades of every kind.
+pub fn mixed_book(curve_count: u8, trade_count: usize, steps: [u8; 3]) -> Book {
     let mut draw = Draw::new(curve_count.into());
-    let curves = curves(&mut draw, curve_count);
+    let mut curves = curves(&mut draw, curve_count);
+    for curve in &mut curves {
+        curve.steps = steps;
+    }
     let trades = (0..trade_count)
         .map(|_| draw_record(&mut draw, &curves, 20))
         .collect();

@@ -10,7 +10,6 @@ mod curve_file;
 mod decimal;
 mod fault;
 mod store;
-mod svg;
 mod table;
 mod trade;
 mod view;

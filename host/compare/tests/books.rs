@@ -1,10 +1,10 @@
 //! Whole books, and the same books spoiled for every ground.
 
 use seddolki_books::{
-    assemble, assert_demand_3, book_grounds, damage_book, draw_book, small_book, typical_book,
-    Call, Case, Draw,
+    assemble, assert_demand_3, book_grounds, damage_book, draw_book, near_tie_book, small_book,
+    typical_book, zero_component_book, Call, Draw,
 };
-use seddolki_compare::{assert_alike, books, is_whole, Proved, Seeds};
+use seddolki_compare::{assert_alike, books, is_whole, margin_case, whole_case, Proved, Seeds};
 use seddolki_model::accept::Book;
 use seddolki_model::block::{Node, BLOCK};
 use seddolki_model::flows::{cash_flows, signs_of, TABLE};
@@ -17,20 +17,6 @@ use std::collections::{BTreeMap, BTreeSet};
 
 /// Bounds the time of a margin.
 const WORK: usize = 2_000;
-
-fn case(bytes: Vec<u8>, call: Call) -> Case {
-    Case {
-        used: bytes.len(),
-        lent: bytes,
-        call,
-    }
-}
-
-fn margin_case(draw: &mut Draw, bytes: Vec<u8>) -> Case {
-    let behind = draw.place(9);
-    let report = draw.bytes(BLOCK + behind);
-    case(bytes, Call::Margin { report })
-}
 
 /// What the books of a run have had in them.
 #[derive(Default)]
@@ -128,7 +114,13 @@ fn margins_are_the_same_on_books_that_reach_every_form_and_boundary() {
 #[test]
 fn margins_are_the_same_on_the_books_that_times_are_taken_on() {
     let mut draw = Draw::new(1);
-    for (number, book) in (1..).zip([small_book(), typical_book()]) {
+    let books = [
+        small_book(),
+        typical_book(),
+        near_tie_book(),
+        zero_component_book(),
+    ];
+    for (number, book) in (1..).zip(books) {
         let outcome = assert_alike(&margin_case(&mut draw, assemble(&book)), number);
         assert_eq!(outcome.answer.number, 0);
     }
@@ -146,7 +138,7 @@ fn spoiled_books_are_refused_by_the_ground_they_were_spoiled_for() {
             continue;
         };
         for case in [
-            case(bytes.clone(), Call::Check),
+            whole_case(bytes.clone(), Call::Check),
             margin_case(&mut draw, bytes),
         ] {
             let outcome = assert_alike(&case, number);

@@ -1,7 +1,7 @@
 //! The stack that a call needs.
 
-use seddolki_books::{assemble, draw_book, Call, Case, Draw};
-use seddolki_compare::Proved;
+use seddolki_books::{assemble, draw_book, typical_book, Call, Draw};
+use seddolki_compare::{whole_case, Proved};
 use seddolki_model::block::BLOCK;
 use seddolki_model::limits::MAX_BLOCKS;
 use seddolki_model::record::RECORD;
@@ -10,7 +10,16 @@ use std::thread;
 /// What the header promises.
 const STACK: usize = 1 << 20;
 
-fn full_book() -> Vec<u8> {
+/// The answer's number of a call on a thread with no more than that.
+fn number(bytes: Vec<u8>, call: Call) -> u64 {
+    let case = whole_case(bytes, call);
+    let run = move || case.run(&Proved).answer.number;
+    let thread = thread::Builder::new().stack_size(STACK).spawn(run).unwrap();
+    thread.join().unwrap()
+}
+
+/// As long as a book can be, without stressed scenarios.
+fn long_book() -> Vec<u8> {
     (0..)
         .map(|seed| assemble(&draw_book(&mut Draw::new(seed), 1_000)))
         .find(|bytes| bytes.len() == MAX_BLOCKS * BLOCK)
@@ -37,12 +46,16 @@ fn every_call_on_a_full_book_keeps_to_its_stack() {
             tolerance: 0,
         },
     ] {
-        let lent = full_book();
-        let used = lent.len();
-        let case = Case { lent, used, call };
-        let run = move || case.run(&Proved).answer.number;
-        let thread = thread::Builder::new().stack_size(STACK).spawn(run).unwrap();
-        let number = thread.join().unwrap();
+        let number = number(long_book(), call);
         assert!(number == 0 || number == 8, "{number}");
     }
+}
+
+#[test]
+fn a_margin_of_all_scenarios_keeps_to_its_stack() {
+    let report = vec![0; BLOCK];
+    assert_eq!(
+        number(assemble(&typical_book()), Call::Margin { report }),
+        0
+    );
 }

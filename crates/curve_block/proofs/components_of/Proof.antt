@@ -6,7 +6,7 @@ use Rattle.curve_block.proofs.components_of.Tie as tie
 
 returns : tie.Need-returns
 unfolding componentsOf
-returns c = cc
+returns c = rw (c .u16-at3 .ensures .0, c .before .wide3 .ensures .0, c .before .before .before .u16-at2 .ensures .0, c .before .before .before .before .wide2 .ensures .0, c .before .before .before .before .before .before .u16-at .ensures .0, c .before .before .before .before .before .before .before .wide .ensures .0)
 
 pub components-of-spec : {M : Type 1} → statement M
 components-of-spec =

@@ -3,9 +3,9 @@
 use crate::command::Command;
 use crate::decimal::{format as decimal, format_signed, COEFFICIENT, MONEY};
 use crate::store::{accepted_book, replace};
-use crate::svg::{ticks, Page, Panel};
 use crate::view::parts;
 use crate::words::count;
+use seddolki_chart::{ticks, Page, Panel};
 use seddolki_format::block::{Curve, Node};
 use seddolki_format::report::{currency_name, CurveFigures};
 use seddolki_model::flows::CashFlow;
@@ -66,12 +66,15 @@ const RIGHT: f64 = 940.0;
 
 const BLACK: &str = "black";
 const WORST: &str = "#c00";
+const STRESSED: &str = "#888";
 
 impl Picture<'_> {
     fn draw(&self) -> String {
         let mut page = Page::new(WIDTH, HEIGHT);
         page.label((LEFT, 24.0), "start", BLACK, &self.title());
         page.label((LEFT, 42.0), "start", WORST, &self.worst_line());
+        page.label((RIGHT, 24.0), "end", BLACK, "rates by day: the curve");
+        page.label((RIGHT, 42.0), "end", STRESSED, "its stressed curves");
         self.draw_rates(&mut page);
         self.draw_ladder(&mut page);
         page.finish()
@@ -112,20 +115,24 @@ impl Picture<'_> {
             .map(|scenario| stressed_nodes(self.curve.nodes(), scenario))
             .collect();
         let percent = |node: &Node| f64::from(node.rate) / 10_000.0;
-        let highest = stressed.iter().flatten().chain(self.curve.nodes());
-        let highest = highest.map(percent).fold(1.0, f64::max);
+        let all = stressed.iter().flatten().chain(self.curve.nodes());
+        let (lowest, highest) = all.map(percent).fold((100.0, 0.0), |(low, high), rate| {
+            (rate.min(low), rate.max(high))
+        });
+        let room = (0.05 * (highest - lowest)).max(0.1);
         let panel = Panel {
             left: LEFT,
             top: 60.0,
             width: RIGHT - LEFT,
             height: 300.0,
             across: self.days(),
-            up: (0.0, highest * 1.05),
+            up: ((lowest - room).max(0.0), highest + room),
         };
         page.axes(&panel, &day_labels(&panel), &labels(panel.up, "%"));
         let points = |nodes: &[Node]| self.points(nodes, percent);
+        let width = if stressed.len() < 50 { 1.0 } else { 0.4 };
         for nodes in &stressed {
-            page.curve(&panel, &points(nodes), "#bbb", 0.6);
+            page.curve(&panel, &points(nodes), STRESSED, width);
         }
         page.curve(&panel, &points(self.curve.nodes()), BLACK, 2.0);
         let worst = &stressed[self.figures.scenario as usize];
@@ -162,8 +169,9 @@ impl Picture<'_> {
                 page.bar(&panel, *day as f64, sign * sum, 3.0, colour);
             }
         }
-        let ladder = "cash flows by day: in above, out below";
-        page.label((LEFT, 402.0), "start", BLACK, ladder);
+        let currency = currency_name(self.figures.currency);
+        let ladder = format!("cash flows by day in {currency}: in above, out below");
+        page.label((LEFT, 402.0), "start", BLACK, &ladder);
         page.label((RIGHT, 634.0), "end", BLACK, "days from today");
     }
 

@@ -2,7 +2,7 @@
 use mathlib.Core.Path.{_∙_}
 use borrow.Author.Needs.{needs}
 use Rattle.book.specs.Parts.{recordAt}
-use Rattle.book.proofs.Places.{put-whole}
+use Rattle.layout.proofs.Bytes.{put-whole}
 use Rattle.book.proofs.parts.record_at.Statement.{statement}
 use Rattle.book.proofs.parts.record_at.Tie as tie
 

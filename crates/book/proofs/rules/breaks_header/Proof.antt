@@ -6,7 +6,7 @@ use Rattle.book.proofs.rules.breaks_header.Tie as tie
 
 returns : tie.Need-returns
 unfolding breaksHeader
-returns c = cc
+returns c = rw (c .zeros .ensures, c .before .before .trade-blocks .ensures .0, c .before .before .before .curve-count .ensures .0)
 
 pub breaks-header-spec : {M : Type 1} → statement M
 breaks-header-spec =

@@ -6,7 +6,7 @@ use Rattle.curve_block.proofs.rules.numbers_sound.Tie as tie
 
 returns : tie.Need-returns
 unfolding numbersSound
-returns c = cc
+returns c = rw (c .steps-sound3 .ensures, c .before .steps-sound2 .ensures, c .before .before .steps-sound .ensures, c .before .before .before .wide .ensures .0, c .before .before .before .before .before .before .before .before .components-of .ensures, c .before .before .before .before .before .before .before .before .before .node-count .ensures, c .before .before .before .before .before .before .before .before .before .before .currency-of .ensures)
 
 pub numbers-sound-spec : {M : Type 1} → statement M
 numbers-sound-spec =

@@ -6,7 +6,7 @@ use Rattle.curve_block.proofs.rules.unnamed_zero.Tie as tie
 
 returns : tie.Need-returns
 unfolding unnamedZero
-returns c = cc
+returns c = rw (c .zeros .ensures, c .before .node-place .ensures, c .before .before .gaps-zero .ensures, c .before .before .before .u16-at2 .ensures .0, c .before .before .before .before .u16-at .ensures .0, c .before .before .before .before .before .before .node-count .ensures)
 
 pub unnamed-zero-spec : {M : Type 1} → statement M
 unnamed-zero-spec =

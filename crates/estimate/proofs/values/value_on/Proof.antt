@@ -3,7 +3,7 @@ use borrow.Author.Needs.{needs}
 use Prim.Native.Nat.{_-_}
 use native.Mathlib.Omega.{arith}
 use Rattle.estimate.proofs.CurveLines.{reached-limits, reached-ahead}
-use Rattle.estimate.proofs.CurveValues.{Held, valuing-start, first-line, held-first, next-line, held-next, last-line, held-all, value-read}
+use Rattle.estimate.proofs.CurveValues.{Held, ready-first, held-first, ready-next, held-next, ready-last, held-all, value-read}
 use Rattle.estimate.proofs.values.value_on.Statement.{statement}
 use Rattle.estimate.proofs.values.value_on.Tie as tie
 
@@ -23,19 +23,13 @@ level-requires c κs =
 
 along-requires : tie.Need-along-requires Inv-loop μ-loop
 along-requires c κs =
-    let p = c .before .before .before .before .before .before .pre in (
-      omega arith,
-      p .1 .most,
-      p .1 .places,
-      p .2,
-      first-line _ (p .0) _ _ _ (p .1) _ (c .level .ensures),
-      valuing-start _ (p .0) _ _ _ (p .1) .room,
-    )
+    let p = c .before .before .before .before .before .before .pre in
+    (ready-first _ (p .0) _ _ _ (p .1) _ (c .level .ensures), p .2)
 
 loop-holds : tie.Need-loop-holds Inv-loop μ-loop
 loop-holds c =
     let p = c .before .before .before .before .before .before .before .pre in
-    held-first _ (p .0) _ _ _ (p .1) _ (c .before .level .ensures) _ (c .along .ensures .0) (c .along .ensures .1)
+    held-first _ (p .0) _ _ _ (p .1) _ (c .before .level .ensures) _ (c .along .ensures)
 
 mul-b : tie.Need-mul-b Inv-loop μ-loop
 mul-b c = search needs
@@ -52,14 +46,8 @@ line-of-requires c κs =
 along-requires-2 : tie.Need-along-requires-2 Inv-loop μ-loop
 along-requires-2 c κs =
     let l = c .before .before .before in
-    let p = l .before .before .before .before .before .before .before .before .pre in (
-      l .loop .inv .done,
-      p .1 .most,
-      p .1 .places,
-      p .2,
-      next-line _ (p .0) _ _ _ (p .1) _ _ _ (l .loop .inv) (c .before .before .loop-test .taken) _ (c .line-of .ensures),
-      l .loop .inv .valuing .room,
-    )
+    let p = l .before .before .before .before .before .before .before .before .pre in
+    (ready-next _ (p .0) _ _ _ (p .1) _ _ _ (l .loop .inv) (c .before .before .loop-test .taken) _ (c .line-of .ensures), p .2)
 
 add-i : tie.Need-add-i Inv-loop μ-loop
 add-i c =
@@ -74,7 +62,7 @@ loop-again : tie.Need-loop-again Inv-loop μ-loop
 loop-again c =
     let l = c .before .before .before .before in
     let p = l .before .before .before .before .before .before .before .before .pre in
-    held-next _ (p .0) _ _ _ (p .1) _ _ _ (l .loop .inv) (c .before .before .before .loop-test .taken) _ (c .before .line-of .ensures) _ (c .along2 .ensures .0) (c .along2 .ensures .1)
+    held-next _ (p .0) _ _ _ (p .1) _ _ _ (l .loop .inv) (c .before .before .before .loop-test .taken) _ (c .before .line-of .ensures) _ (c .along2 .ensures)
 
 level-requires-2 : tie.Need-level-requires-2 Inv-loop μ-loop
 level-requires-2 c κs =
@@ -84,20 +72,14 @@ level-requires-2 c κs =
 along-requires-3 : tie.Need-along-requires-3 Inv-loop μ-loop
 along-requires-3 c κs =
     let l = c .before .before in
-    let p = l .before .before .before .before .before .before .before .before .pre in (
-      l .loop .inv .done,
-      p .1 .most,
-      p .1 .places,
-      p .2,
-      last-line _ (p .0) _ _ _ (p .1) _ _ _ (l .loop .inv) (c .before .loop-test .left) _ (c .level2 .ensures),
-      l .loop .inv .valuing .room,
-    )
+    let p = l .before .before .before .before .before .before .before .before .pre in
+    (ready-last _ (p .0) _ _ _ (p .1) _ _ _ (l .loop .inv) (c .before .loop-test .left) _ (c .level2 .ensures), p .2)
 
 returns : tie.Need-returns Inv-loop μ-loop
 returns c =
     let l = c .before .before .before .before in
     let p = l .before .before .before .before .before .before .before .before .pre in
-    let v = held-all _ (p .0) _ _ _ (p .1) _ _ _ (l .loop .inv) (c .before .before .before .loop-test .left) _ (c .before .before .level2 .ensures) _ (c .before .along3 .ensures .1) in
+    let v = held-all _ (p .0) _ _ _ (p .1) _ _ _ (l .loop .inv) (c .before .before .before .loop-test .left) _ (c .before .before .level2 .ensures) _ (c .before .along3 .ensures) in
     value-read _ _ _ _ (p .1) _ v
 
 pub value-on-spec : {M : Type 1} → statement M

@@ -28,7 +28,7 @@ sub-result c = omega (arith, c .withholding-on .ensures, withholding-bound (c .b
 
 returns : tie.Need-returns
 unfolding secondLegCash
-returns c = cc
+returns c = rw (c .withholding-on .ensures, c .before .interest-on .ensures)
 
 pub second-leg-cash-spec : {M : Type 1} → statement M
 second-leg-cash-spec = tie.close (tie.spec (λ c κs. search needs) withholding-on-requires add-result sub-result returns)

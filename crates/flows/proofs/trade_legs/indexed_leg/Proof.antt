@@ -10,7 +10,7 @@ unfolding unit
 add-indexed-payment c = omega (arith, c .before .before .coupon-of .ensures .1, c .before .before .before .before .pre .bond .nominal)
 
 returns : tie.Need-returns
-returns c = cc
+returns c = rw (c .bond-leg .ensures, c .before .indexed-payment2 .ensures, c .before .before .before .indexed-payment .ensures, c .before .before .before .before .coupon-of .ensures .0)
 
 pub indexed-leg-spec : {M : Type 1} → statement M
 indexed-leg-spec = tie.close (tie.spec (λ c κs. search needs) (λ c κs. search needs) add-indexed-payment (λ c κs. search needs) (λ c κs. search needs) returns)

@@ -6,7 +6,7 @@ use Rattle.record.proofs.bytes.amounts_of.Tie as tie
 
 returns : tie.Need-returns
 unfolding amountsOf
-returns c = cc
+returns c = rw (c .before .before .before .before .before .before .u32-at .ensures .0, c .before .before .before .before .before .u64-at .ensures, c .before .before .before .before .u64-at2 .ensures, c .before .before .before .u32-at2 .ensures .0, c .before .before .u32-at3 .ensures .0, c .before .u32-at4 .ensures .0, c .u32-at5 .ensures .0)
 
 pub amounts-of-spec : {M : Type 1} → statement M
 amounts-of-spec = tie.close (tie.spec (λ c κs. search needs) (λ c κs. search needs) (λ c κs. search needs) (λ c κs. search needs) (λ c κs. search needs) (λ c κs. search needs) (λ c κs. search needs) returns)

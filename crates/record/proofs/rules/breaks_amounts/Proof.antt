@@ -6,7 +6,7 @@ use Rattle.record.proofs.rules.breaks_amounts.Tie as tie
 
 returns : tie.Need-returns
 unfolding breaksAmounts
-returns c = cc
+returns c = rw (c .indices-fit .ensures, c .before .coupons-fit .ensures, c .before .before .price-fits .ensures, c .before .before .before .principals-fit .ensures, c .before .before .before .before .unused-days-fit .ensures)
 
 pub breaks-amounts-spec : {M : Type 1} → statement M
 breaks-amounts-spec = tie.close (tie.spec (λ c κs. search needs) (λ c κs. search needs) (λ c κs. search needs) (λ c κs. search needs) (λ c κs. search needs) returns)

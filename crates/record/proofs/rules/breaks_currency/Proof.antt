@@ -6,7 +6,7 @@ use Rattle.record.proofs.rules.breaks_currency.Tie as tie
 
 returns : tie.Need-returns
 unfolding breaksCurrency
-returns c = cc
+returns c = rw (c .currency-of2 .ensures, c .before .currency-of .ensures, c .before .before .has-security .ensures)
 
 pub breaks-currency-spec : {M : Type 1} → statement M
 breaks-currency-spec = tie.close (tie.spec (λ c κs. search needs) (λ c κs. search needs) (λ c κs. search needs) returns)

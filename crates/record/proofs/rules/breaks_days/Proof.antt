@@ -6,7 +6,7 @@ use Rattle.record.proofs.rules.breaks_days.Tie as tie
 
 returns : tie.Need-returns
 unfolding breaksDays
-returns c = cc
+returns c = rw (c .asked2 .ensures, c .before .coupon-days-fit .ensures, c .before .before .has-coupons .ensures, c .before .before .before .asked .ensures, c .before .before .before .before .first-payment-fits .ensures, c .before .before .before .before .before .has-security .ensures, c .before .before .before .before .before .before .value-days-fit .ensures)
 
 pub breaks-days-spec : {M : Type 1} → statement M
 breaks-days-spec = tie.close (tie.spec (λ c κs. search needs) (λ c κs. search needs) (λ c κs. search needs) (λ c κs. search needs) (λ c κs. search needs) (λ c κs. search needs) (λ c κs. search needs) returns)

@@ -4,7 +4,7 @@ use Rattle.record.proofs.rules.counts_fit.Statement.{statement}
 use Rattle.record.proofs.rules.counts_fit.Tie as tie
 
 returns : tie.Need-returns
-returns c = cc
+returns c = rw (c .within2 .ensures, c .before .within .ensures)
 
 pub counts-fit-spec : {M : Type 1} → statement M
 counts-fit-spec = tie.close (tie.spec (λ c κs. search needs) (λ c κs. search needs) returns)

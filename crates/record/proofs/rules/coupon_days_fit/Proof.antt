@@ -6,7 +6,7 @@ use native.Mathlib.Omega.{arith}
 use lib.Dec.{leb}
 use borrow.Author.Needs.{needs}
 use borrow.Author.Tests.{leb-true, leb-false, lt-leb, not-true, not-false}
-use Rattle.record.specs.Rules.{countsFit}
+use Rattle.record.specs.Rules.{lastDay, countsFit}
 use Rattle.record.proofs.Limits.{counts}
 use Rattle.record.proofs.rules.coupon_days_fit.Statement.{statement}
 use Rattle.record.proofs.rules.coupon_days_fit.Tie as tie
@@ -18,15 +18,15 @@ returns c = rw (← c .before .counts-fit .ensures, not-true (c .before .counts-
 returns-2 : tie.Need-returns-2
 returns-2 c =
     let a = c .before .before .before .before .args in
-    let e : leb (a .first) 10950 ≡ false = sym (c .before .in-reach .ensures) ∙ not-true _ (c .if2 .taken) in
-    let l = leb-false (a .first) 10950 e in
-    rw (lt-leb (a .first + (a .payments - 1) * a .period) 10950 (omega arith), and-false)
+    let e : leb (a .first) lastDay ≡ false = sym (c .before .in-reach .ensures) ∙ not-true _ (c .if2 .taken) in
+    let l = leb-false (a .first) lastDay e in
+    rw (lt-leb (a .first + (a .payments - 1) * a .period) lastDay (omega arith), and-false)
 
 module _ (c : tie.Else2) where
   counted : countsFit (c .before .before .before .before .args .period) (c .before .before .before .before .args .payments) ≡ true
   counted = sym (c .before .before .before .counts-fit .ensures) ∙ not-false _ (c .before .before .if1 .left)
 
-  near : leb (c .before .before .before .before .args .first) 10950 ≡ true
+  near : leb (c .before .before .before .before .args .first) lastDay ≡ true
   near = sym (c .before .in-reach .ensures) ∙ not-false _ (c .if2 .left)
 
 span-requires : tie.Need-span-requires
@@ -35,7 +35,7 @@ span-requires c κs = counted c
 add-in-reach : tie.Need-add-in-reach
 add-in-reach c =
     let a = c .before .before .before .before .before .args in
-    omega (arith, counts (a .period) (a .payments) (counted (c .before)) .span, leb-true (a .first) 10950 (near (c .before)))
+    omega (arith, counts (a .period) (a .payments) (counted (c .before)) .span, leb-true (a .first) lastDay (near (c .before)))
 
 returns-3 : tie.Need-returns-3
 returns-3 c = rw (counted (c .before .before), c .in-reach2 .ensures, c .before .span .ensures)

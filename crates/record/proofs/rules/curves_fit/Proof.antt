@@ -4,7 +4,7 @@ use Rattle.record.proofs.rules.curves_fit.Statement.{statement}
 use Rattle.record.proofs.rules.curves_fit.Tie as tie
 
 returns : tie.Need-returns
-returns c = cc
+returns c = rw (c .used-within .ensures, c .before .has-security .ensures, c .before .before .within .ensures)
 
 pub curves-fit-spec : {M : Type 1} → statement M
 curves-fit-spec = tie.close (tie.spec (λ c κs. search needs) (λ c κs. search needs) (λ c κs. search needs) returns)

@@ -4,7 +4,7 @@ use Rattle.record.proofs.rules.first_payment_fits.Statement.{statement}
 use Rattle.record.proofs.rules.first_payment_fits.Tie as tie
 
 returns : tie.Need-returns
-returns c = cc
+returns c = rw (c .in-reach .ensures, c .before .pick .ensures, c .before .before .before .before .is-outright .ensures)
 
 pub first-payment-fits-spec : {M : Type 1} → statement M
 first-payment-fits-spec = tie.close (tie.spec (λ c κs. search needs) (λ c κs. search needs) (λ c κs. search needs) returns)

@@ -4,7 +4,7 @@ use Rattle.record.proofs.rules.second_leg_ahead.Statement.{statement}
 use Rattle.record.proofs.rules.second_leg_ahead.Tie as tie
 
 returns : tie.Need-returns
-returns c = cc
+returns c = rw (c .before .within .ensures)
 
 pub second-leg-ahead-spec : {M : Type 1} → statement M
 second-leg-ahead-spec = tie.close (tie.spec (λ c κs. search needs) returns)

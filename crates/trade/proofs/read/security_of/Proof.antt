@@ -6,7 +6,7 @@ use Rattle.trade.proofs.read.security_of.Tie as tie
 
 returns : tie.Need-returns
 unfolding securityOf
-returns c = cc
+returns c = rw (c .pick-security .ensures, c .before .indexed-bond-of .ensures, c .before .before .coupon-bond-of .ensures, c .before .before .before .single-payment-of .ensures)
 
 pub security-of-spec : {M : Type 1} → statement M
 security-of-spec =

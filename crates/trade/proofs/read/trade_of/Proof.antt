@@ -6,7 +6,7 @@ use Rattle.trade.proofs.read.trade_of.Tie as tie
 
 returns : tie.Need-returns
 unfolding tradeOf
-returns c = cc
+returns c = rw (c .pick-trade .ensures, c .before .repo-of .ensures, c .before .before .outright-of .ensures)
 
 pub trade-of-spec : {M : Type 1} → statement M
 trade-of-spec =

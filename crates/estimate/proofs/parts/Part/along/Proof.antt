@@ -15,7 +15,7 @@ use Rattle.estimate.proofs.parts.Part.along.Tie as tie
 
 abbrev Inv-loop : tie.InvT-loop
 Inv-loop line days count nets logs middle upper i₀ value₀ i value =
-    Going line nets days count (record { done = i₀; value = cast value₀ }) i (cast value)
+    Going line nets days count (record { done = i₀; value = cast value₀ }) (record { done = i; value = cast value })
 
 abbrev μ-loop : tie.MeasureT-loop
 μ-loop line days count nets logs middle upper i₀ value₀ i value = count - i
@@ -23,12 +23,12 @@ abbrev μ-loop : tie.MeasureT-loop
 -- the value of the part that comes in, read back from its bits
 value-read : (s : tie.Start Inv-loop μ-loop) → read (s .args .self .value) ≡ s .args .self .value
 unfolding mostSize
-value-read s = read-is (s .args .self .value) (omega (arith, s .pre .5 .size))
+value-read s = read-is (s .args .self .value) (omega (arith, s .pre .0 .size))
 
 loop-holds : tie.Need-loop-holds Inv-loop μ-loop
 loop-holds c =
     let s = c .before .before .before .before .before in
-    rw (value-read s) (going-first _ _ _ _ _ (s .pre .0) (s .pre .4) (s .pre .5))
+    rw (value-read s) (going-first _ _ _ _ _ (s .pre .0))
 
 mul-day : tie.Need-mul-day Inv-loop μ-loop
 mul-day c = search needs
@@ -40,8 +40,8 @@ returns : tie.Need-returns Inv-loop μ-loop
 returns c =
     let l = c .before .before .before .before in
     let s = l .before .before .before .before .before .before in
-    let a = going-stop _ _ _ _ _ _ _ (l .loop .inv) (c .before .before .before .loop-test .taken) (s .pre .1) (c .if1 .taken) in
-    (l .loop .inv .most, rw (value-read s) at a)
+    let a = going-stop _ _ _ _ _ _ (l .loop .inv) (c .before .before .before .loop-test .taken) (c .if1 .taken) in
+    rw (value-read s) at a
 
 -- the day of a turn, which is not past the line's end
 module _ (c : tie.Else1 Inv-loop μ-loop) where
@@ -55,13 +55,13 @@ module _ (c : tie.Else1 Inv-loop μ-loop) where
   day = getD (start .args .days .now) (at .loop .i) 0
 
   within : day < 10951
-  within = going-day _ _ _ _ _ _ _ (at .loop .inv) (c .before .before .before .loop-test .taken) (start .pre .1) .0
+  within = going-day _ _ _ _ _ _ (at .loop .inv) (c .before .before .before .loop-test .taken) .0
 
 mul-day-value : tie.Need-mul-day-value Inv-loop μ-loop
 mul-day-value c = record { fits = omega (arith, within c) }
 
 shared-slice-copy-out-day-value : tie.Need-shared-slice-copy-out-day-value Inv-loop μ-loop
-shared-slice-copy-out-day-value c = omega (arith, within c, start c .pre .2)
+shared-slice-copy-out-day-value c = omega (arith, within c, start c .pre .0 .places)
 
 day-value-requires : tie.Need-day-value-requires Inv-loop μ-loop
 day-value-requires c κs =
@@ -69,9 +69,9 @@ day-value-requires c κs =
     let s = start e in
     let k = e .before .before .before .loop-test .taken in
     let net = getD (s .args .nets .now) (day e) (pos 0) in (
-      going-day _ _ _ _ _ _ _ (at e .loop .inv) k (s .pre .1) .1 (e .if1 .left),
-      s .pre .3,
-      rw (back net (c .day-value-arg .given)) (amount-most _ _ _ _ _ _ _ (at e .loop .inv) k (s .pre .1)),
+      going-day _ _ _ _ _ _ (at e .loop .inv) k .1 (e .if1 .left),
+      s .pre .1,
+      rw (back net (c .day-value-arg .given)) (amount-most _ _ _ _ _ _ (at e .loop .inv) k),
     )
 
 -- a result, read back from its bits
@@ -96,14 +96,14 @@ module _ (c : tie.After-day-value Inv-loop μ-loop) where
   unfolding mostSize
   worth-read =
       let net = getD (start turn .args .nets .now) (day turn) (pos 0) in
-      let most = amount-most _ _ _ _ _ _ _ (at turn .loop .inv) taken (start turn .pre .1) in
+      let most = amount-most _ _ _ _ _ _ (at turn .loop .inv) taken in
       let rate = rateOn (start turn .args .line) in
       let is : c .day-value .result ≡ worthNow = c .day-value .ensures ∙ ap (worth (cheapOn rate (day turn))) (back net (c .before .day-value-arg .given)) in
       read-as _ worthNow is (omega (arith, most, cheap-worth rate (day turn) net))
 
   sum-most : natAbs sum < 2 ^ 63
   unfolding mostSize
-  sum-most = omega (arith, sum-size _ _ _ _ _ _ _ (at turn .loop .inv) taken (start turn .pre .1))
+  sum-most = omega (arith, sum-size _ _ _ _ _ _ (at turn .loop .inv) taken)
 
 add-value : tie.Need-add-value Inv-loop μ-loop
 add-value c = rw (worth-read c) (fits (sum c) (sum-most c))
@@ -118,14 +118,14 @@ loop-again : tie.Need-loop-again Inv-loop μ-loop
 loop-again c =
     let e = turn c in
     rw (worth-read c, read-is (sum c) (sum-most c))
-    (going-next _ _ _ _ _ _ _ (at e .loop .inv) (taken c) (start e .pre .1) (e .if1 .left))
+    (going-next _ _ _ _ _ _ (at e .loop .inv) (taken c) (e .if1 .left))
 
 returns-2 : tie.Need-returns-2 Inv-loop μ-loop
 returns-2 c =
     let l = c .before in
     let s = l .before .before .before .before .before .before in
-    let a = going-end _ _ _ _ _ _ _ (l .loop .inv) (c .loop-test .left) in
-    (l .loop .inv .most, rw (value-read s) at a)
+    let a = going-end _ _ _ _ _ _ (l .loop .inv) (c .loop-test .left) in
+    rw (value-read s) at a
 
 pub along-spec : {M : Type 1} → statement M
 along-spec =

@@ -1,5 +1,7 @@
 //! Charts in SVG.
 
+#![forbid(unsafe_code)]
+
 use std::fmt::Write;
 
 /// A part of the page with its own scales.
@@ -70,6 +72,17 @@ impl Page {
         ));
     }
 
+    /// A dot at each of some points of a panel.
+    pub fn dots(&mut self, panel: &Panel, points: &[(f64, f64)], colour: &str) {
+        for (x, y) in points {
+            self.add(&format!(
+                "<circle cx=\"{:.1}\" cy=\"{:.1}\" r=\"3.5\" fill=\"{colour}\"/>",
+                panel.x(*x),
+                panel.y(*y)
+            ));
+        }
+    }
+
     /// A bar of a panel from 0 to a value.
     pub fn bar(&mut self, panel: &Panel, x: f64, value: f64, width: f64, colour: &str) {
         let (top, bottom) = (panel.y(value.max(0.0)), panel.y(value.min(0.0)));
@@ -108,9 +121,9 @@ impl Page {
     }
 }
 
-/// About five round values that span a range.
+/// Three to eight round values that span a range.
 pub fn ticks((low, high): (f64, f64)) -> Vec<f64> {
-    let rough = (high - low) / 5.0;
+    let rough = (high - low) / 7.0;
     let power = 10_f64.powf(rough.log10().floor());
     let steps = [1.0, 2.0, 5.0, 10.0].map(|step| step * power);
     let step = steps.into_iter().find(|step| *step >= rough);

@@ -1,0 +1,94 @@
+/*
+ * The deepest stack of each call on the books named: a call runs on a thread
+ * whose stack was painted, and what is no longer paint was used.
+ */
+#define _GNU_SOURCE
+#include "seddolki.h"
+
+#include <pthread.h>
+#include <stdio.h>
+#include <stdlib.h>
+#include <string.h>
+#include <sys/mman.h>
+
+enum { STACK = 4 << 20, PAINT = 0xa5, CALLS = 6 };
+
+static uint8_t book[SEDDOLKI_LARGEST_BOOK + SEDDOLKI_BLOCK];
+static size_t used;
+
+static void *none(void *unused) { return unused; }
+
+static void *check(void *unused) {
+    seddolki_check(book, sizeof book, used);
+    return unused;
+}
+
+static void *margin(void *unused) {
+    static uint8_t report[SEDDOLKI_BLOCK];
+    seddolki_margin(book, sizeof book, used, report, sizeof report);
+    return unused;
+}
+
+static uint8_t record[SEDDOLKI_RECORD];
+
+static void *read_first(void *unused) {
+    seddolki_read(book, sizeof book, used, 0, record);
+    return unused;
+}
+
+static void *append_it(void *unused) {
+    seddolki_append(book, sizeof book, used, record);
+    return unused;
+}
+
+static void *strike_first(void *unused) {
+    seddolki_strike(book, sizeof book, used, 0);
+    return unused;
+}
+
+static void *present_value(void *unused) {
+    uint64_t tolerance;
+    seddolki_present_value(1000000, 132500, 10949, &tolerance);
+    return unused;
+}
+
+/* Bytes of the stack that a call has touched, the thread's own included. */
+static size_t touched(void *(*call)(void *)) {
+    static uint8_t *stack;
+    if (!stack)
+        stack = mmap(NULL, STACK, PROT_READ | PROT_WRITE, MAP_PRIVATE | MAP_ANONYMOUS, -1, 0);
+    if (stack == MAP_FAILED) exit(1);
+    memset(stack, PAINT, STACK);
+    pthread_attr_t attributes;
+    pthread_t thread;
+    pthread_attr_init(&attributes);
+    if (pthread_attr_setstack(&attributes, stack, STACK)) exit(1);
+    if (pthread_create(&thread, &attributes, call, NULL)) exit(1);
+    pthread_join(thread, NULL);
+    size_t clean = 0;
+    while (clean < STACK && stack[clean] == PAINT) clean++;
+    return STACK - clean;
+}
+
+static void load(const char *name) {
+    FILE *file = fopen(name, "rb");
+    if (!file) perror(name), exit(1);
+    used = fread(book, 1, SEDDOLKI_LARGEST_BOOK, file);
+    fclose(file);
+}
+
+int main(int count, char **names) {
+    static const char *words[] = {"check", "margin", "read", "append", "strike", "present value"};
+    void *(*const calls[])(void *) = {check,     margin,       read_first,
+                                      append_it, strike_first, present_value};
+    size_t deepest[CALLS] = {0}, thread = touched(none);
+    for (int i = 1; i < count; i++) {
+        for (int call = 0; call < CALLS; call++) {
+            load(names[i]);
+            size_t bytes = touched(calls[call]) - thread;
+            if (bytes > deepest[call]) deepest[call] = bytes;
+        }
+    }
+    for (int call = 0; call < CALLS; call++) printf("%-14s %7zu\n", words[call], deepest[call]);
+    return 0;
+}

@@ -1,0 +1,35 @@
+//! A whole margin by the C interface, and how much work it is.
+
+use seddolki::{lent, Refusal, Report};
+use seddolki_model::accept::Book;
+use seddolki_model::block::BLOCK;
+use seddolki_model::layout::Layout;
+use seddolki_model::scenario::scenarios;
+use std::collections::BTreeSet;
+
+/// The report of a book, every byte of which is used.
+pub fn margin(book: &[u8]) -> Result<Report, Refusal> {
+    let mut report = [0; BLOCK];
+    Result::from(lent::margin(book, book.len(), &mut report))?;
+    Ok(Report::decode(&report))
+}
+
+/// How much there is to value.
+#[derive(Default)]
+pub struct Work {
+    pub flows: usize,
+    /// Days with flows times scenarios.
+    pub valuations: usize,
+}
+
+/// The work of a book's margin, summed over its curves.
+pub fn work(book: &Book) -> Work {
+    let mut work = Work::default();
+    for curve in &book.curves {
+        let flows = book.flows_on(curve);
+        let days: BTreeSet<u64> = flows.iter().map(|flow| flow.day).collect();
+        work.flows += flows.len();
+        work.valuations += days.len() * scenarios(curve).len();
+    }
+    work
+}

@@ -1,0 +1,111 @@
+//! Books whose scenarios are hard to tell apart by their losses.
+
+use crate::book::{draw_book, hold_to_work};
+use crate::draw::Draw;
+use crate::record::bring_within_limit;
+use seddolki_model::accept::Book;
+use seddolki_model::block::{Curve, Node};
+use seddolki_model::limits::{FULL_BLOCK, MAX_BLOCKS, MAX_RATE, MAX_STEPS};
+use seddolki_model::record::{Record, FIRST_SIDE, SECOND_SIDE};
+
+/// How a book's losses come near each other.
+#[derive(Clone, Copy, Debug, PartialEq, Eq, PartialOrd, Ord)]
+pub enum NearTies {
+    /// Amounts so small that rates move their values by a few kuruş.
+    SmallAmounts,
+    /// Beside each trade its opposite: every loss is 0, or nearly so.
+    Opposites,
+    /// One component, or each, is 0 at every node.
+    ZeroComponents,
+    /// Two components are alike, or each other's opposite.
+    AlikeComponents,
+    /// Components of a few millionths.
+    SmallComponents,
+    /// Components are 0 at every node but the last.
+    LastNode,
+    /// Rates at an end of their range, where stresses stop.
+    EndRates,
+}
+
+impl NearTies {
+    pub const ALL: [NearTies; 7] = [
+        NearTies::SmallAmounts,
+        NearTies::Opposites,
+        NearTies::ZeroComponents,
+        NearTies::AlikeComponents,
+        NearTies::SmallComponents,
+        NearTies::LastNode,
+        NearTies::EndRates,
+    ];
+}
+
+/// An accepted book of few trades and, as far as `work` allows, all
+/// scenarios, its losses near each other. `work` is as in `draw_book`.
+pub fn draw_near_ties(draw: &mut Draw, ties: NearTies, work: usize) -> Book {
+    let mut book = draw_book(draw, work);
+    book.trades.truncate(draw.within(1..=12) as usize);
+    match ties {
+        NearTies::SmallAmounts => make_amounts_small(draw, &mut book.trades),
+        NearTies::Opposites => add_opposites(draw, &mut book),
+        _ => {}
+    }
+    for curve in &mut book.curves {
+        curve.steps = [MAX_STEPS; 3];
+        bring_near(draw, ties, curve);
+    }
+    hold_to_work(&mut book, work);
+    book
+}
+
+fn make_amounts_small(draw: &mut Draw, trades: &mut [Record]) {
+    for trade in trades {
+        for amount in [&mut trade.nominal, &mut trade.repo_cash] {
+            *amount = (*amount).min(draw.within(1..=2_000));
+        }
+    }
+}
+
+/// As many as fit; now and then an amount is a kuruş lower.
+fn add_opposites(draw: &mut Draw, book: &mut Book) {
+    let most = (MAX_BLOCKS - 1 - book.curves.len()) * FULL_BLOCK;
+    for trade in book.trades.clone() {
+        let lower = u64::from(draw.once_in(4) && trade.nominal > 1);
+        let mut opposite = Record {
+            side: FIRST_SIDE + SECOND_SIDE - trade.side,
+            nominal: trade.nominal - lower,
+            ..trade
+        };
+        // a settled pool repo has flows on one side alone
+        bring_within_limit(&mut opposite, &book.curves);
+        if book.trades.len() < most {
+            book.trades.push(opposite);
+        }
+    }
+}
+
+fn bring_near(draw: &mut Draw, ties: NearTies, curve: &mut Curve) {
+    let whole = draw.once_in(3);
+    let (one, other) = (draw.place(3), draw.place(3));
+    let sign = draw.pick(&[1, -1]);
+    let end = draw.pick(&[0, MAX_RATE as u32]);
+    let last = curve.nodes().len() - 1;
+    for (place, node) in curve.places[..=last].iter_mut().enumerate() {
+        match ties {
+            NearTies::SmallAmounts | NearTies::Opposites => {}
+            NearTies::ZeroComponents if whole => node.components = [0; 3],
+            NearTies::ZeroComponents => node.components[one] = 0,
+            NearTies::AlikeComponents => node.components[one] = sign * node.components[other],
+            NearTies::SmallComponents => make_components_small(draw, node),
+            NearTies::LastNode if place < last => node.components = [0; 3],
+            NearTies::LastNode => {}
+            NearTies::EndRates => node.rate = end.abs_diff(draw.within(0..=500) as u32),
+        }
+    }
+    if ties == NearTies::AlikeComponents {
+        curve.ranges[one] = curve.ranges[other];
+    }
+}
+
+fn make_components_small(draw: &mut Draw, node: &mut Node) {
+    node.components = [(); 3].map(|()| draw.within(0..=20) as i32 - 10);
+}

@@ -1,0 +1,20 @@
+//! Calls on a book that uses all that is lent.
+
+use seddolki_books::{Call, Case, Draw};
+use seddolki_model::block::BLOCK;
+
+/// A call on a book's bytes.
+pub fn whole_case(bytes: Vec<u8>, call: Call) -> Case {
+    Case {
+        used: bytes.len(),
+        lent: bytes,
+        call,
+    }
+}
+
+/// The margin of a book, its space for the report at times longer than a block.
+pub fn margin_case(draw: &mut Draw, bytes: Vec<u8>) -> Case {
+    let behind = draw.place(9);
+    let report = draw.bytes(BLOCK + behind);
+    whole_case(bytes, Call::Margin { report })
+}
