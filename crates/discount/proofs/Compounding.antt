@@ -1,6 +1,6 @@
 -- Laws of `compound` and `power`: chains of products. Assumes nothing.
 use mathlib.Core.Path.{_≡_, refl, ap, sym, _∙_}
-use Prim.Native.Nat.{ℕ, zero, suc, _+_, _*_, _/_, _≤_, _<_}
+use Prim.Native.Nat.{ℕ, zero, suc, _+_, _-_, _*_, _/_, _≤_, _<_}
 use native.Mathlib.Nat.{le-refl, le-trans, mul-zero, zero-div, add-zero, add-suc}
 use native.Mathlib.Numerals.{add-one}
 use native.Mathlib.Omega.{arith}
@@ -28,6 +28,10 @@ pub compound-more : (a q k : ℕ) → compound a q (k + 1) ≡ product (compound
 unfolding compound
 compound-more a q k = rw add-one
 
+-- a chain's next product, as a loop takes it
+pub compound-next : (a q i : ℕ) {r s : ℕ} → s ≡ product r q → r ≡ compound a q i → s ≡ compound a q (i + 1)
+compound-next a q i h e = h ∙ ap (λ (n : ℕ). product n q) e ∙ sym (compound-more a q i)
+
 pub compound-none : (a q : ℕ) → compound a q 0 ≡ a
 unfolding compound
 compound-none a q = refl
@@ -37,6 +41,12 @@ pub compound-then : (a q k m : ℕ) → compound (compound a q k) q m ≡ compou
 unfolding compound
 compound-then a q k zero = ap (compound a q) (sym (add-zero k))
 compound-then a q k (suc m) = ap (λ (n : ℕ). product n q) (compound-then a q k m) ∙ ap (compound a q) (sym (add-suc k m))
+
+-- a chain in two runs, of j products and of the rest of k
+pub compound-rest : (x q j k : ℕ) {a b : ℕ} → j ≤ k → a ≡ compound x q j → b ≡ compound a q (k - j) → b ≡ compound x q k
+compound-rest x q j k h e f =
+    let s : j + (k - j) ≡ k = omega arith in
+    f ∙ ap (λ (n : ℕ). compound n q (k - j)) e ∙ compound-then x q j (k - j) ∙ ap (compound x q) s
 
 -- ---- powers
 

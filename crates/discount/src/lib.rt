@@ -3,6 +3,7 @@ pub mod daily;
 pub mod entry;
 pub mod factor;
 pub mod guess;
+pub mod pair;
 pub mod value;
 
 // A dated cash flow of an account: on which curve it is discounted, on which day it falls, whether it is received or paid, and how much.

@@ -11,7 +11,7 @@ use borrow.Author.Count.{below-more}
 use borrow.Author.Tests.{eq-eqb, ne-eqb}
 use lib.Dec.{eqb}
 use lib.IntN.{ℤ, _+ℤ_}
-use lib.ListN.{length, getD, set, length-set, List·getD-eq-default}
+use lib.ListN.{length, getD, set, replicate, length-set, length-replicate, getD-replicate, List·getD-eq-default}
 use lib.Seq.{getD-set-same, getD-set-other}
 use Rattle.laws.proofs.Tables.{table-by}
 use Rattle.laws.proofs.Walk.{length-table, getD-table}
@@ -23,7 +23,7 @@ use Rattle.discount.specs.Flows.{signed, total, sum, flowValue, flowTolerance}
 use Rattle.curve.specs.declared.Node.{Node}
 use Rattle.curve.specs.Rates.{rateAt}
 use Rattle.margin.specs.Totals.{plusFlows, noFlows, totalOn, AllFlowLimits}
-use Rattle.margin.specs.Factors.{dayCount, factorIn, FactorLimits, marked, AllMarked, factorsOn}
+use Rattle.margin.specs.Factors.{dayCount, factorIn, FactorLimits, marked, AllMarked, NextMarked, factorsOn}
 use Rattle.margin.proofs.Folds.{plusFlows-none}
 
 -- ---- days marked
@@ -85,10 +85,10 @@ module _ (nodes : List Node) (asked : List ℕ) where
   abbrev pub entry : ℕ → ℕ
   entry day = cond (eqb (getD asked day 0) 0) 0 (factor (rateAt nodes day) day)
 
-  pub entry-asked : (day : ℕ) → (getD asked day 0 ≡ 0 → ⊥) → entry day ≡ factor (rateAt nodes day) day
+  entry-asked : (day : ℕ) → (getD asked day 0 ≡ 0 → ⊥) → entry day ≡ factor (rateAt nodes day) day
   entry-asked day n = rw (ne-eqb (getD asked day 0) 0 n)
 
-  pub entry-none : (day : ℕ) → getD asked day 0 ≡ 0 → entry day ≡ 0
+  entry-none : (day : ℕ) → getD asked day 0 ≡ 0 → entry day ≡ 0
   entry-none day e = rw (eq-eqb (getD asked day 0) 0 e)
 
   entry-most : (day : ℕ) → entry day ≤ unit
@@ -130,25 +130,54 @@ module _ (nodes : List Node) (asked : List ℕ) where
         plusFlows-none (factorIn (factorsOn nodes asked)) fs
         ∙ ap (λ (z : ℤ). record { sum = z; tolerance = sum flowTolerance fs }) (same-values fs h m)
 
--- ---- a loop's: the entries of the days before this one are filled
+-- ---- a loop's: the entries of the days before this one are filled, and the others still 0
 
 pub record Filled (nodes : List Node) (asked factors : List ℕ) (day : ℕ) : Type 0 where
   pub most : day ≤ length asked
   pub places : length factors ≡ length asked
   pub done : (k : ℕ) → k < day → getD factors k 0 ≡ entry nodes asked k
+  pub rest : (k : ℕ) → day ≤ k → k < length asked → getD factors k 0 ≡ 0
 
 module _ (nodes : List Node) (asked factors : List ℕ) where
-  pub filled-none : length factors ≡ length asked → Filled nodes asked factors 0
-  filled-none e = record { most = omega arith; places = e; done = λ k h. absurd (omega arith) }
+  pub filled-none : factors ≡ replicate (length asked) 0 → Filled nodes asked factors 0
+  filled-none e =
+      record {
+        most = omega arith;
+        places = ap length e ∙ length-replicate (length asked) 0;
+        done = λ k h. absurd (omega arith);
+        rest = λ k l h. ap (λ (f : List ℕ). getD f k 0) e ∙ getD-replicate (length asked) k 0 0 h;
+      }
 
   module _ (day : ℕ) (h : Filled nodes asked factors day) where
-    pub filled-next : day < length asked → (x : ℕ) → x ≡ entry nodes asked day → Filled nodes asked (set factors day x) (day + 1)
-    filled-next l x e =
+    -- a marked day's factor is written
+    pub filled-next : day < length asked → (getD asked day 0 ≡ 0 → ⊥) → Filled nodes asked (set factors day (factor (rateAt nodes day) day)) (day + 1)
+    filled-next l n =
+        let x : ℕ = factor (rateAt nodes day) day in
         record {
           most = omega arith;
           places = length-set factors day x ∙ h .places;
-          done = below-more _ day (λ k m. getD-set-other factors day k x 0 (λ p. omega arith) ∙ h .done k m) (getD-set-same factors day x 0 (omega (arith, h .places)) ∙ e);
+          done =
+              below-more
+              _
+              day
+              (λ k m. getD-set-other factors day k x 0 (λ p. omega arith) ∙ h .done k m)
+              (getD-set-same factors day x 0 (omega (arith, h .places)) ∙ sym (entry-asked nodes asked day n));
+          rest = λ k m b. getD-set-other factors day k x 0 (λ p. omega arith) ∙ h .rest k (omega arith) b;
         }
+
+    -- days that are not marked are passed over
+    pub filled-skip : (next : ℕ) → NextMarked asked day next → Filled nodes asked factors next
+    filled-skip next m =
+        record {
+          most = m .most;
+          places = h .places;
+          done = λ k l. go k l (decLt k day);
+          rest = λ k l b. h .rest k (omega (arith, m .least)) b;
+        }
+      where
+        go : (k : ℕ) → k < next → Dec (k < day) → getD factors k 0 ≡ entry nodes asked k
+        go k l (yes b) = h .done k b
+        go k l (no b) = h .rest k (omega arith) (omega (arith, m .most)) ∙ sym (entry-none nodes asked k (m .between k l (omega arith)))
 
     pub filled-all : length asked ≤ day → factors ≡ factorsOn nodes asked
     unfolding factorsOn

@@ -3,7 +3,7 @@
 use mathlib.Core.Path.{_≡_}
 use mathlib.Core.Bool.{cond}
 use mathlib.Core.List.{List, [], _∷_}
-use Prim.Native.Nat.{ℕ, _≤_}
+use Prim.Native.Nat.{ℕ, _≤_, _<_}
 use lib.Dec.{eqb}
 use lib.ListN.{length, getD, set}
 use Rattle.laws.specs.Walk.{table}
@@ -34,6 +34,13 @@ marked (f ∷ fs) asked = marked fs (set asked (f .day) 1)
 abbrev pub AllMarked : List ℕ → List Flow → Type 0
 AllMarked asked [] = Unit {0}
 AllMarked asked (f ∷ fs) = (getD asked (f .day) 0 ≡ 1) × AllMarked asked fs
+
+-- the first marked day from a day on, or the number of days where none is left
+pub record NextMarked (asked : List ℕ) (from day : ℕ) : Type 0 where
+  pub least : from ≤ day
+  pub most : day ≤ length asked
+  pub between : (k : ℕ) → k < day → from ≤ k → getD asked k 0 ≡ 0
+  pub mark : day < length asked → getD asked day 0 ≡ 0 → ⊥
 
 -- of each marked day the factor at the rate that the nodes give, of any other 0
 unfoldable pub factorsOn : List Node → List ℕ → List ℕ

@@ -12,6 +12,7 @@ mod ffi {
         pub safe fn probe_chain(x: u64, q: u64, k: u64) -> u64;
         pub safe fn probe_guess(rate: u64) -> u64;
         pub safe fn probe_factor(rate: u64, days: u64) -> u64;
+        pub safe fn probe_factors(rate: u64, days: u64, other_rate: u64, other_days: u64) -> u64;
     }
 }
 
@@ -34,6 +35,11 @@ pub fn guess(rate: u64) -> u64 {
 /// The factor of a rate and some days; of one day it is the day's factor itself.
 pub fn factor(rate: u64, days: u64) -> u64 {
     ffi::probe_factor(rate, days)
+}
+
+/// The sum of two factors that are taken together.
+pub fn factors(rate: u64, days: u64, other_rate: u64, other_days: u64) -> u64 {
+    ffi::probe_factors(rate, days, other_rate, other_days)
 }
 
 /// The year's factor at a rate.

@@ -52,6 +52,26 @@ fn factors_are_those_of_128_bits() {
 }
 
 #[test]
+fn factors_taken_together_are_those_taken_alone() {
+    let mut next = numbers(17);
+    for turn in 0..20_000 {
+        let rate = if turn % 50 == 0 {
+            0
+        } else {
+            next() % (LIMIT + 1)
+        };
+        let (days, other, later) = (next() % 10_951, next() % (LIMIT + 1), next() % 10_951);
+        for (r, t, s, u) in [(rate, days, other, later), (other, later, rate, days)] {
+            assert_eq!(
+                factors(r, t, s, u),
+                factor(r, t) + factor(s, u),
+                "rate {r}, {t} days; rate {s}, {u} days"
+            );
+        }
+    }
+}
+
+#[test]
 fn products_are_those_of_128_bits() {
     let mut next = numbers(13);
     for _ in 0..1_000_000 {

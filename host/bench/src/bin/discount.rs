@@ -1,4 +1,4 @@
-//! Times of the discount engine: a product in a chain, a factor at a rate not seen before, and bisection beside it.
+//! Times of the discount engine: a product in a chain, a factor at a rate not seen before, alone and with another, and bisection beside it.
 use seddolki_bench::*;
 use std::hint::black_box;
 
@@ -19,6 +19,11 @@ fn main() {
         })
     };
     let (half_year, last_day) = (over(182), over(10_950 - 1));
+    let together = best(rates.len(), || {
+        rates
+            .chunks(2)
+            .fold(0, |z, r| z ^ factors(r[0], 182, r[1], 183))
+    });
     let halves = best(20, || {
         rates[..20].iter().fold(0, |z, &r| z ^ daily_by_halves(r))
     });
@@ -26,6 +31,10 @@ fn main() {
     println!(
         "a factor of 182 days        {half_year:10.0} ns = {:.0} products",
         half_year / product
+    );
+    println!(
+        "the same, two together      {together:10.0} ns = {:.0} products",
+        together / product
     );
     println!(
         "a factor of 10,949 days     {last_day:10.0} ns = {:.0} products",

@@ -1,11 +1,11 @@
 -- `discount::daily::run` meets its contract. The invariant: after i turns each chain is its product taken i times. The measure is what is left of k.
 -- Assumes nothing.
 use mathlib.Core.Path.{_≡_, sym, ap, _∙_}
-use Prim.Native.Nat.{ℕ, _+_, _-_, _≤_}
+use Prim.Native.Nat.{_+_, _-_, _≤_}
 use native.Mathlib.Omega.{arith}
-use Rattle.decimal.specs.Product.{unit, product}
+use Rattle.decimal.specs.Product.{unit}
 use Rattle.discount.specs.Discount.{compound}
-use Rattle.discount.proofs.Compounding.{compound-le, compound-more, compound-none}
+use Rattle.discount.proofs.Compounding.{compound-le, compound-next, compound-none}
 use Rattle.discount.proofs.daily.run.Statement.{statement}
 use Rattle.discount.proofs.daily.run.Tie as tie
 
@@ -14,10 +14,6 @@ Inv-loop x z q k next low₀ high₀ i₀ low high i = (i ≤ k) × (low ≡ com
 
 abbrev μ-loop : tie.MeasureT-loop
 μ-loop x z q k next low₀ high₀ i₀ low high i = k - i
-
--- a chain's next product
-more : (x q i : ℕ) {r s : ℕ} → s ≡ product r q → r ≡ compound x q i → s ≡ compound x q (i + 1)
-more x q i h e = h ∙ ap (λ (n : ℕ). product n q) e ∙ sym (compound-more x q i)
 
 add-next : tie.Need-add-next Inv-loop μ-loop
 unfolding unit
@@ -47,8 +43,8 @@ loop-again c =
     let head = c .before .before .before in
     let a = head .before .args in (
       omega arith,
-      more (a .x) (a .q) (head .loop .i) (c .before .multiply .ensures) (head .loop .inv .1),
-      more (a .z) (a .q + 1) (head .loop .i) (c .multiply2 .ensures) (head .loop .inv .2),
+      compound-next (a .x) (a .q) (head .loop .i) (c .before .multiply .ensures) (head .loop .inv .1),
+      compound-next (a .z) (a .q + 1) (head .loop .i) (c .multiply2 .ensures) (head .loop .inv .2),
     )
 
 returns : tie.Need-returns Inv-loop μ-loop

@@ -5,8 +5,8 @@ use mathlib.Core.Path.{_≡_, sym, ap, _∙_}
 use Prim.Native.Nat.{ℕ, _+_, _-_, _≤_, _<_}
 use native.Mathlib.Omega.{arith}
 use Rattle.decimal.specs.Product.{unit}
-use Rattle.discount.specs.Discount.{year, compound, power, root}
-use Rattle.discount.proofs.Compounding.{compound-le, compound-then}
+use Rattle.discount.specs.Discount.{year, power, root}
+use Rattle.discount.proofs.Compounding.{compound-le, compound-rest}
 use Rattle.discount.proofs.Roots.{root-lt, root-ge, root-below, root-is}
 use Rattle.discount.proofs.daily.search.Statement.{statement}
 use Rattle.discount.proofs.daily.search.Tie as tie
@@ -16,13 +16,6 @@ Inv-loop from k y q₀ q = q < unit
 
 abbrev μ-loop : tie.MeasureT-loop
 μ-loop from k y q₀ q = (root y - q) + (q - root y)
-
--- a chain in two runs, of k products and of the rest of 365, is the power by 365
-whole : (q k : ℕ) {a b : ℕ} → k ≤ year → a ≡ compound unit q k → b ≡ compound a q (365 - k) → b ≡ power q year
-unfolding year power
-whole q k h e f =
-    let s : k + (365 - k) ≡ 365 = omega arith in
-    f ∙ ap (λ (n : ℕ). compound n q (365 - k)) e ∙ compound-then unit q k (365 - k) ∙ ap (compound unit q) s
 
 -- after both runs, with y, k and q: the two powers
 module _ (c : tie.After-run2 Inv-loop μ-loop) where
@@ -36,12 +29,12 @@ module _ (c : tie.After-run2 Inv-loop μ-loop) where
   short = c .before .before .before .pre .2
 
   low-is : c .run2 .result .0 ≡ power q year
-  unfolding unit
-  low-is = whole q (c .before .before .before .args .k) short (c .before .run .ensures .0) (c .run2 .ensures .0)
+  unfolding unit year power
+  low-is = compound-rest unit q (c .before .before .before .args .k) 365 short (c .before .run .ensures .0) (c .run2 .ensures .0)
 
   high-is : c .run2 .result .1 ≡ power (q + 1) year
-  unfolding unit
-  high-is = whole (q + 1) (c .before .before .before .args .k) short (c .before .run .ensures .1) (c .run2 .ensures .1)
+  unfolding unit year power
+  high-is = compound-rest unit (q + 1) (c .before .before .before .args .k) 365 short (c .before .run .ensures .1) (c .run2 .ensures .1)
 
   too-large : y < c .run2 .result .0 → root y < q
   too-large h = root-lt y q (omega (arith, low-is))

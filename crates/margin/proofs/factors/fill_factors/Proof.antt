@@ -1,67 +1,121 @@
--- `margin::factors::fill_factors` meets its contract: the entries of the days passed are what they are to be. Assumes nothing.
+-- `margin::factors::fill_factors` meets its contract: the entries of the days passed are what they are to be, the others still 0, and the day stood at is
+-- marked. Assumes nothing.
 use borrow.Author.Needs.{needs}
 use mathlib.Core.Path.{_≡_, sym, ap, _∙_}
-use mathlib.Core.Logic.{⊎-elim}
-use Prim.Native.Nat.{ℕ, _-_}
+use Prim.Native.Nat.{ℕ, _+_, _-_, _<_}
 use native.Mathlib.Omega.{arith}
-use Rattle.curve.specs.Rates.{nodesOf}
+use lib.ListN.{length, getD, set, length-set}
+use Rattle.curve.specs.Rates.{nodesOf, rateAt}
 use Rattle.curve.proofs.Rates.{curve-rate-limit}
 use Rattle.discount.specs.Discount.{million, factor}
-use Rattle.margin.proofs.DayFactors.{entry, entry-asked, entry-none, Filled, filled-none, filled-next, filled-all}
+use Rattle.margin.proofs.DayFactors.{Filled, filled-none, filled-next, filled-skip, filled-all}
 use Rattle.margin.proofs.factors.fill_factors.Statement.{statement}
 use Rattle.margin.proofs.factors.fill_factors.Tie as tie
 
 abbrev Inv-loop : tie.InvT-loop
 Inv-loop curve asked factors₀ n day₀ factors day =
-    Filled (nodesOf curve) asked factors day
+    Filled (nodesOf curve) asked factors day × (day < length asked → getD asked day 0 ≡ 0 → ⊥)
 
 abbrev μ-loop : tie.MeasureT-loop
 μ-loop curve asked factors₀ n day₀ factors day = n - day
 
+all-places : (s : tie.Start Inv-loop μ-loop) → length (s .args .factors .now) ≡ length (s .args .asked .now)
+all-places s = filled-none (nodesOf (s .args .curve)) (s .args .asked .now) (s .args .factors .now) (s .pre .1) .places
+
+-- with the factor of the day written, all is filled as far as the other day
+module _ (c : tie.After-next-marked2 Inv-loop μ-loop) where
+  abbrev start : tie.Start Inv-loop μ-loop
+  start = c .before .before .before .before .before .before
+
+  abbrev day : ℕ
+  day = c .before .before .loop .day
+
+  passed : Filled (nodesOf (start .args .curve)) (start .args .asked .now) (set (c .before .before .loop .factors) day (factor (rateAt (nodesOf (start .args .curve)) day) day)) (c .next-marked2 .result)
+  passed =
+      let inv = c .before .before .loop .inv in
+      let here = c .before .loop-test .taken in
+      filled-skip _ _ _ (day + 1) (filled-next _ _ _ day (inv .0) here (inv .1 here)) _ (c .next-marked2 .ensures)
+
+-- and where there is another day, it is one of the days
+other-below : (c : tie.Else1 Inv-loop μ-loop) → c .before .next-marked2 .result < length (start (c .before) .args .asked .now)
+other-below c = omega (arith, c .before .next-marked2 .ensures .most, c .if1 .left)
+
+next-marked-requires : tie.Need-next-marked-requires Inv-loop μ-loop
+next-marked-requires c κs = omega arith
+
 loop-holds : tie.Need-loop-holds Inv-loop μ-loop
-loop-holds c = filled-none _ _ _ (c .before .before .pre .1)
+loop-holds c =
+    let s = c .before .before .before in
+    (filled-skip _ _ _ 0 (filled-none _ _ _ (s .pre .1)) _ (c .next-marked .ensures), c .next-marked .ensures .mark)
 
-mul-if1 : tie.Need-mul-if1 Inv-loop μ-loop
-mul-if1 c = search needs
+add-next-marked : tie.Need-add-next-marked Inv-loop μ-loop
+add-next-marked c = search needs
 
-shared-slice-read-if1 : tie.Need-shared-slice-read-if1 Inv-loop μ-loop
-shared-slice-read-if1 c = search needs
+next-marked-requires-2 : tie.Need-next-marked-requires-2 Inv-loop μ-loop
+next-marked-requires-2 c κs = search needs
 
 rate-at-requires : tie.Need-rate-at-requires Inv-loop μ-loop
 rate-at-requires c κs = search needs
 
 factor-requires : tie.Need-factor-requires Inv-loop μ-loop
 unfolding million
-factor-requires c κs = rw (c .rate-at .ensures) (curve-rate-limit _ (c .before .before .before .before .before .before .before .pre .0) _)
+factor-requires c κs =
+    rw (c .rate-at .ensures) (curve-rate-limit _ (c .before .before .before .before .before .before .before .before .pre .0) _)
 
 mul-factors : tie.Need-mul-factors Inv-loop μ-loop
 mul-factors c = search needs
 
 slice-write-factors : tie.Need-slice-write-factors Inv-loop μ-loop
-slice-write-factors c = search needs
+slice-write-factors c =
+    let at = c .before .before .before in
+    omega (arith, at .before .before .loop .inv .0 .places, at .before .loop-test .taken)
 
-add-day : tie.Need-add-day Inv-loop μ-loop
-add-day c = search needs
+same-length : tie.Need-same-length Inv-loop μ-loop
+same-length c =
+    let at = c .before .before .before in
+    let head = at .before .before in
+    length-set (head .loop .factors) (head .loop .day) (c .factor .result .0) ∙ head .loop .inv .0 .places ∙ sym (all-places (at .before .before .before .before .before .before))
+
+returns : tie.Need-returns Inv-loop μ-loop
+returns c =
+    let at = c .before .before .before in
+    let d = at .before .before .loop .day in
+    let e = c .factor .ensures .0 ∙ ap (λ (r : ℕ). factor r d) (c .before .rate-at .ensures) in
+    ap (set (at .before .before .loop .factors) d) e ∙ filled-all _ _ _ _ (passed at) (omega (arith, c .before .before .if1 .taken))
+
+fill-pair-requires : tie.Need-fill-pair-requires Inv-loop μ-loop
+fill-pair-requires c κs =
+    let at = c .before .before in
+    let inv = at .before .before .loop .inv in (
+      at .before .before .before .before .before .before .pre .0,
+      omega (arith, inv .0 .places, at .before .loop-test .taken),
+      omega (arith, inv .0 .places, other-below (c .before)),
+    )
+
+add-next-marked-2 : tie.Need-add-next-marked-2 Inv-loop μ-loop
+add-next-marked-2 c = omega (arith, other-below (c .before .before .before .before))
+
+next-marked-requires-3 : tie.Need-next-marked-requires-3 Inv-loop μ-loop
+next-marked-requires-3 c κs = omega (arith, other-below (c .before .before .before .before))
 
 loop-less : tie.Need-loop-less Inv-loop μ-loop
-loop-less c = search needs
+loop-less c =
+    let at = c .before .before .before .before .before .before in
+    omega (arith, at .before .loop-test .taken, at .next-marked2 .ensures .least, c .next-marked3 .ensures .least)
 
 loop-again : tie.Need-loop-again Inv-loop μ-loop
 loop-again c =
-    let s = c .before .before .before .before .before .before in
-    let d = c .before .before .before .loop .day in
-    let nodes = nodesOf (s .args .curve) in
-    let x : c .if1 .parts ≡ entry nodes (s .args .asked .now) d =
-    ⊎-elim
-    (λ w. w .3 ∙ w .2 .ensures .0 ∙ ap (λ (r : ℕ). factor r d) (w .1 .ensures) ∙ sym (entry-asked nodes (s .args .asked .now) d (w .0 .taken)))
-    (λ w. w .1 ∙ sym (entry-none nodes (s .args .asked .now) d (w .0 .left))) (c .if1 .came) in
-    filled-next _ _ _ _ (c .before .before .before .loop .inv) (search needs) _ x
+    let other = c .before .before .before .before .before in
+    let at = other .before in
+    let both = filled-next _ _ _ _ (passed at) (other-below other) (at .next-marked2 .ensures .mark (other-below other)) in
+    (rw (c .before .before .before .fill-pair .ensures) (filled-skip _ _ _ _ both _ (c .next-marked3 .ensures)), c .next-marked3 .ensures .mark)
 
-same-length : tie.Need-same-length Inv-loop μ-loop
-same-length c = omega (arith, c .before .loop .inv .places, c .before .before .before .before .pre .1)
+same-length-2 : tie.Need-same-length-2 Inv-loop μ-loop
+same-length-2 c =
+    c .before .loop .inv .0 .places ∙ sym (all-places (c .before .before .before .before .before))
 
-returns : tie.Need-returns Inv-loop μ-loop
-returns c = filled-all _ _ _ _ (c .before .loop .inv) (search needs)
+returns-2 : tie.Need-returns-2 Inv-loop μ-loop
+returns-2 c = filled-all _ _ _ _ (c .before .loop .inv .0) (c .loop-test .left)
 
 pub fill-factors-spec : {M : Type 1} → statement M
 fill-factors-spec =
@@ -69,15 +123,20 @@ fill-factors-spec =
     (tie.spec
     Inv-loop
     μ-loop
+    next-marked-requires
     loop-holds
-    mul-if1
-    shared-slice-read-if1
+    add-next-marked
+    next-marked-requires-2
     rate-at-requires
     factor-requires
     mul-factors
     slice-write-factors
-    add-day
+    same-length
+    returns
+    fill-pair-requires
+    add-next-marked-2
+    next-marked-requires-3
     loop-less
     loop-again
-    same-length
-    returns)
+    same-length-2
+    returns-2)

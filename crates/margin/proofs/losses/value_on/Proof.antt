@@ -2,6 +2,7 @@
 use mathlib.Core.Path.{sym, _∙_, ap}
 use mathlib.Core.List.{List}
 use Prim.Native.Nat.{ℕ}
+use lib.ListN.{replicate}
 use Rattle.margin.specs.Totals.{plusFlows, noFlows}
 use Rattle.margin.specs.Factors.{factorIn}
 use Rattle.margin.specs.Ladder.{ladderFlows}
@@ -17,7 +18,7 @@ slice-aggregate-fill-factors c = search needs
 fill-factors-requires : tie.Need-fill-factors-requires
 fill-factors-requires c κs =
     let p = c .before .before .before .pre in
-    (p .proper, sym (p .places))
+    (p .proper, ap (λ (n : ℕ). replicate n 0) (sym (p .places)))
 
 slice-aggregate-value-of : tie.Need-slice-aggregate-value-of
 slice-aggregate-value-of c = search needs

@@ -1,10 +1,9 @@
 -- `discount::factor::Factor::compound` meets its contract. The invariant: after i turns r is the product taken i times. Assumes nothing.
 use mathlib.Core.Path.{_≡_, sym, ap, _∙_}
-use Prim.Native.Nat.{ℕ, _-_, _≤_}
+use Prim.Native.Nat.{_-_, _≤_}
 use native.Mathlib.Omega.{arith}
-use Rattle.decimal.specs.Product.{product}
 use Rattle.discount.specs.Discount.{compound}
-use Rattle.discount.proofs.Compounding.{compound-le, compound-more, compound-none}
+use Rattle.discount.proofs.Compounding.{compound-le, compound-next, compound-none}
 use Rattle.discount.proofs.factor.Factor.compound.Statement.{statement}
 use Rattle.discount.proofs.factor.Factor.compound.Tie as tie
 
@@ -32,7 +31,7 @@ loop-again : tie.Need-loop-again Inv-loop μ-loop
 loop-again c =
     let head = c .before .before in
     let a = head .before .args in
-    (omega arith, c .multiply .ensures ∙ ap (λ (n : ℕ). product n (a .other .0)) (head .loop .inv .1) ∙ sym (compound-more (a .self .0) (a .other .0) (head .loop .i)))
+    (omega arith, compound-next (a .self .0) (a .other .0) (head .loop .i) (c .multiply .ensures) (head .loop .inv .1))
 
 returns : tie.Need-returns Inv-loop μ-loop
 returns c =
