@@ -5,7 +5,7 @@ use crate::draw::Draw;
 use crate::record::bring_within_limit;
 use seddolki_model::accept::Book;
 use seddolki_model::block::{Curve, Node};
-use seddolki_model::limits::{FULL_BLOCK, MAX_BLOCKS, MAX_RATE, MAX_STEPS};
+use seddolki_model::limits::{MAX_RATE, MAX_STEPS};
 use seddolki_model::record::{Record, FIRST_SIDE, SECOND_SIDE};
 
 /// How a book's losses come near each other.
@@ -39,11 +39,14 @@ impl NearTies {
     ];
 }
 
+/// So few that each can have its opposite.
+const MOST_TRADES: u64 = 12;
+
 /// An accepted book of few trades and, as far as `work` allows, all
 /// scenarios, its losses near each other. `work` is as in `draw_book`.
 pub fn draw_near_ties(draw: &mut Draw, ties: NearTies, work: usize) -> Book {
     let mut book = draw_book(draw, work);
-    book.trades.truncate(draw.within(1..=12) as usize);
+    book.trades.truncate(draw.within(1..=MOST_TRADES) as usize);
     match ties {
         NearTies::SmallAmounts => make_amounts_small(draw, &mut book.trades),
         NearTies::Opposites => add_opposites(draw, &mut book),
@@ -65,9 +68,8 @@ fn make_amounts_small(draw: &mut Draw, trades: &mut [Record]) {
     }
 }
 
-/// As many as fit; now and then an amount is a kuruş lower.
+/// Now and then an amount is a kuruş lower.
 fn add_opposites(draw: &mut Draw, book: &mut Book) {
-    let most = (MAX_BLOCKS - 1 - book.curves.len()) * FULL_BLOCK;
     for trade in book.trades.clone() {
         let lower = u64::from(draw.once_in(4) && trade.nominal > 1);
         let mut opposite = Record {
@@ -77,9 +79,7 @@ fn add_opposites(draw: &mut Draw, book: &mut Book) {
         };
         // a settled pool repo has flows on one side alone
         bring_within_limit(&mut opposite, &book.curves);
-        if book.trades.len() < most {
-            book.trades.push(opposite);
-        }
+        book.trades.push(opposite);
     }
 }
 
