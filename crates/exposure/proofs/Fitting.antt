@@ -13,10 +13,10 @@ use Rattle.flows.specs.Legs.{flowsOf}
 use Rattle.flows.proofs.Bounded.{FlowBounds, flows-bounded}
 use Rattle.book.specs.Parts.{curvesOf, tradeCount, recordAt}
 use Rattle.book.proofs.Accepted.{Sound, trade-count-most}
+use Rattle.laws.proofs.All.{all-append}
 use Rattle.margin.specs.Exposure.{flowsOn}
-use Rattle.margin.specs.Totals.{AllFlowLimits}
+use Rattle.margin.specs.Totals.{FlowLimits, AllFlowLimits}
 use Rattle.margin.proofs.Accounts.{FlowsFit}
-use Rattle.margin.proofs.LadderFlows.{limits-append}
 use Rattle.exposure.specs.Exposures.{tradeAt, flowsUpTo, flowsIn, exposureAt}
 use Rattle.exposure.proofs.Collected.{more-flows, no-flows, on-few, few-flows, accepted-at}
 
@@ -39,7 +39,7 @@ module _ (s : List ℕ) (used : ℕ) (b : Sound s used) where
   flows-limits (suc i) l =
       let more : flowsUpTo s (suc i) ≡ flowsUpTo s i ++ flowsOf (tradeAt s i) = ap (flowsUpTo s) (sym (add-one i)) ∙ more-flows s i in
       rw more
-      (limits-append (flowsUpTo s i) (flowsOf (tradeAt s i)) (flows-limits i (omega arith))
+      (all-append FlowLimits (flowsUpTo s i) (flowsOf (tradeAt s i)) (flows-limits i (omega arith))
       (bounded (curvesOf s .count) (flowsOf (tradeAt s i)) (flows-bounded (fieldsOf (recordAt s i)) (accepted-at s used b i (omega arith)))))
 
   pub exposure-fits : (curve : ℕ) → FlowsFit (exposureAt s curve)

@@ -10,6 +10,7 @@ use borrow.Author.Tests.{eq-eqb, ne-eqb, eqb-false}
 use lib.Dec.{eqb}
 use lib.ListN.{length}
 use Rattle.laws.specs.Walk.{table}
+use Rattle.laws.proofs.All.{all-append, all-table}
 use Rattle.laws.proofs.Walk.{length-table}
 use Rattle.laws.proofs.Tables.{table-step, table-end}
 use Rattle.decimal.specs.Product.{unit}
@@ -55,11 +56,6 @@ module _ (l : List ℕ) (i j : ℕ) (h : ScheduleLimits l i) (k : j < payments l
 
 -- ---- a schedule
 
-limits-table : (f : ℕ → Flow) (i n : ℕ) → ((j : ℕ) → j < i + n → FlowLimits (f j)) → AllFlowLimits (table f i n)
-unfolding table
-limits-table f i zero h = tt
-limits-table f i (suc n) h = (h i (omega arith), limits-table f (suc i) n (λ j k. h j (omega arith)))
-
 module _ (curve : ℕ) (l : List ℕ) (i : ℕ) where
   pub length-schedule : length (scheduleFlows curve l i) ≡ payments l i
   unfolding scheduleFlows
@@ -75,7 +71,7 @@ module _ (curve : ℕ) (l : List ℕ) (i : ℕ) where
 
   pub schedule-limits : ScheduleLimits l i → AllFlowLimits (scheduleFlows curve l i)
   unfolding scheduleFlows
-  schedule-limits h = limits-table (payment curve l i) 0 (payments l i) (λ j k. payment-limits l i j h (omega arith) curve)
+  schedule-limits h = all-table FlowLimits (payment curve l i) 0 (payments l i) (λ j b k. payment-limits l i j h (omega arith) curve)
 
 -- ---- the ladder
 
@@ -96,16 +92,12 @@ module _ (curve : ℕ) (l : List ℕ) (n : ℕ) where
   unfolding flowsFrom flatMap
   flows-end i h = rw (table-end (λ i. i) i n h)
 
-pub limits-append : (xs ys : List Flow) → AllFlowLimits xs → AllFlowLimits ys → AllFlowLimits (xs ++ ys)
-limits-append [] ys h k = k
-limits-append (x ∷ xs) ys h k = (h .0, limits-append xs ys (h .1) k)
-
 module _ (curve : ℕ) (l : List ℕ) where
   limits-from : (i n : ℕ) → ((j : ℕ) → j < i + n → ScheduleLimits l j) → AllFlowLimits (flatMap (scheduleFlows curve l) (table (λ i. i) i n))
   unfolding table flatMap
   limits-from i zero h = tt
   limits-from i (suc n) h =
-      limits-append (scheduleFlows curve l i) _ (schedule-limits curve l i (h i (omega arith)))
+      all-append FlowLimits (scheduleFlows curve l i) _ (schedule-limits curve l i (h i (omega arith)))
       (limits-from (suc i) n (λ j k. h j (omega arith)))
 
   pub ladder-limits : (n : ℕ) → LadderLimits l n → AllFlowLimits (ladderFlows curve l n)

@@ -6,6 +6,7 @@ use mathlib.Core.List.{List, [], _∷_}
 use Prim.Native.Nat.{ℕ, _≤_, _<_}
 use lib.Dec.{eqb}
 use lib.ListN.{length, getD, set}
+use Rattle.laws.specs.All.{All}
 use Rattle.laws.specs.Walk.{table}
 use Rattle.decimal.specs.Product.{unit}
 use Rattle.discount.specs.Discount.{factor}
@@ -32,8 +33,7 @@ marked (f ∷ fs) asked = marked fs (set asked (f .day) 1)
 
 -- the day of every flow is marked
 abbrev pub AllMarked : List ℕ → List Flow → Type 0
-AllMarked asked [] = Unit {0}
-AllMarked asked (f ∷ fs) = (getD asked (f .day) 0 ≡ 1) × AllMarked asked fs
+AllMarked asked fs = All (λ f. getD asked (f .day) 0 ≡ 1) fs
 
 -- the first marked day from a day on, or the number of days where none is left
 pub record NextMarked (asked : List ℕ) (from day : ℕ) : Type 0 where

@@ -2,6 +2,7 @@
 use mathlib.Core.List.{List, [], _∷_}
 use Prim.Native.Nat.{ℕ, _+_, _*_, _≤_}
 use lib.IntN.{pos, natAbs, _+ℤ_}
+use Rattle.laws.specs.All.{All}
 use Rattle.decimal.specs.Product.{unit, product}
 use Rattle.discount.specs.declared.Flow.{Flow}
 use Rattle.discount.specs.Flows.{signed, sum, flowValue, flowTolerance}
@@ -36,8 +37,7 @@ pub record FlowLimits (f : Flow) : Type 0 where
 
 -- every flow of a list is
 abbrev pub AllFlowLimits : List Flow → Type 0
-AllFlowLimits [] = Unit {0}
-AllFlowLimits (f ∷ fs) = FlowLimits f × AllFlowLimits fs
+AllFlowLimits fs = All FlowLimits fs
 
 -- the largest number of flows on a curve: no sum of theirs leaves 64 bits
 abbrev pub mostFlows : ℕ

@@ -1,6 +1,7 @@
 // Inner functions of the engine, exported for the host's benchmark and tests. The engine does not use this crate.
 ghost use mathlib.Core.Path.{_≡_};
 ghost use Prim.Native.Nat.{_+_, _%_, _≤_};
+ghost use Rattle.decimal.specs.Product.{unit};
 ghost use Rattle.discount.specs.Discount.{million, factor, compound};
 use discount::factor::Factor;
 use discount::guess::guess;
@@ -22,9 +23,12 @@ pub extern "C" fn probe_chain(x: u64, q: u64, k: u64) -> u64
     from.compound(factor, k).0
 }
 
-// The guess of the day's factor at a rate; one at rate 0, where none is made.
+// The guess of the day's factor at a rate; one at rate 0, where none is made. A guess promises no more than to be a factor: a test counts how often it is
+// right.
 #[no_mangle]
-pub extern "C" fn probe_guess(rate: u64) -> u64 {
+pub extern "C" fn probe_guess(rate: u64) -> u64
+    ensures { λ r. ⌜ r ≤ unit ⌝ }
+{
     let yearly = Factor::yearly(rate_of(rate));
     if yearly.0 == Factor::UNIT {
         return yearly.0;
