@@ -1,4 +1,4 @@
--- `probe::probe_guess` meets its contract, which says nothing of a guess but that one is made. Assumes nothing.
+-- `probe::probe_guess` meets its contract, which says of a guess that it is a factor. Assumes nothing.
 use native.Mathlib.Omega.{arith}
 use borrow.Author.Needs.{needs}
 use Rattle.decimal.specs.Product.{unit}
@@ -19,7 +19,8 @@ unfolding unit
 guess-requires c κs = omega (arith, c .before .before .yearly .ensures .1, c .if1 .left)
 
 returns-2 : tie.Need-returns-2
-returns-2 c = search needs
+unfolding unit
+returns-2 c = omega (arith, c .guess .ensures)
 
 pub probe-guess-spec : {M : Type 1} → statement M
 probe-guess-spec = tie.close (tie.spec rate-of-requires yearly-requires returns guess-requires returns-2)
