@@ -82,7 +82,7 @@ static size_t field(const uint8_t *bytes) { return bytes[0] | (size_t)bytes[1] <
 
 /* Flows times scenarios that are valued at most. */
 #ifndef WORK
-#define WORK 20000
+#define WORK 200000
 #endif
 
 /* Whether an accepted book's flows times scenarios are few. */

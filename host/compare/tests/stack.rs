@@ -1,6 +1,6 @@
 //! The stack that a call needs.
 
-use seddolki_books::{assemble, draw_book, typical_book, Call, Draw};
+use seddolki_books::{assemble, draw_book, full_book, typical_book, Call, Draw};
 use seddolki_compare::{whole_case, Proved};
 use seddolki_model::block::BLOCK;
 use seddolki_model::limits::MAX_BLOCKS;
@@ -53,9 +53,8 @@ fn every_call_on_a_full_book_keeps_to_its_stack() {
 
 #[test]
 fn a_margin_of_all_scenarios_keeps_to_its_stack() {
-    let report = vec![0; BLOCK];
-    assert_eq!(
-        number(assemble(&typical_book()), Call::Margin { report }),
-        0
-    );
+    for book in [typical_book(), full_book()] {
+        let report = vec![0; BLOCK];
+        assert_eq!(number(assemble(&book), Call::Margin { report }), 0);
+    }
 }
