@@ -1,4 +1,4 @@
--- A present value and the exact value are at most the tolerance apart. Assumes nothing.
+-- A present value and the exact value are at most the tolerance apart.
 use Prim.Native.Nat.{ℕ, suc, _+_, _-_, _*_, _^_, _≤_, _<_}
 use native.Mathlib.Nat.{mul-sub, mul-le-mul-left, mul-le-mul-right, le-of-mul-le-mul-right, lt-of-mul-lt-mul-right, lt-div-mul-add, pow-le-pow-left, one-le-pow}
 use native.Mathlib.Omega.{arith}

@@ -1,4 +1,4 @@
--- The exact value: it passes the power inequality, and whatever passes it is no larger. Assumes nothing.
+-- The exact value: it passes the power inequality, and whatever passes it is no larger.
 use mathlib.Core.Path.{_≡_, refl}
 use Prim.Native.Nat.{ℕ, suc, _+_, _*_, _^_, _≤_, _<_, zero-le}
 use native.Mathlib.Nat.{le-trans, lt-irrefl, lt-of-not-le, lt-of-lt-of-le, mul-le-mul-left, mul-le-mul-right, le-of-mul-le-mul-right, zero-mul, pow-le-pow-left, one-le-pow}

@@ -1,4 +1,4 @@
--- The factor of a rate and a day: its bounds, and its distance from the root of (million / (million + rate)) ^ days. Assumes nothing.
+-- The factor of a rate and a day: its bounds, and its distance from the root of (million / (million + rate)) ^ days.
 use mathlib.Core.Path.{_≡_, ap, _∙_}
 use Prim.Native.Nat.{ℕ, suc, _+_, _-_, _*_, _/_, _%_, _^_, _≤_}
 use native.Mathlib.Nat.{le-refl, le-trans, mul-le-mul-right, div-add-mod', zero-mul, zero-add, add-zero, sub-zero}
@@ -7,10 +7,10 @@ use Rattle.decimal.specs.Product.{unit}
 use Rattle.decimal.proofs.Products.{unit-pos}
 use Rattle.discount.specs.Discount.{million, year, compound, power, yearly, root, daily, factor, products}
 use Rattle.discount.proofs.Compounding.{compound-le, compound-mono, compound-grows, power-le, power-mono, power-one}
-use Rattle.discount.proofs.Steps.{low, high}
+use Rattle.discount.proofs.Steps.{compound-low, compound-high}
 use Rattle.discount.proofs.Years.{year-low, year-high}
 use Rattle.discount.proofs.Roots.{yearly-low, yearly-high, yearly-le, yearly-falls, root-le, root-one, root-mono}
-use Rattle.discount.proofs.RootBounds.{Over, over, under}
+use Rattle.discount.proofs.RootBounds.{DailyOver, daily-over, daily-under}
 
 -- ---- the factor of n years and k days, against the root of (million / (million + r)) ^ days
 
@@ -27,14 +27,14 @@ module _ (r n k : ℕ) where
       let p : ℕ = compound unit q k in
       let f : ℕ = compound p (yearly r) n in
       let years : (f - 2 * k) * (million + r) ^ n ≤ (p - 2 * k) * million ^ n =
-      simp (zero-mul, add-zero) at (high (yearly r) million (million + r) 0 (omega (arith, yearly-low r)) (omega arith) p (2 * k) n days-le (yearly-le r)) in
+      simp (zero-mul, add-zero) at (compound-high (yearly r) million (million + r) 0 (omega (arith, yearly-low r)) (omega arith) p (2 * k) n days-le (yearly-le r)) in
       let near : q * unit ≤ (q - 2 + 2) * unit = mul-le-mul-right unit (omega arith) in
       let rest : (p - 2 * k) * unit ^ k ≤ unit * (q - 2) ^ k =
-      simp (zero-add, sub-zero) at (high q (q - 2) unit 2 (omega arith) (omega (arith, root-le (yearly r))) unit 0 k (le-refl unit) (root-le (yearly r))) in
+      simp (zero-add, sub-zero) at (compound-high q (q - 2) unit 2 (omega arith) (omega (arith, root-le (yearly r))) unit 0 k (le-refl unit) (root-le (yearly r))) in
       let less : f - 2 * (k + n) ≤ f - 2 * k = omega arith in
       let both : (f - 2 * (k + n)) * ((million + r) ^ n * unit ^ k) ≤ unit * ((q - 2) ^ k * million ^ n) =
       omega (arith, mul-le-mul-right ((million + r) ^ n * unit ^ k) less, mul-le-mul-right (unit ^ k) years, mul-le-mul-right (million ^ n) rest) in
-      year-high year n k unit (million + r) million (q - 2) unit-pos (f - 2 * (k + n)) both (under r h)
+      year-high year n k unit (million + r) million (q - 2) unit-pos (f - 2 * (k + n)) both (daily-under r h)
 
   split-low : unit ^ year * million ^ (n * year + k) ≤ (compound (power (daily r) k) (yearly r) n + 2 * (k + n)) ^ year * (million + r) ^ (n * year + k)
   unfolding power
@@ -42,15 +42,15 @@ module _ (r n k : ℕ) where
       let q : ℕ = daily r in
       let p : ℕ = compound unit q k in
       let f : ℕ = compound p (yearly r) n in
-      let o : Over r = over r in
+      let o : DailyOver r = daily-over r in
       let years : (p + 2 * k) * million ^ n ≤ (f + (2 * k + 2 * n)) * (million + r) ^ n =
-      low (yearly r) million (million + r) (yearly-high r) (omega arith) p (2 * k) n days-le (yearly-le r) in
-      let near : unit * o .w ≤ suc q * unit = omega (arith, mul-le-mul-right unit (o .near)) in
+      compound-low (yearly r) million (million + r) (yearly-high r) (omega arith) p (2 * k) n days-le (yearly-le r) in
+      let near : unit * o .w ≤ suc q * unit = omega (arith, mul-le-mul-right unit (o .next)) in
       let rest : unit * o .w ^ k ≤ (p + 2 * k) * unit ^ k =
-      simp (zero-add, add-zero) at (low q (o .w) unit near (o .proper) unit 0 k (le-refl unit) (root-le (yearly r))) in
+      simp (zero-add, add-zero) at (compound-low q (o .w) unit near (o .proper) unit 0 k (le-refl unit) (root-le (yearly r))) in
       let both : unit * (o .w ^ k * million ^ n) ≤ (f + 2 * (k + n)) * ((million + r) ^ n * unit ^ k) =
       omega (arith, mul-le-mul-right (unit ^ k) years, mul-le-mul-right (million ^ n) rest) in
-      year-low year n k unit (million + r) million (o .w) unit-pos (f + 2 * (k + n)) both (o .root)
+      year-low year n k unit (million + r) million (o .w) unit-pos (f + 2 * (k + n)) both (o .past)
 
 module _ (r days : ℕ) where
   pub factor-le : factor r days ≤ unit
@@ -83,3 +83,12 @@ factor-one r days e =
     ∙ ap (λ (q : ℕ). compound (power q (days % year)) unit (days / year)) root-one
     ∙ ap (λ (x : ℕ). compound x unit (days / year)) (power-one (days % year))
     ∙ power-one (days / year)
+
+-- ---- a factor from its parts: the power of the day's factor, and the years after it
+
+pub factor-is : (rate days : ℕ) {y p f : ℕ} → y ≡ yearly rate → p ≡ power (root y) (days % 365) → f ≡ compound p y (days / 365) → f ≡ factor rate days
+unfolding year factor
+factor-is rate days {y} e g h =
+    h
+    ∙ ap (λ (x : ℕ). compound x y (days / 365)) g
+    ∙ ap (λ (x : ℕ). compound (power (root x) (days % 365)) x (days / 365)) e

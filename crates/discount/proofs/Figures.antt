@@ -1,5 +1,5 @@
 -- The present values that document 01 marks to be proved ("Checked figures"). No root is ever searched for: on whole years and on day 0 the
--- factor takes none. Assumes nothing.
+-- factor takes none.
 use mathlib.Core.Path.{_≡_, refl}
 use Prim.Native.Nat.{ℕ}
 use Rattle.ground.specs.declared.Ground.the-variants.{ValueRange}

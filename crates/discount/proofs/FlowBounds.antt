@@ -1,4 +1,4 @@
--- The computed value of a list of signed flows and the exact one are apart by no more than the sum of the tolerances. Assumes nothing.
+-- The computed value of a list of signed flows and the exact one are apart by no more than the sum of the tolerances.
 use mathlib.Core.Bool.{Bool, true, false}
 use mathlib.Core.List.{List, [], _∷_}
 use Prim.Native.Nat.{ℕ, _+_, _≤_}

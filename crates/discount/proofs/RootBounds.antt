@@ -1,4 +1,4 @@
--- The day's factor against the root that it stands for: (daily - 2) ^ 365 is at most the year's, and (daily + 1) ^ 365 at least. Assumes nothing.
+-- The day's factor against the root that it stands for: (daily - 2) ^ 365 is at most the year's, and (daily + 1) ^ 365 at least.
 use mathlib.Core.Path.{_≡_, refl}
 use Prim.Native.Nat.{ℕ, zero, suc, _+_, _-_, _*_, _^_, _≤_, _<_}
 use native.Mathlib.Nat.{le-refl, le-trans, le-of-eq, mul-le-mul-left, mul-le-mul-right, le-of-mul-le-mul-right, zero-mul, zero-add, sub-zero, lt-of-not-le, lt-irrefl, add-zero, add-suc, pow-zero, pow-suc, pow-le-pow-left}
@@ -8,33 +8,33 @@ use lib.Dec.{lit≤}
 use Rattle.decimal.specs.Product.{unit, product}
 use Rattle.decimal.proofs.Products.{unit-pos, product-high}
 use Rattle.discount.specs.Discount.{million, year, compound, power, yearly, daily}
-use Rattle.discount.proofs.Steps.{high}
+use Rattle.discount.proofs.Steps.{compound-high}
 use Rattle.discount.proofs.Roots.{yearly-low, yearly-high, yearly-half, root-holds, root-ge}
 
 -- ---- the next number's power is past the year's factor, so its root is past the year's: a factor at most one more than `daily`, and at most unit
 
-pub record Over (r : ℕ) : Type 0 where
+pub record DailyOver (r : ℕ) : Type 0 where
   pub w : ℕ
-  pub near : w ≤ suc (daily r)
+  pub next : w ≤ suc (daily r)
   pub proper : w ≤ unit
-  pub root : unit ^ year * million ≤ w ^ year * (million + r)
+  pub past : unit ^ year * million ≤ w ^ year * (million + r)
 
-over-power : (r x : ℕ) → x ≤ unit → yearly r < power x year → unit ^ year * million ≤ x ^ year * (million + r)
+daily-over-power : (r x : ℕ) → x ≤ unit → yearly r < power x year → unit ^ year * million ≤ x ^ year * (million + r)
 unfolding power
-over-power r x l h =
-    let above : compound unit x year * unit ^ year ≤ unit * x ^ year = simp (zero-mul, zero-add, sub-zero) at (high x x unit 0 (omega arith) l unit 0 year (le-refl unit) l) in
+daily-over-power r x l h =
+    let above : compound unit x year * unit ^ year ≤ unit * x ^ year = simp (zero-mul, zero-add, sub-zero) at (compound-high x x unit 0 (omega arith) l unit 0 year (le-refl unit) l) in
     let scaled : unit ^ year * million * unit ≤ x ^ year * (million + r) * unit =
     omega (arith, mul-le-mul-right (unit ^ year) (yearly-high r), mul-le-mul-right (unit ^ year * (million + r)) h, mul-le-mul-right (million + r) above) in
     le-of-mul-le-mul-right scaled unit-pos
 
-pub over : (r : ℕ) → Over r
-over r = go (decLe (suc (daily r)) unit)
+pub daily-over : (r : ℕ) → DailyOver r
+daily-over r = go (decLe (suc (daily r)) unit)
   where
-    go : Dec (suc (daily r) ≤ unit) → Over r
+    go : Dec (suc (daily r) ≤ unit) → DailyOver r
     go (yes l) =
         let past : yearly r < power (suc (daily r)) year = lt-of-not-le (λ h. lt-irrefl (daily r) (root-ge (yearly r) (suc (daily r)) l h)) in
-        record { w = suc (daily r); near = le-refl _; proper = l; root = over-power r (suc (daily r)) l past }
-    go (no n) = record { w = unit; near = omega arith; proper = le-refl unit; root = mul-le-mul-left (unit ^ year) (omega arith) }
+        record { w = suc (daily r); next = le-refl _; proper = l; past = daily-over-power r (suc (daily r)) l past }
+    go (no n) = record { w = unit; next = omega arith; proper = le-refl unit; past = mul-le-mul-left (unit ^ year) (omega arith) }
 
 -- ---- two less: the power of `daily` keeps up with that of `daily - 2`, as long as the latter is at least a half
 
@@ -74,9 +74,9 @@ year-is : year ≡ suc 364
 unfolding year
 year-is = refl
 
-pub under : (r : ℕ) → r ≤ million → (daily r - 2) ^ year * (million + r) ≤ unit ^ year * million
+pub daily-under : (r : ℕ) → r ≤ million → (daily r - 2) ^ year * (million + r) ≤ unit ^ year * million
 unfolding power
-under r h =
+daily-under r h =
     let q : ℕ = daily r in
     let large : 998102768652 ≤ q = root-ge (yearly r) 998102768652 least-le (le-trans least-power (yearly-half r h)) in
     let kept : unit * (q - 2) ^ year ≤ compound unit q year * unit ^ year = keeps-up (q - 2) q (omega arith) 364 year (half (q - 2) (omega arith)) (le-of-eq year-is) in

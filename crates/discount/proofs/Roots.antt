@@ -1,4 +1,4 @@
--- Laws of the year's factor, and of `root`, the day's factor that belongs to it. Assumes nothing.
+-- Laws of the year's factor, and of `root`, the day's factor that belongs to it.
 use mathlib.Core.Path.{_≡_}
 use Prim.Native.Nat.{ℕ, suc, _+_, _*_, _/_, _≤_, _<_, zero-le}
 use native.Mathlib.Nat.{le-refl, le-trans, mul-le-mul-left, div-mul-le-self, lt-div-mul-add, div-le-of-le-mul, le-div-iff-mul-le, lt-of-not-le, lt-irrefl, lt-of-lt-of-le}

@@ -1,4 +1,4 @@
--- One rounded product, and many: how far the result is from the exact one. Assumes nothing.
+-- One rounded product, and many: how far the result is from the exact one.
 use Prim.Native.Nat.{ℕ, zero, suc, _+_, _-_, _*_, _^_, _≤_}
 use mathlib.Core.Path.{_≡_}
 use native.Mathlib.Nat.{le-refl, le-trans, mul-le-mul-left, mul-le-mul-right, le-of-mul-le-mul-right, pow-zero, pow-suc, mul-zero, add-zero}
@@ -19,13 +19,13 @@ module _ (y num den : ℕ) (near : unit * num ≤ suc y * den) (proper : num ≤
       omega (arith, mul-le-mul-right den (product-high f y), mul-le-mul-left f near, mul-le-mul-right den l) in
       omega (arith, le-of-mul-le-mul-right scaled unit-pos, mul-le-mul-left t proper)
 
-  pub low : (a t k : ℕ) → a ≤ unit → y ≤ unit → (a + t) * num ^ k ≤ (compound a y k + (t + 2 * k)) * den ^ k
+  pub compound-low : (a t k : ℕ) → a ≤ unit → y ≤ unit → (a + t) * num ^ k ≤ (compound a y k + (t + 2 * k)) * den ^ k
   unfolding compound
-  low a t zero l h = simp pow-zero (omega arith)
-  low a t (suc k) l h =
+  compound-low a t zero l h = simp pow-zero (omega arith)
+  compound-low a t (suc k) l h =
       let f : ℕ = compound a y k in
       let step : (f + (t + 2 * k)) * num ≤ (product f y + (t + 2 * k + 2)) * den = low-step f (t + 2 * k) (le-trans (compound-le a y k h) l) in
-      simp pow-suc (omega (arith, mul-le-mul-right num (low a t k l h), mul-le-mul-right (den ^ k) step))
+      simp pow-suc (omega (arith, mul-le-mul-right num (compound-low a t k l h), mul-le-mul-right (den ^ k) step))
 
 -- ---- from above: y is at most u over unit * num / den, and so a product with y, less u, is at most the one with num / den
 
@@ -37,11 +37,11 @@ module _ (y num den u : ℕ) (near : y * den ≤ unit * num + u * den) (proper :
       omega (arith, mul-le-mul-right den (product-low f y), mul-le-mul-left f near, mul-le-mul-right (u * den) l) in
       simp sub-mul (omega (arith, le-of-mul-le-mul-right scaled unit-pos, mul-le-mul-left t proper))
 
-  pub high : (a t k : ℕ) → a ≤ unit → y ≤ unit → (compound a y k - (t + u * k)) * den ^ k ≤ (a - t) * num ^ k
+  pub compound-high : (a t k : ℕ) → a ≤ unit → y ≤ unit → (compound a y k - (t + u * k)) * den ^ k ≤ (a - t) * num ^ k
   unfolding compound
-  high a t zero l h = simp (pow-zero, mul-zero, add-zero) (le-refl _)
-  high a t (suc k) l h =
+  compound-high a t zero l h = simp (pow-zero, mul-zero, add-zero) (le-refl _)
+  compound-high a t (suc k) l h =
       let f : ℕ = compound a y k in
       let step : (product f y - (t + u * k + u)) * den ≤ (f - (t + u * k)) * num = high-step f (t + u * k) (le-trans (compound-le a y k h) l) in
       let same : t + u * suc k ≡ t + u * k + u = omega arith in
-      simp (pow-suc, same) (omega (arith, mul-le-mul-right num (high a t k l h), mul-le-mul-right (den ^ k) step))
+      simp (pow-suc, same) (omega (arith, mul-le-mul-right num (compound-high a t k l h), mul-le-mul-right (den ^ k) step))

@@ -1,5 +1,5 @@
 -- From a step of a day and a step of a year to any number of days: m days to the year, n years and k days.
--- Both sides are raised to the m-th power, where a day's w / s is a year's (w / s) ^ m, to be compared with b / d. Assumes nothing.
+-- Both sides are raised to the m-th power, where a day's w / s is a year's (w / s) ^ m, to be compared with b / d.
 use Prim.Native.Nat.{ℕ, _+_, _*_, _^_, _≤_, _<_}
 use native.Mathlib.Nat.{mul-le-mul-left, mul-le-mul-right, le-of-mul-le-mul-right, pow-le-pow-left, one-le-pow}
 use native.Mathlib.Omega.{arith}

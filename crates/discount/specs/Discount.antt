@@ -1,5 +1,5 @@
 -- Discount factors and present values (document 01, "Present value"). Every definition stays shut: proofs use the laws of proofs/, so that
--- nothing here is computed at 10^12 but where an example says so. Assumes nothing.
+-- nothing here is computed at 10^12 but where an example says so.
 use Prim.Native.Nat.{ℕ, zero, suc, _+_, _-_, _*_, _/_, _%_}
 use mathlib.Core.Bool.{Bool}
 use lib.Dec.{leb}
@@ -45,10 +45,11 @@ factor rate days = compound (power (daily rate) (days % year)) (yearly rate) (da
 unfoldable pub presentValue : ℕ → ℕ → ℕ → ℕ
 presentValue amount rate days = product amount (factor rate days)
 
--- how many products a factor takes
+-- "The tolerance, which is shown too, is the sum over the curve's flows of amount × 2(k + n) / 10^12, each rounded up, where days = 365n + k
+-- and k is below 365": first the k + n, how many products a factor takes,
 unfoldable pub products : ℕ → ℕ
 products days = days % year + days / year
 
--- what a present value may be off: two units of a factor's last place for each product, on the amount, rounded up
+-- and the tolerance of one flow, two units of a factor's last place for each product; the sum is `sum flowTolerance` (Flows.antt)
 unfoldable pub tolerance : ℕ → ℕ → ℕ
 tolerance amount days = (amount * (2 * products days) + (unit - 1)) / unit

@@ -1,5 +1,4 @@
 -- The exact value of a flow, by the power inequality alone: no factor of the engine's stands here (document 01, "Present value").
--- Assumes nothing.
 use Prim.Native.Nat.{ℕ, _+_, _*_, _^_}
 use mathlib.Core.Bool.{Bool}
 use lib.Dec.{leb}

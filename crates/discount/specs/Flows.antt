@@ -1,4 +1,4 @@
--- Signed cash flows and their sums at a rate for each day (document 01, "Margin"). Assumes nothing.
+-- Signed cash flows and their sums at a rate for each day (document 01, "Margin").
 use mathlib.Core.Bool.{Bool, true, false}
 use mathlib.Core.List.{List, [], _∷_}
 use Prim.Native.Nat.{ℕ, _+_}

@@ -2,4 +2,4 @@ pub mod Discount
 pub mod Exact
 pub mod Flows
 pub mod Valued
-pub mod YearEnds
+pub mod Powers

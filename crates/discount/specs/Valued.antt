@@ -1,4 +1,4 @@
--- The answer of the present value entry, and its ground of refusal (document 01, 16). Assumes nothing.
+-- The answer of the present value entry, and its ground of refusal (document 01, 16).
 use Prim.Native.Nat.{ℕ}
 use mathlib.Core.Bool.{Bool, _||_, cond}
 use lib.Dec.{ltb}

@@ -23,7 +23,7 @@ impl Factor {
         Factor(parts)
     }
 
-    // The product, rounded down.
+    // The product, rounded down: every chain of products takes this one.
     pub fn product(self, other: Factor) -> Factor
         requires { ⌜ (self .0 ≤ unit) × (other .0 ≤ unit) ⌝ }
         ensures { λ r. ⌜ (r .0 ≡ product (self .0) (other .0)) × (r .0 ≤ unit) ⌝ }
@@ -31,26 +31,26 @@ impl Factor {
         Factor(multiply(self.0, other.0))
     }
 
-    // From one, the product with the factor taken k times.
-    pub fn power(self, k: u64) -> Factor
-        requires { ⌜ self .0 ≤ unit ⌝ }
-        ensures { λ r. ⌜ (r .0 ≡ power (self .0) k) × (r .0 ≤ unit) ⌝ }
-    {
-        Factor(Factor::UNIT).compound(self, k)
-    }
-
     // The product with another factor, taken k times.
     pub fn compound(self, other: Factor, k: u64) -> Factor
         requires { ⌜ (self .0 ≤ unit) × (other .0 ≤ unit) ⌝ }
         ensures { λ r. ⌜ (r .0 ≡ compound (self .0) (other .0) k) × (r .0 ≤ unit) ⌝ }
     {
-        let q = other.0;
-        let mut r = self.0;
+        let q = other;
+        let mut r = self;
         let mut i = 0;
         while i < k {
-            r = multiply(r, q);
+            r = r.product(q);
             i += 1;
         }
-        Factor(r)
+        r
+    }
+
+    // From one, the product with the factor, taken k times.
+    pub fn power(self, k: u64) -> Factor
+        requires { ⌜ self .0 ≤ unit ⌝ }
+        ensures { λ r. ⌜ (r .0 ≡ power (self .0) k) × (r .0 ≤ unit) ⌝ }
+    {
+        Factor(Factor::UNIT).compound(self, k)
     }
 }

@@ -3,15 +3,14 @@ ghost use mathlib.Core.Path.{_≡_};
 ghost use Prim.Native.Nat.{_≤_};
 ghost use Rattle.decimal.specs.Product.{unit};
 ghost use Rattle.discount.specs.Discount.{million, factor, presentValue, tolerance};
-use super::daily::search;
+use super::daily::day_power;
 use super::factor::Factor;
-use super::guess::guess;
 use decimal::product::multiply;
 
 // The days of a year.
 const YEAR: u64 = 365;
 
-// The factor of some days at a rate.
+// The factor of some days at a rate: the power of the day's factor by the days above whole years, then the product with the year's, a year each.
 pub fn factor(rate: u64, days: u64) -> Factor
     requires { ⌜ rate ≤ million ⌝ }
     ensures { λ r. ⌜ (r .0 ≡ factor rate days) × (r .0 ≤ unit) ⌝ }
@@ -20,8 +19,7 @@ pub fn factor(rate: u64, days: u64) -> Factor
     if yearly.0 == Factor::UNIT {
         return yearly;
     }
-    let day = search(yearly, guess(yearly.0), days % YEAR);
-    let power = day.power;
+    let power = day_power(yearly, days % YEAR);
     power.compound(yearly, days / YEAR)
 }
 

@@ -1,4 +1,4 @@
--- `discount::entry::breaks_value_range` meets its contract. Assumes nothing.
+-- `discount::entry::breaks_value_range` meets its contract.
 use borrow.Author.Needs.{needs}
 use Rattle.decimal.specs.Product.{unit}
 use Rattle.discount.specs.Discount.{million}

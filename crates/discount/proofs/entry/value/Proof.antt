@@ -1,4 +1,4 @@
--- `discount::entry::value` meets its contract: where 16 does not apply, what the two callees ask holds. Assumes nothing.
+-- `discount::entry::value` meets its contract: where 16 does not apply, what the two callees ask holds.
 use mathlib.Core.Path.{_≡_, sym, _∙_}
 use mathlib.Core.Bool.{false, _||_}
 use Prim.Native.Nat.{ℕ, _≤_}
@@ -32,9 +32,6 @@ limits amount rate day h =
 here : (c : tie.Else1) → Limits (c .before .before .args .amount) (c .before .before .args .rate) (c .before .before .args .day)
 here c = limits _ _ _ (sym (c .before .breaks-value-range .ensures) ∙ c .if1 .left)
 
-breaks-value-range-requires : tie.Need-breaks-value-range-requires
-breaks-value-range-requires c κs = search needs
-
 returns : tie.Need-returns
 unfolding valuedOf
 returns c = rw (← c .before .breaks-value-range .ensures, c .if1 .taken)
@@ -51,4 +48,4 @@ returns-2 c =
     rw (← c .before .before .before .breaks-value-range .ensures, c .before .before .if1 .left, c .before .present-value .ensures, c .tolerance .ensures)
 
 pub value-spec : {M : Type 1} → statement M
-value-spec = tie.close (tie.spec breaks-value-range-requires returns present-value-requires tolerance-requires returns-2)
+value-spec = tie.close (tie.spec (λ c κs. search needs) returns present-value-requires tolerance-requires returns-2)

@@ -1,4 +1,4 @@
--- `discount::guess::scaled` meets its contract. Assumes nothing.
+-- `discount::guess::scaled` meets its contract.
 use native.Mathlib.Omega.{arith}
 use Rattle.decimal.specs.Product.{unit}
 use Rattle.decimal.proofs.Products.{product-le}

@@ -1,5 +1,4 @@
 -- `discount::guess::series` meets its contract. The invariant: s is at most one, and i at most 9. The measure is i.
--- Assumes nothing.
 use Prim.Native.Nat.{_+_, _*_, _≤_}
 use native.Mathlib.Nat.{div-le-self}
 use native.Mathlib.Omega.{arith}
@@ -31,9 +30,6 @@ div-least c = omega arith
 add-least-2 : tie.Need-add-least-2 Inv-loop μ-loop
 add-least-2 c = omega (arith, div-le-self 1_000_000_000_000 (2 * c .before .before .loop .i + 1))
 
-least-requires : tie.Need-least-requires Inv-loop μ-loop
-least-requires c κs = search needs
-
 sub-i : tie.Need-sub-i Inv-loop μ-loop
 sub-i c = omega arith
 
@@ -47,4 +43,4 @@ returns : tie.Need-returns Inv-loop μ-loop
 returns c = omega arith
 
 pub series-spec : {M : Type 1} → statement M
-series-spec = tie.close (tie.spec Inv-loop μ-loop loop-holds scaled-requires mul-least add-least div-least add-least-2 least-requires sub-i loop-less loop-again returns)
+series-spec = tie.close (tie.spec Inv-loop μ-loop loop-holds scaled-requires mul-least add-least div-least add-least-2 (λ c κs. search needs) sub-i loop-less loop-again returns)

@@ -1,4 +1,4 @@
--- `discount::value::present_value` meets its contract, by those of `factor` and `multiply`. Assumes nothing.
+-- `discount::value::present_value` meets its contract, by those of `factor` and `multiply`.
 use mathlib.Core.Path.{_∙_, ap}
 use borrow.Author.Needs.{needs}
 use Rattle.decimal.specs.Product.{product}
@@ -6,15 +6,9 @@ use Rattle.discount.specs.Discount.{presentValue}
 use Rattle.discount.proofs.value.present_value.Statement.{statement}
 use Rattle.discount.proofs.value.present_value.Tie as tie
 
-factor-requires : tie.Need-factor-requires
-factor-requires c κs = search needs
-
-multiply-requires : tie.Need-multiply-requires
-multiply-requires c κs = search needs
-
 returns : tie.Need-returns
 unfolding presentValue
 returns c = c .multiply .ensures ∙ ap (product (c .before .before .args .amount)) (c .before .factor .ensures .0)
 
 pub present-value-spec : {M : Type 1} → statement M
-present-value-spec = tie.close (tie.spec factor-requires multiply-requires returns)
+present-value-spec = tie.close (tie.spec (λ c κs. search needs) (λ c κs. search needs) returns)

@@ -1,4 +1,4 @@
--- `discount::value::tolerance` meets its contract: a factor of at most 10,950 days takes at most 394 products. Assumes nothing.
+-- `discount::value::tolerance` meets its contract: a factor of at most 10,950 days takes at most 394 products.
 use mathlib.Core.Path.{refl}
 use Prim.Native.Nat.{_+_, _*_, _/_, _%_, _≤_}
 use native.Mathlib.Nat.{mul-le-mul}

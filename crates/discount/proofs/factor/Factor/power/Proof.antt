@@ -1,4 +1,4 @@
--- `discount::factor::Factor::power` meets its contract, by that of `compound`. Assumes nothing.
+-- `discount::factor::Factor::power` meets its contract, by that of `compound`.
 use native.Mathlib.Nat.{le-refl}
 use Rattle.decimal.specs.Product.{unit}
 use Rattle.discount.specs.Discount.{power}

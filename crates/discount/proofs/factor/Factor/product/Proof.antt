@@ -1,12 +1,9 @@
--- `discount::factor::Factor::product` meets its contract, by that of `multiply`. Assumes nothing.
+-- `discount::factor::Factor::product` meets its contract, by that of `multiply`.
 use native.Mathlib.Omega.{arith}
 use borrow.Author.Needs.{needs}
 use Rattle.decimal.proofs.Products.{product-le}
 use Rattle.discount.proofs.factor.Factor.product.Statement.{statement}
 use Rattle.discount.proofs.factor.Factor.product.Tie as tie
-
-multiply-requires : tie.Need-multiply-requires
-multiply-requires c κs = search needs
 
 returns : tie.Need-returns
 returns c =
@@ -14,4 +11,4 @@ returns c =
     (c .multiply .ensures, omega (arith, product-le (a .self .0) (a .other .0) (c .before .pre .1)))
 
 pub product-spec : {M : Type 1} → statement M
-product-spec = tie.close (tie.spec multiply-requires returns)
+product-spec = tie.close (tie.spec (λ c κs. search needs) returns)

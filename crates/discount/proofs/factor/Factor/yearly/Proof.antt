@@ -1,4 +1,4 @@
--- `discount::factor::Factor::yearly` meets its contract. Assumes nothing.
+-- `discount::factor::Factor::yearly` meets its contract.
 use mathlib.Core.Path.{refl}
 use native.Mathlib.Omega.{arith}
 use borrow.Author.Needs.{needs}
@@ -7,9 +7,6 @@ use Rattle.discount.specs.Discount.{million, yearly}
 use Rattle.discount.proofs.Roots.{yearly-le}
 use Rattle.discount.proofs.factor.Factor.yearly.Statement.{statement}
 use Rattle.discount.proofs.factor.Factor.yearly.Tie as tie
-
-mul-parts : tie.Need-mul-parts
-mul-parts c = search needs
 
 add-parts : tie.Need-add-parts
 unfolding million
@@ -23,4 +20,4 @@ unfolding unit million yearly
 returns c = (refl, yearly-le (c .args .rate))
 
 pub yearly-spec : {M : Type 1} → statement M
-yearly-spec = tie.close (tie.spec mul-parts add-parts div-parts returns)
+yearly-spec = tie.close (tie.spec (λ c. search needs) add-parts div-parts returns)
