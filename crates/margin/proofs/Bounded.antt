@@ -1,8 +1,9 @@
 -- Demand 3, over the definitions. T is the sum of a curve's tolerances. The base is within T of the exact base, each loss and the worst one within 2T of
 -- the exact ones, and no listed scenario's exact loss is above that of the scenario shown by more than 4T. An initial is within twice the summed
--- tolerances of the sum of the exact worst losses. Assumes nothing.
+-- tolerances of the sum of the exact worst losses.
 use mathlib.Core.Bool.{Bool, true, false, cond}
 use mathlib.Core.List.{List, [], _∷_, map}
+use mathlib.Core.Path.{refl}
 use Prim.Native.Nat.{ℕ, _+_, _*_, _-_, _<_}
 use lib.Dec.{eqb}
 use lib.IntN.{ℤ, negℤ, _+ℤ_, _-ℤ_}
@@ -25,6 +26,7 @@ use Rattle.margin.specs.Exposure.{Exposure}
 use Rattle.margin.specs.Losses.{valueOn, lossAt, worstAt, worstLoss, toleranceOf}
 use Rattle.margin.specs.Margins.{curveMargin, sumIn, currencyMargin}
 use Rattle.margin.specs.Demand.{CurveBounded, exactWorst, exactInitial, tolerancesIn, InitialBounded}
+use Rattle.margin.proofs.Sizes.{first-largest}
 
 -- ---- distances
 
@@ -72,8 +74,10 @@ module _ (e : Exposure) (h : Each Limits (e .nodes)) where
   unfolding curveMargin
   curve-bounded =
       record {
+        tolerance = refl;
         base = value-within (e .nodes) h;
         loss = worst-within;
+        listed = first-largest e .within;
         shown = λ s k. let b : Below (lossAt flowExact e s) (lossAt flowExact e (worstAt flowValue e)) (2 * toleranceOf e + 2 * toleranceOf e) = shown-near s k in omega (int, b);
       }
 

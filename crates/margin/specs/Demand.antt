@@ -1,6 +1,7 @@
--- What the figures owe to the exact values (demand 3). The exact side is `flowExact`, the power inequality, and no factor. Assumes nothing.
+-- What the figures owe to the exact values (demand 3). The exact side is `flowExact`, the power inequality, and no factor.
 use mathlib.Core.Bool.{cond}
 use mathlib.Core.List.{List, [], _∷_}
+use mathlib.Core.Path.{_≡_}
 use Prim.Native.Nat.{ℕ, _+_, _*_, _<_}
 use lib.Dec.{eqb}
 use lib.IntN.{ℤ, pos, _+ℤ_}
@@ -23,11 +24,19 @@ exactLoss e s = lossAt flowExact e s
 abbrev pub exactWorst : Exposure → ℤ
 exactWorst e = worstLoss flowExact e
 
--- a curve's figures: base within the tolerance of the exact base, worst loss within twice it of the exact worst loss, and no listed scenario's
--- exact loss above that of the shown one by more than four
+-- "This holds for every accepted book and each of its curves", here for one of them. "Exact means amount × (1 + rate) to the power −days/365, rounded
+-- down to the kuruş and then signed, at document 01's rates."
 pub record CurveBounded (e : Exposure) (m : CurveMargin) : Type 0 where
+  -- "The tolerance, which is shown too, is the sum over the curve's flows of amount × 2(k + n) / 10^12, each rounded up, where days = 365n + k and k is
+  -- below 365."
+  pub tolerance : m .tolerance ≡ toleranceOf e
+  -- "The base value shown differs from the exact one by at most the curve's tolerance."
   pub base : Within (m .base) (exactBase e) (m .tolerance)
+  -- "The worst loss shown differs from the exact worst loss over all listed scenarios by at most twice that tolerance."
   pub loss : Within (m .loss) (exactWorst e) (2 * m .tolerance)
+  -- the scenario shown is a listed one
+  pub listed : m .scenario < scenarioCount (e .components)
+  -- "Every listed scenario has an exact loss of at most the exact loss of the scenario shown plus four tolerances."
   pub shown : (s : ℕ) → s < scenarioCount (e .components) → Below (exactLoss e s) (exactLoss e (m .scenario)) (4 * m .tolerance)
 
 -- over the curves of a currency: the sum of the exact worst losses, and of the tolerances
@@ -41,6 +50,6 @@ tolerancesIn currency [] = 0
 tolerancesIn currency (e ∷ es) =
     cond (eqb (e .currency) currency) (toleranceOf e + tolerancesIn currency es) (tolerancesIn currency es)
 
--- an initial: it differs from the sum of its curves' exact worst losses by at most twice their summed tolerances
+-- "each initial: it differs from the sum of its curves' exact worst losses by at most twice their summed tolerances"
 abbrev pub InitialBounded : ℕ → List Exposure → ℤ → Type 0
 InitialBounded currency es initial = Within initial (exactInitial currency es) (2 * tolerancesIn currency es)

@@ -1,4 +1,4 @@
--- The margin entry's answer and bytes, by what was found. Assumes nothing.
+-- The margin entry's answer and bytes, by what was found.
 use mathlib.Core.Path.{_≡_, refl, _∙_}
 use mathlib.Core.Bool.{true, false}
 use mathlib.Core.List.{List, _++_}

@@ -1,22 +1,21 @@
--- Demand 3: whatever margin writes for an accepted book is bounded by the exact values. Assumes nothing.
+-- Demand 3: whatever margin writes for an accepted book is bounded by the exact values.
 use mathlib.Core.Path.{_≡_, refl, sym, ap, _∙_}
 use mathlib.Core.Bool.{Bool, true, false, cond}
 use mathlib.Core.List.{List, [], _∷_, _++_, map}
 use Prim.Native.Nat.{ℕ, zero, suc, _+_, _-_, _*_, _^_, _≤_, _<_}
 use native.Mathlib.Omega.{arith}
-use lib.Dec.{eqb, ltb}
+use lib.Dec.{eqb}
 use lib.Signed.{mag}
-use borrow.Author.Tests.{le-ltb, ltb-false}
+use borrow.Author.Tests.{le-ltb}
 use lib.IntN.{natAbs, _+ℤ_}
-use lib.ListN.{length, getD, drop, replicate, length-append, length-map, length-replicate, List·getD-append}
+use lib.ListN.{length, getD, drop, replicate, length-append, length-replicate, List·getD-append}
 use Rattle.laws.specs.Walk.{table}
-use Rattle.laws.proofs.Walk.{length-table, getD-table}
-use Rattle.laws.proofs.Lists.{getD-map-in}
 use Rattle.laws.proofs.Signed.{fits, abs-add}
 use Rattle.ground.specs.declared.Ground.the-variants.{ReportSpace}
 use Rattle.ground.specs.declared.Verdict.{Verdict}
-use Rattle.ground.specs.declared.Verdict.the-variants.{Accepted, Refused}
-use Rattle.ground.specs.Verdicts.{orElse, unless}
+use Rattle.ground.specs.declared.Verdict.the-variants.{Accepted}
+use Rattle.ground.specs.Verdicts.{unless}
+use Rattle.ground.proofs.Verdicts.{unless-accepted, orElse-accepted}
 use Rattle.decimal.specs.Product.{unit}
 use Rattle.curve.specs.Limits.{Limits, Each}
 use Rattle.curve.proofs.Rates.{each-limits}
@@ -27,6 +26,7 @@ use Rattle.curve_block.proofs.Accepted as block
 use Rattle.book.specs.Parts.{blockAt, curveCount}
 use Rattle.book.specs.Verdict.{verdict}
 use Rattle.book.proofs.Accepted.{Sound, sound}
+use Rattle.margin.specs.declared.CurveMargin.{CurveMargin}
 use Rattle.margin.specs.declared.CurrencyMargin.{CurrencyMargin}
 use Rattle.margin.specs.Exposure.{Exposure}
 use Rattle.margin.specs.Totals.{mostFlows}
@@ -42,26 +42,8 @@ use Rattle.exposure.specs.Exposures.{exposureAt, exposures}
 use Rattle.exposure.proofs.Fitting.{exposure-fits}
 use Rattle.report.specs.Entry.{marginIn, breaksReportSpace, marginVerdict, marginBytes}
 use Rattle.report.specs.Bounded.{Bounded}
-use Rattle.report.proofs.Placed.{exposures-fit}
-
--- ---- an accepted call: the book is accepted, and there is space
-
-module _ (s : List ℕ) (used space : ℕ) (e : marginVerdict s used space ≡ Accepted) where
-  book-accepted : verdict s used ≡ Accepted
-  unfolding marginVerdict
-  book-accepted = go (verdict s used) e
-    where
-      go : (v : Verdict) → orElse v (unless (breaksReportSpace space) ReportSpace 0 Accepted) ≡ Accepted → v ≡ Accepted
-      go Accepted f = refl
-      go (Refused g k) f = f
-
-  space-found : 512 ≤ space
-  unfolding marginVerdict breaksReportSpace
-  space-found = go (ltb space 512) refl (rw book-accepted at e)
-    where
-      go : (t : Bool) → ltb space 512 ≡ t → unless t ReportSpace 0 Accepted ≡ Accepted → 512 ≤ space
-      go false f g = ltb-false space 512 f
-      go true f g = let z : _≡_ {A = ℕ} 0 1 = cc in absurd (omega arith)
+use Rattle.report.proofs.Placed.{length-exposures, length-figures, figures-at, exposures-fit}
+use Rattle.report.proofs.Answers.{space}
 
 -- ---- the sum of a currency's losses fits 64 bits
 
@@ -104,30 +86,25 @@ module _ (s : List ℕ) (used : ℕ) (b : Sound s used) where
 
   -- ---- the margin's places
 
-  length-exposures : length (exposures s) ≡ curveCount s
-  unfolding exposures
-  length-exposures = length-table (exposureAt s) 1 (curveCount s)
+  abbrev all-figures : List CurveMargin
+  all-figures = map curveMargin (exposures s)
 
   places : Places (marginIn s)
   unfolding marginIn assembled
   places =
+      let spare = replicate (8 - length all-figures) noCurve in
       record {
-        curves =
-            length-append (map curveMargin (exposures s)) (replicate (8 - length (map curveMargin (exposures s))) noCurve)
-            ∙ (let n = length-map (exposures s) curveMargin in omega (arith, length-replicate (8 - length (map curveMargin (exposures s))) noCurve, length-exposures, b .most));
+        curves = length-append all-figures spare ∙ omega (arith, length-replicate (8 - length all-figures) noCurve, length-figures s, b .most);
         currencies = refl;
       }
 
   place-of : (k : ℕ) → 1 ≤ k → k ≤ curveCount s → getD (marginIn s .curves) (k - 1) noCurve ≡ curveMargin (exposureAt s k)
-  unfolding marginIn assembled exposures
+  unfolding marginIn assembled
   place-of k l m =
-      let d : Exposure = exposureAt s 0 in
       let e : 1 + (k - 1) ≡ k = omega arith in
-      let n = length-map (table (exposureAt s) 1 (curveCount s)) curveMargin in
-      let t = length-table (exposureAt s) 1 (curveCount s) in
-      List·getD-append (map curveMargin (table (exposureAt s) 1 (curveCount s))) (replicate (8 - length (map curveMargin (table (exposureAt s) 1 (curveCount s)))) noCurve) noCurve (k - 1) (omega arith)
-      ∙ getD-map-in curveMargin (table (exposureAt s) 1 (curveCount s)) (k - 1) d noCurve (omega arith)
-      ∙ ap curveMargin (getD-table (exposureAt s) 1 (curveCount s) (k - 1) d (omega arith) ∙ ap (exposureAt s) e)
+      List·getD-append all-figures (replicate (8 - length all-figures) noCurve) noCurve (k - 1) (omega (arith, length-figures s))
+      ∙ figures-at s (k - 1) (omega arith)
+      ∙ ap (λ (j : ℕ). curveMargin (exposureAt s j)) e
 
   -- ---- what the report shows is bounded
 
@@ -148,7 +125,7 @@ module _ (s : List ℕ) (used : ℕ) (b : Sound s used) where
   unfolding currencyMargin unit
   initial-fits currency =
       let size = sum-size currency (exposures s) (exposures-fit s used b) in
-      omega (arith, size, length-exposures, b .most)
+      omega (arith, size, length-exposures s, b .most)
 
   -- TRY, USD and EUR stand in that order
   currency-at : (currency : ℕ) → 1 ≤ currency → currency ≤ 3 → (d : CurrencyMargin) → getD (marginIn s .currencies) (currency - 1) d ≡ currencyMargin currency (map curveMargin (exposures s))
@@ -180,8 +157,9 @@ unfolding marginBytes marginVerdict breaksReportSpace
 demand s used out e h = rw (e, le-ltb (length out) 512 h) (report-bounded s used (sound s used e) (drop 512 out))
 
 -- so are the bytes that an accepted call leaves
-pub demand-met : (s : List ℕ) (used : ℕ) (out : List ℕ) → marginVerdict s used (length out) ≡ Accepted → Bounded s (marginBytes s used out)
-demand-met s used out e = demand s used out (book-accepted s used (length out) e) (space-found s used (length out) e)
-
-pub bounded-if : (s : List ℕ) (used : ℕ) (out : List ℕ) {r : Verdict} {after : List ℕ} → r ≡ marginVerdict s used (length out) → after ≡ marginBytes s used out → r ≡ Accepted → Bounded s after
-bounded-if s used out e f h = rw f (demand-met s used out (sym e ∙ h))
+pub demand-met : (s : List ℕ) (used : ℕ) (out : List ℕ) {r : Verdict} {after : List ℕ} → r ≡ marginVerdict s used (length out) → after ≡ marginBytes s used out → r ≡ Accepted → Bounded s after
+unfolding marginVerdict
+demand-met s used out e f h =
+    let broken = breaksReportSpace (length out) in
+    let both = orElse-accepted (verdict s used) (unless broken ReportSpace 0 Accepted) (sym e ∙ h) in
+    rw f (demand s used out (both .0) (space s used out (unless-accepted broken ReportSpace 0 Accepted (both .1) .0)))

@@ -1,4 +1,4 @@
--- The figures of a book's curves in eight places, one by one. Assumes nothing.
+-- The figures of a book's curves in eight places, one by one.
 use mathlib.Core.Path.{_≡_, sym, ap, _∙_, subst}
 use mathlib.Core.List.{List, map}
 use Prim.Native.Nat.{ℕ, zero, suc, _+_, _≤_, _<_}
@@ -18,16 +18,32 @@ use Rattle.margin.proofs.Accounts.{AllFlowsFit, places-limits}
 use Rattle.exposure.specs.Exposures.{exposureAt, exposures}
 use Rattle.exposure.proofs.Fitting.{exposure-fits}
 
+module _ (s : List ℕ) where
+  pub length-exposures : length (exposures s) ≡ curveCount s
+  unfolding exposures
+  length-exposures = length-table (exposureAt s) 1 (curveCount s)
+
+  pub length-figures : length (map curveMargin (exposures s)) ≡ curveCount s
+  length-figures = length-map (exposures s) curveMargin ∙ length-exposures
+
+  -- the figures of curve i, from 0
+  pub figures-at : (i : ℕ) → i < curveCount s → getD (map curveMargin (exposures s)) i noCurve ≡ curveMargin (exposureAt s (1 + i))
+  unfolding exposures
+  figures-at i l =
+      let d : Exposure = exposureAt s 0 in
+      getD-map-in curveMargin (table (exposureAt s) 1 (curveCount s)) i d noCurve (omega (arith, length-table (exposureAt s) 1 (curveCount s)))
+      ∙ ap curveMargin (getD-table (exposureAt s) 1 (curveCount s) i d l)
+
 -- the first k places hold the figures of the first k curves
-pub record Placed (s : List ℕ) (curves : List CurveMargin) (k : ℕ) : Type 0 where
+pub record CurvesPlaced (s : List ℕ) (curves : List CurveMargin) (k : ℕ) : Type 0 where
   pub places : length curves ≡ 8
   pub each : (i : ℕ) → i < k → getD curves i noCurve ≡ curveMargin (exposureAt s (1 + i))
 
-pub placed-as : (s : List ℕ) (curves : List CurveMargin) {k n : ℕ} → k ≡ n → Placed s curves k → Placed s curves n
-placed-as s curves e h = subst (λ (k : ℕ). Placed s curves k) e h
+pub placed-as : (s : List ℕ) (curves : List CurveMargin) {k n : ℕ} → k ≡ n → CurvesPlaced s curves k → CurvesPlaced s curves n
+placed-as s curves e h = subst (λ (k : ℕ). CurvesPlaced s curves k) e h
 
-module _ (s : List ℕ) (curves : List CurveMargin) (k : ℕ) (h : Placed s curves k) where
-  pub placed-next : (m : CurveMargin) → k < 8 → m ≡ curveMargin (exposureAt s (k + 1)) → Placed s (set curves k m) (k + 1)
+module _ (s : List ℕ) (curves : List CurveMargin) (k : ℕ) (h : CurvesPlaced s curves k) where
+  pub placed-next : (m : CurveMargin) → k < 8 → m ≡ curveMargin (exposureAt s (k + 1)) → CurvesPlaced s (set curves k m) (k + 1)
   placed-next m l e = record { places = length-set curves k m ∙ h .places; each = λ i b. go i b (ℕ-discrete i k) }
     where
       go : (i : ℕ) → i < k + 1 → Dec (i ≡ k) → getD (set curves k m) i noCurve ≡ curveMargin (exposureAt s (1 + i))
@@ -37,16 +53,10 @@ module _ (s : List ℕ) (curves : List CurveMargin) (k : ℕ) (h : Placed s curv
       go i b (no p) = getD-set-other curves k i m noCurve p ∙ h .each i (omega arith)
 
   pub placed-all : k ≡ curveCount s → k ≤ 8 → take k curves ≡ map curveMargin (exposures s)
-  unfolding exposures
   placed-all e l =
-      let d : Exposure = exposureAt s 0 in
       let t : length (take k curves) ≡ k = length-take-le k curves (omega (arith, h .places)) in
-      let n : length (map curveMargin (table (exposureAt s) 1 (curveCount s))) ≡ curveCount s = length-map (table (exposureAt s) 1 (curveCount s)) curveMargin ∙ length-table (exposureAt s) 1 (curveCount s) in
-      ext-getD noCurve (take k curves) (map curveMargin (table (exposureAt s) 1 (curveCount s))) (t ∙ e ∙ sym n)
-      (λ i b.
-      getD-take k curves i noCurve (omega arith)
-      ∙ h .each i (omega arith)
-      ∙ sym (getD-map-in curveMargin (table (exposureAt s) 1 (curveCount s)) i d noCurve (omega (arith, length-table (exposureAt s) 1 (curveCount s))) ∙ ap curveMargin (getD-table (exposureAt s) 1 (curveCount s) i d (omega arith))))
+      ext-getD noCurve (take k curves) (map curveMargin (exposures s)) (t ∙ e ∙ sym (length-figures s))
+      (λ i b. getD-take k curves i noCurve (omega arith) ∙ h .each i (omega arith) ∙ sym (figures-at s i (omega arith)))
 
 module _ (s : List ℕ) (used : ℕ) (b : Sound s used) where
   all-fit : (i n : ℕ) → AllFlowsFit (table (exposureAt s) i n)
@@ -58,9 +68,5 @@ module _ (s : List ℕ) (used : ℕ) (b : Sound s used) where
   unfolding exposures
   exposures-fit = all-fit 1 (curveCount s)
 
-  length-figures : length (map curveMargin (exposures s)) ≡ curveCount s
-  unfolding exposures
-  length-figures = length-map (table (exposureAt s) 1 (curveCount s)) curveMargin ∙ length-table (exposureAt s) 1 (curveCount s)
-
   pub placed-limits : (curves : List CurveMargin) (k : ℕ) → k ≡ curveCount s → take k curves ≡ map curveMargin (exposures s) → PlacesLimits curves k
-  placed-limits curves k e t = places-limits curves k (exposures s) t (omega (arith, b .most)) (length-figures ∙ sym e) exposures-fit
+  placed-limits curves k e t = places-limits curves k (exposures s) t (omega (arith, b .most)) (length-figures s ∙ sym e) exposures-fit

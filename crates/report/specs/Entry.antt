@@ -1,4 +1,4 @@
--- The margin entry: its answer, and every lent byte afterwards (document 01, "Margin" and ground 13). Assumes nothing.
+-- The margin entry: its answer, and every lent byte afterwards (document 01, "Margin" and ground 13).
 use mathlib.Core.Bool.{Bool}
 use mathlib.Core.List.{List, _++_}
 use Prim.Native.Nat.{ℕ}

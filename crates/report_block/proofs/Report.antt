@@ -1,4 +1,4 @@
--- The laws of the report's bytes: its check, its place, its length, and how it is written. Assumes nothing.
+-- The laws of the report's bytes: its check, its place, its length, and how it is written.
 use mathlib.Core.Path.{_≡_, refl, sym, _∙_, ap}
 use mathlib.Core.Bool.{false}
 use mathlib.Core.List.{List, [], _∷_, _++_, flatMap}

@@ -1,4 +1,4 @@
--- What the report shows is what the margin holds, where it fits its field. Assumes nothing.
+-- What the report shows is what the margin holds, where it fits its field.
 use mathlib.Core.Path.{_≡_, refl, sym, _∙_, ap}
 use mathlib.Core.List.{List, [], _∷_, _++_, flatMap}
 use Prim.Native.Nat.{ℕ, _+_, _-_, _*_, _^_, _≤_, _<_}

@@ -1,4 +1,4 @@
--- The report block (document 01, "Margin"): a margin as 512 bytes. Assumes nothing.
+-- The report block (document 01, "Margin"): a margin as 512 bytes.
 use Prim.Native.Nat.{ℕ}
 use mathlib.Core.List.{List, [], _∷_, _++_, flatMap}
 use lib.ListN.{replicate}

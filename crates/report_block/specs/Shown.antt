@@ -1,4 +1,4 @@
--- What a report shows: the figures read off its bytes (document 01: "Shown is what its report holds"). Assumes nothing.
+-- What a report shows: the figures read off its bytes (document 01: "Shown is what its report holds").
 use Prim.Native.Nat.{ℕ, _+_, _-_, _*_, _^_, _<_}
 use mathlib.Core.List.{List}
 use lib.IntN.{ℤ}

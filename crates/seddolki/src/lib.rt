@@ -10,6 +10,7 @@ ghost use lib.ListN.{length};
 ghost use Rattle.book.specs.Verdict.{verdict};
 ghost use Rattle.discount.specs.Valued.{valuedOf};
 ghost use Rattle.edit.specs.Edits.{found, appendAnswer, appended, strikeAnswer, struck};
+ghost use Rattle.report.specs.Bounded.{Bounded};
 ghost use Rattle.report.specs.Entry.{marginVerdict, marginBytes};
 ghost use Rattle.seddolki.specs.Answers.{verdictAnswer, editedAnswer, valuedAnswer, valuedTolerance};
 
@@ -33,6 +34,7 @@ pub extern "C" fn seddolki_check(book: &[u8], used: usize) -> Answer
 pub extern "C" fn seddolki_margin(book: &[u8], used: usize, report: &mut [u8]) -> Answer
     ensures { λ r. ⌜ r ≡ verdictAnswer (marginVerdict (now (book .entry)) used (length (now (report .entry)))) ⌝ }
     ensures { λ _. ⌜ now (report .exit) ≡ marginBytes (now (book .entry)) used (now (report .entry)) ⌝ }
+    ensures { λ r. ⌜ (r .number ≡ 0 → Bounded (now (book .entry)) (now (report .exit))) ⌝ }
 {
     verdict_answer(report::margin(book, used, report))
 }

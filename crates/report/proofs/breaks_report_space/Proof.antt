@@ -1,4 +1,4 @@
--- `report::breaks_report_space` meets its contract. Assumes nothing.
+-- `report::breaks_report_space` meets its contract.
 use mathlib.Core.Path.{refl}
 use Rattle.report.specs.Entry.{breaksReportSpace}
 use Rattle.report.proofs.breaks_report_space.Statement.{statement}

@@ -1,4 +1,4 @@
--- `report::curve_figures` meets its contract: the ladder has the curve's flows, and the block gives a proper curve. Assumes nothing.
+-- `report::curve_figures` meets its contract: the ladder has the curve's flows, and the block gives a proper curve.
 use mathlib.Core.Path.{_≡_, refl, sym, ap, _∙_}
 use Prim.Native.Nat.{ℕ, _+_, _-_}
 use native.Mathlib.Omega.{arith}
@@ -19,29 +19,12 @@ block c =
     accepted-curve (blockAt (c .args .book .now) (c .args .curve)) (c .args .curve)
     (ap (λ (k : ℕ). curveVerdict (blockAt (c .args .book .now) k) k) (sym e) ∙ b .curve (c .args .curve - 1) (omega (arith, c .pre .1, c .pre .2)))
 
-slice-aggregate-gather : tie.Need-slice-aggregate-gather
-slice-aggregate-gather c = search needs
-
-gather-requires : tie.Need-gather-requires
-gather-requires c κs = search needs
-
 block-at-requires : tie.Need-block-at-requires
 block-at-requires c κs =
-    let start = c .before .before .before .before in
+    let gathered = c .before in
+    let start = gathered .before .before .before in
     let b = sound (start .args .book .now) (start .args .used) (start .pre .0) in
     omega (arith, b .blocks, b .lent, start .pre .2)
-
-currency-of-requires : tie.Need-currency-of-requires
-currency-of-requires c κs = search needs
-
-components-of-requires : tie.Need-components-of-requires
-components-of-requires c κs = search needs
-
-curve-of-requires : tie.Need-curve-of-requires
-curve-of-requires c κs = search needs
-
-slice-aggregate-curve-margin : tie.Need-slice-aggregate-curve-margin
-slice-aggregate-curve-margin c = search needs
 
 curve-margin-requires : tie.Need-curve-margin-requires
 curve-margin-requires c κs =
@@ -69,4 +52,13 @@ returns c =
 pub curve-figures-spec : {M : Type 1} → statement M
 curve-figures-spec =
     tie.close
-    (tie.spec slice-aggregate-gather gather-requires block-at-requires currency-of-requires components-of-requires curve-of-requires slice-aggregate-curve-margin curve-margin-requires returns)
+    (tie.spec
+    (λ c. search needs)
+    (λ c κs. search needs)
+    block-at-requires
+    (λ c κs. search needs)
+    (λ c κs. search needs)
+    (λ c κs. search needs)
+    (λ c. search needs)
+    curve-margin-requires
+    returns)

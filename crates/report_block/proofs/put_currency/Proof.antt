@@ -1,4 +1,4 @@
--- `report_block::put_currency` meets its contract: its fields, one behind the other. Assumes nothing.
+-- `report_block::put_currency` meets its contract: its fields, one behind the other.
 use borrow.Author.Needs.{needs}
 use mathlib.Core.Path.{_∙_}
 use mir.Syntax.{w64}

@@ -1,4 +1,4 @@
--- `report_block::put_fields` meets its contract: the parts, one behind the other. Assumes nothing.
+-- `report_block::put_fields` meets its contract: the parts, one behind the other.
 use borrow.Author.Needs.{needs}
 use Rattle.laws.proofs.Arrays.{length-mapped}
 use Rattle.report_block.proofs.Report.{Places, fields-put}

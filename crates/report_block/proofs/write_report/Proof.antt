@@ -1,4 +1,4 @@
--- `report_block::write_report` meets its contract. Assumes nothing.
+-- `report_block::write_report` meets its contract.
 use borrow.Author.Needs.{needs}
 use Rattle.laws.proofs.Arrays.{length-mapped}
 use Rattle.report_block.proofs.Report.{Places, report-put}
@@ -10,8 +10,10 @@ places s = record { curves = search (needs, length-mapped); currencies = search 
 
 returns : tie.Need-returns
 returns c =
-    let s = c .before .before .before .before .before .before .before .before .before in
-    rw (c .before .before .seal .ensures) (report-put (s .args .out .now) _ (s .args .m) (places s) (s .pre) (c .before .before .before .before .before .before .put-fields .ensures))
+    let sealed = c .before .before in
+    let fields = sealed .before .before .before .before in
+    let s = fields .before .before .before in
+    rw (sealed .seal .ensures) (report-put (s .args .out .now) _ (s .args .m) (places s) (s .pre) (fields .put-fields .ensures))
 
 pub write-report-spec : {M : Type 1} → statement M
 write-report-spec =
