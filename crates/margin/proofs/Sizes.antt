@@ -1,4 +1,4 @@
--- How large the figures of a curve can be: what keeps every sum in 64 bits. Assumes nothing.
+-- How large the figures of a curve can be: what keeps every sum in 64 bits.
 use mathlib.Core.List.{List, [], _∷_, map}
 use Prim.Native.Nat.{ℕ, _*_, _^_, _≤_, _<_}
 use native.Mathlib.Nat.{le-trans, mul-le-mul-right}
@@ -20,7 +20,8 @@ use Rattle.margin.specs.Exposure.{Exposure}
 use Rattle.margin.specs.Losses.{valueOn, baseOf, lossAt, worstAt}
 use Rattle.margin.specs.Margins.{curveMargin, MarginLimits}
 use Rattle.margin.specs.Totals.{AllFlowLimits, mostFlows}
-use Rattle.margin.proofs.Totals.{tolerance-size, signed-size}
+use Rattle.netting.proofs.Sizes.{signed-size}
+use Rattle.margin.proofs.Totals.{tolerance-size}
 
 -- ---- sums of flows
 
