@@ -2,7 +2,7 @@
 -- Marks, net amounts, totals and reaches are all held so.
 use mathlib.Core.Path.{_≡_, refl, sym, _∙_}
 use mathlib.Core.List.{List, [], _∷_, foldl}
-use Prim.Native.Nat.{ℕ, suc, _+_, _≤_, _<_}
+use Prim.Native.Nat.{ℕ, suc, _+_, _*_, _≤_, _<_}
 use native.Mathlib.Nat.{suc-mul, mul-le-mul-right}
 use native.Mathlib.Omega.{arith}
 use lib.ListN.{length}
@@ -10,7 +10,7 @@ use Rattle.discount.specs.declared.Flow.{Flow}
 use Rattle.discount.specs.Flows.{sum}
 use Rattle.margin.specs.declared.ladder.Rung.{Rung}
 use Rattle.margin.specs.Ladder.{payments, payment, ladderFlows, LadderLimits, RungLimits, nextRung}
-use Rattle.margin.specs.Totals.{FlowLimits, mostFlows, RoomFor}
+use Rattle.margin.specs.Totals.{FlowLimits, AllFlowLimits, mostFlows, RoomFor}
 use Rattle.margin.proofs.LadderFlows.{payment-limits, flowsFrom, flows-all, flows-end, flows-next, next-within}
 
 -- ---- the fold over a ladder's flows by a step; Room is the room for so many flows more
@@ -64,6 +64,12 @@ pub sum-fold : (v : Flow → ℕ) (n : ℕ) (fs : List Flow) → foldl (λ n f. 
 unfolding sum
 sum-fold v n [] = omega arith
 sum-fold v n (f ∷ fs) = omega (arith, sum-fold v (n + v f) fs)
+
+-- and how much it can be
+pub sum-most : (v : Flow → ℕ) (each : ℕ) → ((f : Flow) → FlowLimits f → v f ≤ each) → (fs : List Flow) → AllFlowLimits fs → sum v fs ≤ length fs * each
+unfolding sum
+sum-most v each h [] s = omega arith
+sum-most v each h (f ∷ fs) s = omega (arith, h f (s .0), sum-most v each h fs (s .1), suc-mul (length fs) each)
 
 -- ---- room for numbers that add up
 

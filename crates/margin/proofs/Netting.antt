@@ -1,6 +1,6 @@
 -- Net amounts with flows more: there is room for them; and how much netted flows are and how far they may be off.
 use mathlib.Core.Path.{_≡_, _∙_}
-use mathlib.Core.List.{List, [], _∷_}
+use mathlib.Core.List.{List, []}
 use Prim.Native.Nat.{ℕ, suc, _+_, _*_, _≤_}
 use native.Mathlib.Nat.{mul-le-mul-right}
 use native.Mathlib.Decide.{ℕ-discrete}
@@ -17,7 +17,7 @@ use Rattle.netting.proofs.Sizes.{signed-more, net-size, net-size-on, reach-size
 use Rattle.margin.specs.Factors.{dayCount}
 use Rattle.margin.specs.Netted.{NetsRoom}
 use Rattle.margin.specs.Totals.{FlowLimits, AllFlowLimits, mostFlows, RoomFor}
-use Rattle.margin.proofs.Folds.{room-less, room-next}
+use Rattle.margin.proofs.Folds.{sum-most, room-less, room-next}
 
 -- ---- room for more flows
 
@@ -52,20 +52,13 @@ nets-next {n} nets f s h = (length-set nets (f .day) _ ∙ h .0, record { each =
 -- ---- how far flows may be off, added up
 
 pub reach-most : (fs : List Flow) → AllFlowLimits fs → sum flowReach fs ≤ length fs * 200000
-unfolding sum
-reach-most [] h = omega arith
-reach-most (f ∷ fs) h = omega (arith, reach-size (f .amount) (f .day) (h .0 .amount) (h .0 .day), reach-most fs (h .1))
+reach-most fs h = sum-most flowReach 200000 (λ f s. reach-size (f .amount) (f .day) (s .amount) (s .day)) fs h
 
 pub reach-next : {n : ℕ} (off : ℕ) (f : Flow) → FlowLimits f → RoomFor 200000 (suc n) off → RoomFor 200000 n (off + flowReach f)
 reach-next off f s h = room-next (omega arith) (reach-size (f .amount) (f .day) (s .amount) (s .day)) h
 
 -- ---- and how much they are
 
-amounts-most : (fs : List Flow) → AllFlowLimits fs → sum (λ f. f .amount) fs ≤ length fs * unit
-unfolding sum
-amounts-most [] h = omega arith
-amounts-most (f ∷ fs) h = omega (arith, h .0 .amount, amounts-most fs (h .1))
-
 pub nets-size : (fs : List Flow) → AllFlowLimits fs → length fs ≤ mostFlows → netSize (netted fs noNets) (listed (netted fs noNets)) ≤ 140000000000000000
 unfolding unit
-nets-size fs h few = omega (arith, net-size fs, amounts-most fs h, mul-le-mul-right unit few)
+nets-size fs h few = omega (arith, net-size fs, sum-most (λ f. f .amount) unit (λ f s. s .amount) fs h, mul-le-mul-right unit few)
