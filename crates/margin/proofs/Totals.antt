@@ -32,8 +32,8 @@ tolerance-size a days h k = omega (arith, scaled-size a days h k)
 
 -- ---- one flow more: what the code holds, and that it fits
 
-pub off-fits : (off : ℕ) → RoomFor 1000 1 off → (f : Flow) → FlowLimits f → off + flowTolerance f < 2 ^ 64
-off-fits off h f s = omega (arith, tolerance-size (f .amount) (f .day) (s .amount) (s .day))
+pub off-fits : (off a days : ℕ) → RoomFor 1000 1 off → a ≤ unit → days ≤ 10950 → off + tolerance a days < 2 ^ 64
+off-fits off a days h s k = omega (arith, tolerance-size a days s k)
 
 pub flow-size : (f : Flow) (factor : ℕ) → FlowLimits f → factor ≤ unit → product (f .amount) factor ≤ unit
 flow-size f factor h k = le-trans (product-le (f .amount) factor k) (h .amount)

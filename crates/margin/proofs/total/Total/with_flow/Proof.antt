@@ -17,7 +17,7 @@ cast-value c = cast-fits (c .before .args .self .sum) _ (c .before .pre .0 .valu
 add-off : tie.Need-add-off
 add-off c =
     let s = c .before .before .before in
-    rw (c .before .tolerance .ensures) (record { fits = off-fits (s .args .self .tolerance) (s .pre .0 .off) (s .args .f) (s .pre .1) })
+    rw (c .before .tolerance .ensures) (record { fits = off-fits _ _ _ (s .pre .0 .off) (s .pre .1 .amount) (search needs) })
 
 add-sum : tie.Need-add-t8
 add-sum c =
