@@ -14,7 +14,7 @@ use Rattle.sieve.specs.Cheap.{whole}
 use Rattle.sieve.proofs.Bound.{cheap-le}
 use Rattle.netting.specs.Netting.{listedFrom, netOn, worth, netValue, netSize, cheapOn}
 use Rattle.netting.proofs.DaySums.{listed-below}
-use Rattle.netting.proofs.Sizes.{value-size}
+use Rattle.netting.proofs.Sizes.{net-value-size}
 use Rattle.estimate.specs.declared.lines.Line.{Line}
 use Rattle.estimate.specs.declared.parts.Part.{Part}
 use Rattle.estimate.specs.Lines.{rateOn, Drawn}
@@ -94,7 +94,7 @@ module _ (until : ℕ) where
 
 pub cheap-size : (rate : ℕ → ℕ) (nets : List ℤ) (ds : List ℕ) → natAbs (netValue (cheapOn rate) nets ds) ≤ netSize nets ds
 unfolding whole
-cheap-size rate nets ds = value-size (cheapOn rate) (λ d. cheap-le (rate d) d) nets ds
+cheap-size rate nets ds = net-value-size (cheapOn rate) (λ d. cheap-le (rate d) d) nets ds
 
 -- ---- a line has the rates of the days from a day on, as far as it goes
 

@@ -1,4 +1,4 @@
--- A book's trades one by one: the ladder holds the flows of those passed that stand on the curve. Assumes nothing.
+-- A book's trades one by one: the ladder holds the flows of those passed that stand on the curve.
 use mathlib.Core.Path.{_≡_, refl, sym, ap, _∙_}
 use mathlib.Core.Bool.{Bool, true, false, cond}
 use mathlib.Core.List.{List, [], _∷_, _++_, flatMap}

@@ -1,4 +1,4 @@
--- What an accepted book has on a curve: a proper curve, and flows in their limits, few enough for 64 bits. Assumes nothing.
+-- What an accepted book has on a curve: a proper curve, and flows in their limits, few enough for 64 bits.
 use mathlib.Core.Path.{_≡_, sym, ap, _∙_}
 use mathlib.Core.Bool.{Bool, true, false, cond}
 use mathlib.Core.List.{List, [], _∷_, _++_}

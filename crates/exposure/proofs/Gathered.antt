@@ -1,4 +1,4 @@
--- The flows of a ladder with a leg more: those that it had, and then the leg's, as far as they stand on the curve. Assumes nothing.
+-- The flows of a ladder with a leg more: those that it had, and then the leg's, as far as they stand on the curve.
 use mathlib.Core.Path.{_≡_, refl, sym, ap, _∙_}
 use mathlib.Core.Bool.{Bool, true, false, not, _&&_, cond}
 use mathlib.Core.Logic.{inl}

@@ -1,4 +1,4 @@
--- Three legs one behind the other: a ladder grows by the flows of a trade. Assumes nothing.
+-- Three legs one behind the other: a ladder grows by the flows of a trade.
 use mathlib.Core.Path.{_≡_, refl, sym, ap, _∙_}
 use mathlib.Core.Bool.{Bool, true, false, _||_, cond}
 use mathlib.Core.List.{List, _++_, append-assoc}
@@ -28,8 +28,8 @@ length-withLeg curve l ladder n = go (standsOn curve l)
     go false = refl
 
 -- after a leg, with the count m and the ladder x: what was left of the room is left
-pub room-next : (curve : ℕ) (l : Leg) (ladder : List ℕ) (n k : ℕ) {m : ℕ} {x : List ℕ} → m ≡ countWithLeg curve l n → x ≡ withLeg curve l ladder n → n * 6 + 6 + k ≤ length ladder → m * 6 + k ≤ length x
-room-next curve l ladder n k e f h =
+pub room-left : (curve : ℕ) (l : Leg) (ladder : List ℕ) (n k : ℕ) {m : ℕ} {x : List ℕ} → m ≡ countWithLeg curve l n → x ≡ withLeg curve l ladder n → n * 6 + 6 + k ≤ length ladder → m * 6 + k ≤ length x
+room-left curve l ladder n k e f h =
     omega (arith, push-few curve l ladder n (omega arith), ap length f, length-withLeg curve l ladder n)
 
 module _ (curve : ℕ) (legs : Legs) (ladder : List ℕ) (n : ℕ) (room : n * 6 + 18 ≤ length ladder) (sound : LegsSound legs) where
@@ -52,8 +52,8 @@ module _ (curve : ℕ) (legs : Legs) (ladder : List ℕ) (n : ℕ) (room : n * 6
       → Grown curve (legsFlows legs) ladder n x₃ m₃
   grown {m₁} {m₂} {m₃} {x₁} {x₂} {x₃} c₁ w₁ c₂ w₂ c₃ w₃ =
       let r₁ : n * 6 + 6 ≤ length ladder = omega arith in
-      let r₂ : m₁ * 6 + 12 ≤ length x₁ = room-next curve (legs .first) ladder n 12 c₁ w₁ (omega arith) in
-      let r₃ : m₂ * 6 + 6 ≤ length x₂ = room-next curve (legs .second) x₁ m₁ 6 c₂ w₂ (omega arith) in
+      let r₂ : m₁ * 6 + 12 ≤ length x₁ = room-left curve (legs .first) ladder n 12 c₁ w₁ (omega arith) in
+      let r₃ : m₂ * 6 + 6 ≤ length x₂ = room-left curve (legs .second) x₁ m₁ 6 c₂ w₂ (omega arith) in
       let s₂ : m₁ * 6 + 6 ≤ length x₁ = omega arith in
       let f₁ : ladderFlows curve x₁ m₁ ≡ ladderFlows curve ladder n ++ flowsOn curve (legFlows (legs .first)) = rw (c₁, w₁) (push-flows curve (legs .first) ladder n r₁) in
       let f₂ : ladderFlows curve x₂ m₂ ≡ ladderFlows curve x₁ m₁ ++ flowsOn curve (legFlows (legs .second)) = rw (c₂, w₂) (push-flows curve (legs .second) x₁ m₁ s₂) in

@@ -1,4 +1,4 @@
--- A ladder with a leg more: what the code writes is the leg's schedule, and the ladder's flows are then the leg's too. Assumes nothing.
+-- A ladder with a leg more: what the code writes is the leg's schedule, and the ladder's flows are then the leg's too.
 use mathlib.Core.Path.{_≡_, refl, ap, _∙_}
 use mathlib.Core.Bool.{Bool, true, false, cond}
 use mathlib.Core.List.{List, [], _∷_}

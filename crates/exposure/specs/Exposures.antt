@@ -1,4 +1,4 @@
--- What an account has on each curve, from the bytes of its book (document 01, "Flows" and "Margin"). Assumes nothing.
+-- What an account has on each curve, from the bytes of its book (document 01, "Flows" and "Margin").
 use mathlib.Core.List.{List, flatMap}
 use Prim.Native.Nat.{ℕ}
 use Rattle.laws.specs.Walk.{table}

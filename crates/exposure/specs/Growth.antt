@@ -1,4 +1,4 @@
--- A ladder that grows by flows. Assumes nothing.
+-- A ladder that grows by flows.
 use mathlib.Core.Path.{_≡_}
 use mathlib.Core.Bool.{false}
 use mathlib.Core.List.{List, _++_}

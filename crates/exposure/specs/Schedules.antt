@@ -1,4 +1,4 @@
--- A leg of a trade as a schedule of a curve's ladder (`Ladder` of the crate margin). Assumes nothing.
+-- A leg of a trade as a schedule of a curve's ladder (`Ladder` of the crate margin).
 use mathlib.Core.Bool.{Bool, _&&_, not, cond}
 use mathlib.Core.List.{List, [], _∷_}
 use Prim.Native.Nat.{ℕ, _+_, _*_}
@@ -8,15 +8,15 @@ use Rattle.flows.specs.declared.Leg.{Leg}
 
 -- the six numbers of a schedule
 abbrev pub scheduleOf : Leg → List ℕ
-scheduleOf l = l .first ∷ l .period ∷ l .count ∷ l .each ∷ l .last ∷ cond (l .received) 1 0 ∷ []
+scheduleOf leg = leg .first ∷ leg .period ∷ leg .count ∷ leg .each ∷ leg .last ∷ cond (leg .received) 1 0 ∷ []
 
 -- a leg that has flows on the curve
 abbrev pub standsOn : ℕ → Leg → Bool
-standsOn curve l = eqb (l .curve) curve && not (eqb (l .count) 0)
+standsOn curve leg = eqb (leg .curve) curve && not (eqb (leg .count) 0)
 
--- the ladder of n schedules with a leg more, where it stands on the curve; and how many schedules it then has
+-- the ladder of so many schedules with a leg more, where it stands on the curve; and how many schedules it then has
 unfoldable pub withLeg : ℕ → Leg → List ℕ → ℕ → List ℕ
-withLeg curve l ladder n = cond (standsOn curve l) (put ladder (n * 6) (scheduleOf l)) ladder
+withLeg curve leg ladder schedules = cond (standsOn curve leg) (put ladder (schedules * 6) (scheduleOf leg)) ladder
 
 unfoldable pub countWithLeg : ℕ → Leg → ℕ → ℕ
-countWithLeg curve l n = cond (standsOn curve l) (n + 1) n
+countWithLeg curve leg schedules = cond (standsOn curve leg) (schedules + 1) schedules

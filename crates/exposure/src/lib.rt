@@ -13,40 +13,40 @@ ghost use Rattle.exposure.specs.Exposures.{flowsIn};
 use flows::Leg;
 use flows::Legs;
 
-fn stands_on(curve: u64, l: Leg) -> bool
-    ensures { λ r. ⌜ r ≡ standsOn curve l ⌝ }
+fn stands_on(curve: u64, leg: Leg) -> bool
+    ensures { λ r. ⌜ r ≡ standsOn curve leg ⌝ }
 {
-    (l.curve == curve) & !(l.count == 0)
+    (leg.curve == curve) & !(leg.count == 0)
 }
 
-// Adds a leg behind the ladder's n schedules, where it stands on the curve.
-fn push_leg(ladder: &mut [u64], n: usize, curve: u64, l: Leg) -> usize
-    requires { ⌜ n * 6 + 6 ≤ length (now ladder) ⌝ }
-    ensures { λ r. ⌜ r ≡ countWithLeg curve l n ⌝ }
-    ensures { λ _. ⌜ now (ladder .exit) ≡ withLeg curve l (now (ladder .entry)) n ⌝ }
+// Adds a leg behind the ladder's schedules, where it stands on the curve.
+fn push_leg(ladder: &mut [u64], schedules: usize, curve: u64, leg: Leg) -> usize
+    requires { ⌜ schedules * 6 + 6 ≤ length (now ladder) ⌝ }
+    ensures { λ r. ⌜ r ≡ countWithLeg curve leg schedules ⌝ }
+    ensures { λ _. ⌜ now (ladder .exit) ≡ withLeg curve leg (now (ladder .entry)) schedules ⌝ }
 {
-    if !stands_on(curve, l) {
-        return n;
+    if !stands_on(curve, leg) {
+        return schedules;
     }
-    let at = n * 6;
-    ladder[at] = l.first;
-    ladder[at + 1] = l.period;
-    ladder[at + 2] = l.count;
-    ladder[at + 3] = l.each;
-    ladder[at + 4] = l.last;
-    ladder[at + 5] = l.received as u64;
-    n + 1
+    let at = schedules * 6;
+    ladder[at] = leg.first;
+    ladder[at + 1] = leg.period;
+    ladder[at + 2] = leg.count;
+    ladder[at + 3] = leg.each;
+    ladder[at + 4] = leg.last;
+    ladder[at + 5] = leg.received as u64;
+    schedules + 1
 }
 
 // Adds the legs of a trade.
-fn push_legs(ladder: &mut [u64], n: usize, curve: u64, legs: Legs) -> usize
-    requires { ⌜ (n * 6 + 18 ≤ length (now ladder)) × LegsSound legs ⌝ }
-    ensures { λ r. ⌜ Grown curve (legsFlows legs) (now (ladder .entry)) n (now (ladder .exit)) r ⌝ }
+fn push_legs(ladder: &mut [u64], schedules: usize, curve: u64, legs: Legs) -> usize
+    requires { ⌜ (schedules * 6 + 18 ≤ length (now ladder)) × LegsSound legs ⌝ }
+    ensures { λ r. ⌜ Grown curve (legsFlows legs) (now (ladder .entry)) schedules (now (ladder .exit)) r ⌝ }
 {
     let first = legs.first;
     let second = legs.second;
     let payments = legs.payments;
-    let one = push_leg(ladder, n, curve, first);
+    let one = push_leg(ladder, schedules, curve, first);
     let two = push_leg(ladder, one, curve, second);
     push_leg(ladder, two, curve, payments)
 }
@@ -58,13 +58,13 @@ pub fn gather(book: &[u8], used: usize, curve: u64, ladder: &mut [u64]) -> usize
     ensures limits { λ r. ⌜ LadderLimits (now (ladder .exit)) r ⌝ }
 {
     let count = book::parts::trade_count(book);
-    let mut n: usize = 0;
+    let mut schedules: usize = 0;
     let mut i: usize = 0;
     while i < count {
         let r = book::parts::record_at(book, i);
         let legs = flows::walk::legs_of(trade::read::trade_of(record::bytes::fields_of(&r)));
-        n = push_legs(ladder, n, curve, legs);
+        schedules = push_legs(ladder, schedules, curve, legs);
         i += 1;
     }
-    n
+    schedules
 }

@@ -1,8 +1,8 @@
 -- The factors of the days that flows fall on: every flow's day is marked, its entry is the factor at the nodes' rate, and so a total by these entries is
--- the value on the nodes. Assumes nothing.
+-- the value on the nodes.
 use mathlib.Core.Path.{_≡_, refl, sym, _∙_, ap}
 use mathlib.Core.Bool.{Bool, true, false, cond}
-use mathlib.Core.List.{List, [], _∷_, _++_}
+use mathlib.Core.List.{List, [], _∷_}
 use Prim.Native.Nat.{ℕ, zero, suc, _+_, _≤_, _<_}
 use native.Mathlib.Nat.{zero-add}
 use native.Mathlib.Decide.{decLt}
@@ -23,40 +23,18 @@ use Rattle.discount.specs.Flows.{signed, total, sum, flowValue, flowTolerance}
 use Rattle.curve.specs.declared.Node.{Node}
 use Rattle.curve.specs.Rates.{rateAt}
 use Rattle.margin.specs.Totals.{plusFlows, noFlows, totalOn, AllFlowLimits}
-use Rattle.margin.specs.Factors.{dayCount, factorIn, FactorLimits, marked, AllMarked, NextMarked, factorsOn}
-use Rattle.margin.proofs.Folds.{plusFlows-none}
+use Rattle.margin.specs.Factors.{dayCount, factorIn, FactorLimits, markDay, marked, AllMarked, NextMarked, factorsOn}
+use Rattle.margin.proofs.Totals.{plusFlows-none}
 
 -- ---- days marked
 
+pub length-mark : (f : Flow) (a : List ℕ) → length (markDay a f) ≡ length a
+unfolding markDay
+length-mark f a = length-set a (f .day) 1
+
 pub length-marked : (fs : List Flow) (a : List ℕ) → length (marked fs a) ≡ length a
-unfolding marked
 length-marked [] a = refl
-length-marked (f ∷ fs) a = length-marked fs (set a (f .day) 1) ∙ length-set a (f .day) 1
-
--- of all that is to be marked in a₀, the rest is still to be marked in a
-pub record Marking (a₀ : List ℕ) (all : List Flow) (a : List ℕ) (rest : List Flow) : Type 0 where
-  pub same : marked all a₀ ≡ marked rest a
-  pub places : length a ≡ length a₀
-
-pub marking-all : (a : List ℕ) (all : List Flow) → Marking a all a all
-marking-all a all = record { same = refl; places = refl }
-
-module _ (a₀ : List ℕ) (all : List Flow) (a : List ℕ) where
-  pub marking-next : (f : Flow) (rest : List Flow) → Marking a₀ all a (f ∷ rest) → Marking a₀ all (set a (f .day) 1) rest
-  unfolding marked
-  marking-next f rest h = record { same = h .same; places = length-set a (f .day) 1 ∙ h .places }
-
-  pub marking-some : (xs rest : List Flow) → Marking a₀ all a (xs ++ rest) → Marking a₀ all (marked xs a) rest
-  unfolding marked
-  marking-some xs rest h = record { same = h .same ∙ go xs a; places = length-marked xs a ∙ h .places }
-    where
-      go : (xs : List Flow) (a : List ℕ) → marked (xs ++ rest) a ≡ marked rest (marked xs a)
-      go [] a = refl
-      go (f ∷ xs) a = go xs (set a (f .day) 1)
-
-  pub marking-none : Marking a₀ all a [] → a ≡ marked all a₀
-  unfolding marked
-  marking-none h = sym (h .same)
+length-marked (f ∷ fs) a = length-marked fs (markDay a f) ∙ length-mark f a
 
 -- a mark stays
 set-kept : (a : List ℕ) (i k : ℕ) → getD a k 0 ≡ 1 → getD (set a i 1) k 0 ≡ 1
@@ -67,91 +45,91 @@ set-kept (x ∷ a) (suc i) zero h = h
 set-kept (x ∷ a) (suc i) (suc k) h = set-kept a i k h
 
 marked-kept : (fs : List Flow) (a : List ℕ) (k : ℕ) → getD a k 0 ≡ 1 → getD (marked fs a) k 0 ≡ 1
-unfolding marked
+unfolding markDay
 marked-kept [] a k h = h
-marked-kept (f ∷ fs) a k h = marked-kept fs (set a (f .day) 1) k (set-kept a (f .day) k h)
+marked-kept (f ∷ fs) a k h = marked-kept fs (markDay a f) k (set-kept a (f .day) k h)
 
 pub all-marked : (fs : List Flow) (a : List ℕ) → AllFlowLimits fs → length a ≡ dayCount → AllMarked (marked fs a) fs
-unfolding marked
+unfolding markDay
 all-marked [] a h e = tt
 all-marked (f ∷ fs) a h e = (
-  marked-kept fs (set a (f .day) 1) (f .day) (getD-set-same a (f .day) 1 0 (omega (arith, h .0 .day))),
-  all-marked fs (set a (f .day) 1) (h .1) (length-set a (f .day) 1 ∙ e),
+  marked-kept fs (markDay a f) (f .day) (getD-set-same a (f .day) 1 0 (omega (arith, h .0 .day))),
+  all-marked fs (markDay a f) (h .1) (length-mark f a ∙ e),
 )
 
 -- ---- their factors
 
-module _ (nodes : List Node) (asked : List ℕ) where
+module _ (nodes : List Node) (marks : List ℕ) where
   abbrev pub entry : ℕ → ℕ
-  entry day = cond (eqb (getD asked day 0) 0) 0 (factor (rateAt nodes day) day)
+  entry day = cond (eqb (getD marks day 0) 0) 0 (factor (rateAt nodes day) day)
 
-  entry-asked : (day : ℕ) → (getD asked day 0 ≡ 0 → ⊥) → entry day ≡ factor (rateAt nodes day) day
-  entry-asked day n = rw (ne-eqb (getD asked day 0) 0 n)
+  entry-marked : (day : ℕ) → (getD marks day 0 ≡ 0 → ⊥) → entry day ≡ factor (rateAt nodes day) day
+  entry-marked day n = rw (ne-eqb (getD marks day 0) 0 n)
 
-  entry-none : (day : ℕ) → getD asked day 0 ≡ 0 → entry day ≡ 0
-  entry-none day e = rw (eq-eqb (getD asked day 0) 0 e)
+  entry-none : (day : ℕ) → getD marks day 0 ≡ 0 → entry day ≡ 0
+  entry-none day e = rw (eq-eqb (getD marks day 0) 0 e)
 
   entry-most : (day : ℕ) → entry day ≤ unit
-  entry-most day = go (eqb (getD asked day 0) 0)
+  entry-most day = go (eqb (getD marks day 0) 0)
     where
       go : (t : Bool) → cond t 0 (factor (rateAt nodes day) day) ≤ unit
       go true = omega arith
       go false = factor-le (rateAt nodes day) day
 
-  length-factors : length (factorsOn nodes asked) ≡ length asked
+  length-factors : length (factorsOn nodes marks) ≡ length marks
   unfolding factorsOn
-  length-factors = length-table entry 0 (length asked)
+  length-factors = length-table entry 0 (length marks)
 
-  factor-at : (day : ℕ) → day < length asked → factorIn (factorsOn nodes asked) day ≡ entry day
+  factor-at : (day : ℕ) → day < length marks → factorIn (factorsOn nodes marks) day ≡ entry day
   unfolding factorsOn
-  factor-at day h = getD-table entry 0 (length asked) day 0 h ∙ ap entry (zero-add day)
+  factor-at day h = getD-table entry 0 (length marks) day 0 h ∙ ap entry (zero-add day)
 
-  module _ (places : length asked ≡ dayCount) where
-    pub factors-limits : FactorLimits (factorsOn nodes asked)
-    factors-limits = record { places = length-factors ∙ places; each = λ day. go day (decLt day (length asked)) }
+  module _ (places : length marks ≡ dayCount) where
+    pub factors-limits : FactorLimits (factorsOn nodes marks)
+    factors-limits = record { places = length-factors ∙ places; each = λ day. go day (decLt day (length marks)) }
       where
-        go : (day : ℕ) → Dec (day < length asked) → factorIn (factorsOn nodes asked) day ≤ unit
+        go : (day : ℕ) → Dec (day < length marks) → factorIn (factorsOn nodes marks) day ≤ unit
         go day (yes h) = rw (factor-at day h) (entry-most day)
-        go day (no h) = rw (List·getD-eq-default (factorsOn nodes asked) 0 {n = day} (omega (arith, length-factors))) (omega arith)
+        go day (no h) = rw (List·getD-eq-default (factorsOn nodes marks) 0 {n = day} (omega (arith, length-factors))) (omega arith)
 
     -- at each flow's day stands its factor, and so the flow's value is the present value
-    same-values : (fs : List Flow) → AllFlowLimits fs → AllMarked asked fs
-        → total (λ f. product (f .amount) (factorIn (factorsOn nodes asked) (f .day))) fs ≡ total (flowValue (rateAt nodes)) fs
+    same-values : (fs : List Flow) → AllFlowLimits fs → AllMarked marks fs
+        → total (λ f. product (f .amount) (factorIn (factorsOn nodes marks) (f .day))) fs ≡ total (flowValue (rateAt nodes)) fs
     unfolding total presentValue
     same-values [] h m = refl
     same-values (f ∷ fs) h m =
-        let e : factorIn (factorsOn nodes asked) (f .day) ≡ factor (rateAt nodes (f .day)) (f .day) =
-        factor-at (f .day) (omega (arith, h .0 .day)) ∙ entry-asked (f .day) (λ z. omega (arith, m .0)) in
+        let e : factorIn (factorsOn nodes marks) (f .day) ≡ factor (rateAt nodes (f .day)) (f .day) =
+        factor-at (f .day) (omega (arith, h .0 .day)) ∙ entry-marked (f .day) (λ z. omega (arith, m .0)) in
         rw e (ap (λ (z : ℤ). signed (f .received) (product (f .amount) (factor (rateAt nodes (f .day)) (f .day))) +ℤ z) (same-values fs (h .1) (m .1)))
 
-    pub total-is : (fs : List Flow) → AllFlowLimits fs → AllMarked asked fs
-        → plusFlows (factorIn (factorsOn nodes asked)) noFlows fs ≡ totalOn nodes fs
+    pub total-is : (fs : List Flow) → AllFlowLimits fs → AllMarked marks fs
+        → plusFlows (factorIn (factorsOn nodes marks)) noFlows fs ≡ totalOn nodes fs
     total-is fs h m =
-        plusFlows-none (factorIn (factorsOn nodes asked)) fs
+        plusFlows-none (factorIn (factorsOn nodes marks)) fs
         ∙ ap (λ (z : ℤ). record { sum = z; tolerance = sum flowTolerance fs }) (same-values fs h m)
 
 -- ---- a loop's: the entries of the days before this one are filled, and the others still 0
 
-pub record Filled (nodes : List Node) (asked factors : List ℕ) (day : ℕ) : Type 0 where
-  pub most : day ≤ length asked
-  pub places : length factors ≡ length asked
-  pub done : (k : ℕ) → k < day → getD factors k 0 ≡ entry nodes asked k
-  pub rest : (k : ℕ) → day ≤ k → k < length asked → getD factors k 0 ≡ 0
+pub record FactorsUpTo (nodes : List Node) (marks factors : List ℕ) (day : ℕ) : Type 0 where
+  pub most : day ≤ length marks
+  pub places : length factors ≡ length marks
+  pub done : (k : ℕ) → k < day → getD factors k 0 ≡ entry nodes marks k
+  pub rest : (k : ℕ) → day ≤ k → k < length marks → getD factors k 0 ≡ 0
 
-module _ (nodes : List Node) (asked factors : List ℕ) where
-  pub filled-none : factors ≡ replicate (length asked) 0 → Filled nodes asked factors 0
-  filled-none e =
+module _ (nodes : List Node) (marks factors : List ℕ) where
+  pub factors-none : factors ≡ replicate (length marks) 0 → FactorsUpTo nodes marks factors 0
+  factors-none e =
       record {
         most = omega arith;
-        places = ap length e ∙ length-replicate (length asked) 0;
+        places = ap length e ∙ length-replicate (length marks) 0;
         done = λ k h. absurd (omega arith);
-        rest = λ k l h. ap (λ (f : List ℕ). getD f k 0) e ∙ getD-replicate (length asked) k 0 0 h;
+        rest = λ k l h. ap (λ (f : List ℕ). getD f k 0) e ∙ getD-replicate (length marks) k 0 0 h;
       }
 
-  module _ (day : ℕ) (h : Filled nodes asked factors day) where
+  module _ (day : ℕ) (h : FactorsUpTo nodes marks factors day) where
     -- a marked day's factor is written
-    pub filled-next : day < length asked → (getD asked day 0 ≡ 0 → ⊥) → Filled nodes asked (set factors day (factor (rateAt nodes day) day)) (day + 1)
-    filled-next l n =
+    pub factors-next : day < length marks → (getD marks day 0 ≡ 0 → ⊥) → FactorsUpTo nodes marks (set factors day (factor (rateAt nodes day) day)) (day + 1)
+    factors-next l n =
         let x : ℕ = factor (rateAt nodes day) day in
         record {
           most = omega arith;
@@ -161,13 +139,13 @@ module _ (nodes : List Node) (asked factors : List ℕ) where
               _
               day
               (λ k m. getD-set-other factors day k x 0 (λ p. omega arith) ∙ h .done k m)
-              (getD-set-same factors day x 0 (omega (arith, h .places)) ∙ sym (entry-asked nodes asked day n));
+              (getD-set-same factors day x 0 (omega (arith, h .places)) ∙ sym (entry-marked nodes marks day n));
           rest = λ k m b. getD-set-other factors day k x 0 (λ p. omega arith) ∙ h .rest k (omega arith) b;
         }
 
     -- days that are not marked are passed over
-    pub filled-skip : (next : ℕ) → NextMarked asked day next → Filled nodes asked factors next
-    filled-skip next m =
+    pub factors-skip : (next : ℕ) → NextMarked marks day next → FactorsUpTo nodes marks factors next
+    factors-skip next m =
         record {
           most = m .most;
           places = h .places;
@@ -175,10 +153,10 @@ module _ (nodes : List Node) (asked factors : List ℕ) where
           rest = λ k l b. h .rest k (omega (arith, m .least)) b;
         }
       where
-        go : (k : ℕ) → k < next → Dec (k < day) → getD factors k 0 ≡ entry nodes asked k
+        go : (k : ℕ) → k < next → Dec (k < day) → getD factors k 0 ≡ entry nodes marks k
         go k l (yes b) = h .done k b
-        go k l (no b) = h .rest k (omega arith) (omega (arith, m .most)) ∙ sym (entry-none nodes asked k (m .between k l (omega arith)))
+        go k l (no b) = h .rest k (omega arith) (omega (arith, m .most)) ∙ sym (entry-none nodes marks k (m .between k l (omega arith)))
 
-    pub filled-all : length asked ≤ day → factors ≡ factorsOn nodes asked
+    pub factors-all : length marks ≤ day → factors ≡ factorsOn nodes marks
     unfolding factorsOn
-    filled-all l = table-by (entry nodes asked) 0 (length asked) factors (h .places) (λ k m. h .done k (omega arith))
+    factors-all l = table-by (entry nodes marks) 0 (length marks) factors (h .places) (λ k m. h .done k (omega arith))

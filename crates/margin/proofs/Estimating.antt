@@ -15,7 +15,7 @@ use Rattle.curve.specs.Scenarios.{scenarioCount, scenarioAt}
 use Rattle.curve.specs.Stress.{stressed}
 use Rattle.curve.proofs.Rates.{rate-limit, each-limits}
 use Rattle.curve.proofs.Stress.{each-stressed}
-use Rattle.netting.specs.Netting.{noNets, netted, listed, netValue, cheapOn, flowReach, Dated}
+use Rattle.netting.specs.Netting.{noNets, netted, listed, netValue, cheapOn, flowReach, OnDays}
 use Rattle.netting.proofs.NettedValue.{netted-within}
 use Rattle.margin.specs.Exposure.{exposure}
 use Rattle.margin.specs.Ladder.{ladderFlows, LadderLimits}
@@ -24,7 +24,7 @@ use Rattle.margin.specs.Choice.{valueAt, Estimates}
 use Rattle.margin.proofs.LadderFlows.{ladder-limits}
 use Rattle.margin.proofs.Netting.{reach-most}
 
-dated : (fs : List Flow) → AllFlowLimits fs → Dated fs
+dated : (fs : List Flow) → AllFlowLimits fs → OnDays fs
 dated [] h = tt
 dated (f ∷ fs) h = (h .0 .day, dated fs (h .1))
 

@@ -1,94 +1,83 @@
--- A running total over flows that are made one by one. What a loop has added and what is left to add are together all, and the total has room for what
--- is left: both laws go through inner and outer loops alike. Assumes nothing.
+-- A loop over the flows of a ladder: what it holds is what the flows passed make of what it began with, and has room for the flows that are left.
+-- Marks, net amounts, totals and reaches are all held so.
 use mathlib.Core.Path.{_≡_, refl, sym, _∙_}
-use mathlib.Core.List.{List, [], _∷_, _++_}
-use Prim.Native.Nat.{ℕ, suc, _+_, _≤_}
-use native.Mathlib.Nat.{suc-mul}
+use mathlib.Core.List.{List, [], _∷_, foldl}
+use Prim.Native.Nat.{ℕ, suc, _+_, _*_, _≤_, _<_}
+use native.Mathlib.Nat.{suc-mul, mul-le-mul-right}
 use native.Mathlib.Omega.{arith}
-use lib.IntN.{_+ℤ_, +ℤ-assoc, +ℤ-idl, +ℤ-idr}
-use lib.ListN.{length, length-append}
-use Rattle.laws.proofs.Signed.{abs-add}
-use Rattle.decimal.specs.Product.{unit, product}
-use Rattle.decimal.proofs.Products.{product-le}
+use lib.ListN.{length}
 use Rattle.discount.specs.declared.Flow.{Flow}
-use Rattle.discount.specs.Flows.{signed, total, sum, flowTolerance}
-use Rattle.margin.specs.declared.total.Total.{Total}
-use Rattle.margin.specs.Totals.{plusFlow, plusFlows, noFlows, FlowLimits, AllFlowLimits, mostFlows, RoomFor}
-use Rattle.margin.proofs.Totals.{tolerance-size, signed-size}
+use Rattle.discount.specs.Flows.{sum}
+use Rattle.margin.specs.declared.ladder.Rung.{Rung}
+use Rattle.margin.specs.Ladder.{payments, payment, ladderFlows, LadderLimits, RungLimits, nextRung}
+use Rattle.margin.specs.Totals.{FlowLimits, AllFlowLimits, mostFlows, RoomFor}
+use Rattle.margin.proofs.LadderFlows.{payment-limits, flowsFrom, flows-all, flows-end, flows-next, next-within}
 
-pub room-one : (n : ℕ) (t : Total) → RoomFor (suc n) t → RoomFor 1 t
-room-one n t h = record { value = omega (arith, h .value, suc-mul n unit); off = omega (arith, h .off) }
+-- ---- the fold over a ladder's flows by a step; Room is the room for so many flows more
 
-pub room-part : (t : Total) (xs ys : List Flow) → RoomFor (length (xs ++ ys)) t → RoomFor (length xs) t
-room-part t xs ys h =
-    record {
-      value = omega (arith, simp length-append at (h .value));
-      off = omega (arith, simp length-append at (h .off));
-    }
+module _ {A : Type 0} (step : A → Flow → A) (Room : ℕ → A → Type 0) (curve : ℕ) (ladder : List ℕ) (schedules : ℕ) where
+  -- with the flows before a rung in a, those from it on are left
+  pub record Folded (a₀ a : A) (r : Rung) : Type 0 where
+    pub fold : foldl step a₀ (ladderFlows curve ladder schedules) ≡ foldl step a (flowsFrom curve ladder schedules r)
+    pub room : Room (length (flowsFrom curve ladder schedules r)) a
+    pub within : r .schedule < schedules → r .payment < payments ladder (r .schedule)
 
-pub room-none : (fs : List Flow) → length fs ≤ mostFlows → RoomFor (length fs) noFlows
-unfolding unit
-room-none fs h = record { value = omega arith; off = omega arith }
+  pub folded-none : LadderLimits ladder schedules → (a : A) → Room (length (ladderFlows curve ladder schedules)) a → Folded a a (record { schedule = 0; payment = 0 })
+  folded-none h a k =
+      record {
+        fold = rw (flows-all curve ladder schedules) refl;
+        room = rw (flows-all curve ladder schedules) k;
+        within = λ l. h .each 0 l .some;
+      }
 
-module _ (g : ℕ → ℕ) where
-  -- the fold is the sum
-  plusFlows-is : (t : Total) (fs : List Flow)
-      → plusFlows g t fs ≡ record { sum = t .sum +ℤ total (λ f. product (f .amount) (g (f .day))) fs; tolerance = t .tolerance + sum flowTolerance fs }
-  unfolding plusFlows plusFlow total sum
-  plusFlows-is t [] =
-      let e : t .tolerance + 0 ≡ t .tolerance = omega arith in
-      rw (+ℤ-idr (t .sum), e) refl
-  plusFlows-is t (f ∷ fs) =
-      let e : t .tolerance + flowTolerance f + sum flowTolerance fs ≡ t .tolerance + (flowTolerance f + sum flowTolerance fs) = omega arith in
-      plusFlows-is (plusFlow t f (g (f .day))) fs
-      ∙ rw (+ℤ-assoc (t .sum) (signed (f .received) (product (f .amount) (g (f .day)))) (total (λ f. product (f .amount) (g (f .day))) fs), e) refl
+module _ {A : Type 0} {step : A → Flow → A} {Room : ℕ → A → Type 0} {curve : ℕ} {ladder : List ℕ} {schedules : ℕ} {a₀ a : A} {r : Rung} (w : Folded step Room curve ladder schedules a₀ a r) where
+  pub folded-all : schedules ≤ r .schedule → a ≡ foldl step a₀ (ladderFlows curve ladder schedules)
+  folded-all l = sym (rw (flows-end curve ladder schedules r l) at (w .fold))
 
-  pub plusFlows-none : (fs : List Flow)
-      → plusFlows g noFlows fs ≡ record { sum = total (λ f. product (f .amount) (g (f .day))) fs; tolerance = sum flowTolerance fs }
-  plusFlows-none fs =
-      let e : 0 + sum flowTolerance fs ≡ sum flowTolerance fs = omega arith in
-      plusFlows-is noFlows fs ∙ rw (+ℤ-idl (total (λ f. product (f .amount) (g (f .day))) fs), e) refl
+  module _ (h : LadderLimits ladder schedules) (l : r .schedule < schedules) where
+    pub rung-limits : RungLimits ladder r
+    rung-limits = record { places = omega (arith, h .places); limits = h .each (r .schedule) l; within = w .within l }
 
-  plusFlows-append : (t : Total) (xs ys : List Flow) → plusFlows g t (xs ++ ys) ≡ plusFlows g (plusFlows g t xs) ys
-  unfolding plusFlows
-  plusFlows-append t [] ys = refl
-  plusFlows-append t (f ∷ xs) ys = plusFlows-append (plusFlow t f (g (f .day))) xs ys
+    pub rung-room : Room (suc (length (flowsFrom curve ladder schedules (nextRung ladder r)))) a
+    rung-room = rw (flows-next curve ladder schedules r l (w .within l)) at (w .room)
 
-  -- of all that is to be added to t₀, the rest is still to be added to t
-  pub record Left (t₀ : Total) (all : List Flow) (t : Total) (rest : List Flow) : Type 0 where
-    pub same : plusFlows g t₀ all ≡ plusFlows g t rest
-    pub room : RoomFor (length rest) t
+    -- a turn: the rung's flow f, and the next rung
+    pub flow-limits : {f : Flow} → f ≡ payment curve ladder (r .schedule) (r .payment) → FlowLimits f
+    flow-limits e = rw e (payment-limits ladder (r .schedule) (r .payment) (h .each (r .schedule) l) (w .within l) curve)
 
-  pub left-all : (t : Total) (all : List Flow) → RoomFor (length all) t → Left t all t all
-  left-all t all h = record { same = refl; room = h }
+    pub fewer-left : {next : Rung} → next ≡ nextRung ladder r → length (flowsFrom curve ladder schedules next) < length (flowsFrom curve ladder schedules r)
+    fewer-left e = rw (e, flows-next curve ladder schedules r l (w .within l)) (omega arith)
 
-  pub left-none : (t₀ : Total) (all : List Flow) (t : Total) → Left t₀ all t [] → t ≡ plusFlows g t₀ all
-  unfolding plusFlows
-  left-none t₀ all t h = sym (h .same)
+    pub folded-next : {f : Flow} {next : Rung} → f ≡ payment curve ladder (r .schedule) (r .payment) → next ≡ nextRung ladder r
+        → ((n : ℕ) → Room (suc n) a → Room n (step a f)) → Folded step Room curve ladder schedules a₀ (step a f) next
+    folded-next {f} {next} e g more =
+        rw g
+        (record {
+          fold = w .fold ∙ (rw (flows-next curve ladder schedules r l (w .within l), e) refl);
+          room = more _ rung-room;
+          within = next-within ladder schedules h r (w .within l);
+        })
 
-  module _ (le : (day : ℕ) → g day ≤ unit) where
-    room-next : (n : ℕ) (t : Total) (f : Flow) → FlowLimits f → RoomFor (suc n) t → RoomFor n (plusFlow t f (g (f .day)))
-    unfolding plusFlow
-    room-next n t f s h =
-        let v : ℕ = product (f .amount) (g (f .day)) in
-        record {
-          value =
-              omega
-              (arith, h .value, suc-mul n unit, abs-add (t .sum) (signed (f .received) v), signed-size (f .received) v, product-le (f .amount) (g (f .day)) (le (f .day)), s .amount);
-          off = omega (arith, h .off, suc-mul n 1000, tolerance-size (f .amount) (f .day) (s .amount) (s .day));
-        }
+-- ---- the fold that adds
 
-    room-some : (t : Total) (xs ys : List Flow) → AllFlowLimits xs → RoomFor (length (xs ++ ys)) t → RoomFor (length ys) (plusFlows g t xs)
-    unfolding plusFlows
-    room-some t [] ys s h = h
-    room-some t (f ∷ xs) ys s h =
-        room-some (plusFlow t f (g (f .day))) xs ys (s .1) (room-next (length (xs ++ ys)) t f (s .0) h)
+pub sum-fold : (v : Flow → ℕ) (n : ℕ) (fs : List Flow) → foldl (λ n f. n + v f) n fs ≡ n + sum v fs
+unfolding sum
+sum-fold v n [] = omega arith
+sum-fold v n (f ∷ fs) = omega (arith, sum-fold v (n + v f) fs)
 
-    module _ (t₀ : Total) (all : List Flow) (t : Total) where
-      pub left-next : (f : Flow) (rest : List Flow) → FlowLimits f → Left t₀ all t (f ∷ rest) → Left t₀ all (plusFlow t f (g (f .day))) rest
-      unfolding plusFlows
-      left-next f rest s h = record { same = h .same; room = room-next (length rest) t f s (h .room) }
+-- and how much it can be
+pub sum-most : (v : Flow → ℕ) (each : ℕ) → ((f : Flow) → FlowLimits f → v f ≤ each) → (fs : List Flow) → AllFlowLimits fs → sum v fs ≤ length fs * each
+unfolding sum
+sum-most v each h [] s = omega arith
+sum-most v each h (f ∷ fs) s = omega (arith, h f (s .0), sum-most v each h fs (s .1), suc-mul (length fs) each)
 
-      pub left-some : (xs rest : List Flow) → AllFlowLimits xs → Left t₀ all t (xs ++ rest) → Left t₀ all (plusFlows g t xs) rest
-      left-some xs rest s h =
-          record { same = h .same ∙ plusFlows-append t xs rest; room = room-some t xs rest s (h .room) }
+-- ---- room for numbers that add up
+
+pub room-less : {each m n size : ℕ} → m ≤ n → RoomFor each n size → RoomFor each m size
+room-less {each} h k = record { fits = omega (arith, mul-le-mul-right each h) }
+
+pub room-none : (each : ℕ) {n : ℕ} → n ≤ mostFlows → RoomFor each n 0
+room-none each h = record { fits = omega (arith, mul-le-mul-right each h) }
+
+pub room-next : {each n size after more : ℕ} → after ≤ size + more → more ≤ each → RoomFor each (suc n) size → RoomFor each n after
+room-next {each} {n} h k r = record { fits = omega (arith, suc-mul n each) }

@@ -1,4 +1,4 @@
--- How large the figures of a curve can be: what keeps every sum in 64 bits. Assumes nothing.
+-- How large the figures of a curve can be: what keeps every sum in 64 bits.
 use mathlib.Core.List.{List, [], _∷_, map}
 use Prim.Native.Nat.{ℕ, _*_, _^_, _≤_, _<_}
 use native.Mathlib.Nat.{le-trans, mul-le-mul-right}
@@ -20,7 +20,9 @@ use Rattle.margin.specs.Exposure.{Exposure}
 use Rattle.margin.specs.Losses.{valueOn, baseOf, lossAt, worstAt}
 use Rattle.margin.specs.Margins.{curveMargin, MarginLimits}
 use Rattle.margin.specs.Totals.{AllFlowLimits, mostFlows}
-use Rattle.margin.proofs.Totals.{tolerance-size, signed-size}
+use Rattle.netting.proofs.Sizes.{signed-size}
+use Rattle.margin.proofs.Folds.{sum-most}
+use Rattle.margin.proofs.Totals.{tolerance-size}
 
 -- ---- sums of flows
 
@@ -33,10 +35,7 @@ values-size rate (f ∷ fs) h =
     (arith, abs-add (signed (f .received) v) (total (flowValue rate) fs), signed-size (f .received) v, value-le (f .amount) (rate (f .day)) (f .day), h .0 .amount, values-size rate fs (h .1))
 
 tolerances-size : (fs : List Flow) → AllFlowLimits fs → sum flowTolerance fs ≤ length fs * 1000
-unfolding sum
-tolerances-size [] h = omega arith
-tolerances-size (f ∷ fs) h =
-    omega (arith, tolerance-size (f .amount) (f .day) (h .0 .amount) (h .0 .day), tolerances-size fs (h .1))
+tolerances-size fs h = sum-most flowTolerance 1000 (λ f s. tolerance-size (f .amount) (f .day) (s .amount) (s .day)) fs h
 
 -- ---- an exposure of at most so many flows
 

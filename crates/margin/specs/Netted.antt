@@ -1,15 +1,11 @@
--- Net amounts with room for more flows: what keeps them in 64 bits. Assumes nothing.
+-- Net amounts with room for more flows: what keeps them in 64 bits.
 use mathlib.Core.List.{List}
-use Prim.Native.Nat.{ℕ, _+_, _*_, _≤_}
+use Prim.Native.Nat.{ℕ}
 use lib.IntN.{ℤ, natAbs}
 use Rattle.decimal.specs.Product.{unit}
 use Rattle.netting.specs.Netting.{netOn}
-use Rattle.margin.specs.Totals.{mostFlows}
+use Rattle.margin.specs.Totals.{RoomFor}
 
--- a net amount of so few flows that it has room for n more
-pub record NetRoom (n : ℕ) (net : ℤ) : Type 0 where
-  pub room : natAbs net + n * unit ≤ mostFlows * unit
-
--- that of each day
+-- the net amount of each day has room for n flows more
 pub record NetsRoom (n : ℕ) (nets : List ℤ) : Type 0 where
-  pub each : (day : ℕ) → NetRoom n (netOn nets day)
+  pub each : (day : ℕ) → RoomFor unit n (natAbs (netOn nets day))

@@ -1,5 +1,5 @@
--- A running total of flows: their values at the factors of their days, and their tolerances (document 01, "Which form belongs where"). Assumes nothing.
-use mathlib.Core.List.{List, [], _∷_}
+-- A running total of flows: their values at the factors of their days, and their tolerances (document 01, "Which form belongs where").
+use mathlib.Core.List.{List, foldl}
 use Prim.Native.Nat.{ℕ, _+_, _*_, _≤_}
 use lib.IntN.{pos, natAbs, _+ℤ_}
 use Rattle.laws.specs.All.{All}
@@ -19,9 +19,8 @@ plusFlow t f factor =
     }
 
 -- with each flow of a list in turn, given the factor of each day
-unfoldable pub plusFlows : (ℕ → ℕ) → Total → List Flow → Total
-plusFlows factorOn t [] = t
-plusFlows factorOn t (f ∷ fs) = plusFlows factorOn (plusFlow t f (factorOn (f .day))) fs
+abbrev pub plusFlows : (ℕ → ℕ) → Total → List Flow → Total
+plusFlows factorOn t fs = foldl (λ t f. plusFlow t f (factorOn (f .day))) t fs
 
 abbrev pub noFlows : Total
 noFlows = record { sum = pos 0; tolerance = 0 }
@@ -43,7 +42,11 @@ AllFlowLimits fs = All FlowLimits fs
 abbrev pub mostFlows : ℕ
 mostFlows = 140000
 
--- a total of so few flows that it has room for n more
-pub record RoomFor (n : ℕ) (t : Total) : Type 0 where
-  pub value : natAbs (t .sum) + n * unit ≤ mostFlows * unit
-  pub off : t .tolerance + n * 1000 ≤ mostFlows * 1000
+-- a sum of so few flows, each adding at most `each`, that it has room for n more
+pub record RoomFor (each n size : ℕ) : Type 0 where
+  pub fits : size + n * each ≤ mostFlows * each
+
+-- so of a total
+pub record TotalRoom (n : ℕ) (t : Total) : Type 0 where
+  pub value : RoomFor unit n (natAbs (t .sum))
+  pub off : RoomFor 1000 n (t .tolerance)

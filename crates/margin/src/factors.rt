@@ -1,53 +1,43 @@
 // The discount factors of the days on which a ladder's flows fall: each is worked out once a curve, and flows of one day share it.
 ghost use mathlib.Core.Path.{_≡_};
-ghost use Prim.Native.Nat.{_+_, _*_, _≤_, _<_};
+ghost use Prim.Native.Nat.{_≤_, _<_};
 ghost use lib.ListN.{length, set, replicate};
 ghost use Rattle.curve.specs.Limits.{Proper};
 ghost use Rattle.curve.specs.Rates.{nodesOf, rateAt};
 ghost use Rattle.discount.specs.Discount.{factor};
-ghost use Rattle.margin.specs.Ladder.{scheduleFlows, ladderFlows, ScheduleLimits, LadderLimits};
+ghost use Rattle.margin.specs.Ladder.{ladderFlows, LadderLimits};
 ghost use Rattle.margin.specs.Factors.{dayCount, marked, NextMarked, factorsOn};
+use super::ladder::Rung;
 use super::ladder::payment;
 use curve::Curve;
 use discount::value::factor;
 
-// Marks the days of schedule i.
-fn mark_schedule(curve: u64, l: &[u64], i: usize, asked: &mut [u64])
-    requires { ⌜ (i * 6 + 6 ≤ length (now l)) × ScheduleLimits (now l) i × (length (now asked) ≡ dayCount) ⌝ }
-    ensures { λ _. ⌜ now (asked .exit) ≡ marked (scheduleFlows curve (now (l .entry)) i) (now (asked .entry)) ⌝ }
+// Marks the days of the payments of the first schedules.
+pub fn mark_days(curve: u64, ladder: &[u64], schedules: usize, marks: &mut [u64])
+    requires { ⌜ LadderLimits (now ladder) schedules × (length (now marks) ≡ dayCount) ⌝ }
+    ensures { λ _. ⌜ now (marks .exit) ≡ marked (ladderFlows curve (now (ladder .entry)) schedules) (now (marks .entry)) ⌝ }
 {
-    let at = i * 6 + 2;
-    let n = l[at];
-    let mut j: u64 = 0;
-    while j < n {
-        let f = payment(curve, l, i, j);
+    let mut rung = Rung {
+        schedule: 0,
+        payment: 0,
+    };
+    while rung.schedule < schedules {
+        let f = payment(curve, ladder, rung);
         let day = f.day as usize;
-        asked[day] = 1;
-        j += 1;
-    }
-}
-
-// Marks the days of the first n schedules.
-pub fn mark_days(curve: u64, l: &[u64], n: usize, asked: &mut [u64])
-    requires { ⌜ LadderLimits (now l) n × (length (now asked) ≡ dayCount) ⌝ }
-    ensures { λ _. ⌜ now (asked .exit) ≡ marked (ladderFlows curve (now (l .entry)) n) (now (asked .entry)) ⌝ }
-{
-    let mut i: usize = 0;
-    while i < n {
-        mark_schedule(curve, l, i, asked);
-        i += 1;
+        marks[day] = 1;
+        rung = rung.next(ladder);
     }
 }
 
 // The first marked day from a day on, or the number of days where none is left.
-fn next_marked(asked: &[u64], from: usize) -> usize
-    requires { ⌜ from ≤ length (now asked) ⌝ }
-    ensures { λ r. ⌜ NextMarked (now (asked .entry)) from r ⌝ }
+fn next_marked(marks: &[u64], from: usize) -> usize
+    requires { ⌜ from ≤ length (now marks) ⌝ }
+    ensures { λ r. ⌜ NextMarked (now (marks .entry)) from r ⌝ }
 {
-    let n = asked.len();
+    let n = marks.len();
     let mut day = from;
     while day < n {
-        if asked[day] != 0 {
+        if marks[day] != 0 {
             return day;
         }
         day += 1;
@@ -70,20 +60,20 @@ fn fill_pair(curve: Curve, day: usize, other: usize, factors: &mut [u64])
 }
 
 // Over zeros, the factor of each marked day at the curve's rate. Two factors together take little longer than one.
-pub fn fill_factors(curve: Curve, asked: &[u64], factors: &mut [u64])
-    requires { ⌜ Proper curve × (now factors ≡ replicate (length (now asked)) 0) ⌝ }
-    ensures { λ _. ⌜ now (factors .exit) ≡ factorsOn (nodesOf curve) (now (asked .entry)) ⌝ }
+pub fn fill_factors(curve: Curve, marks: &[u64], factors: &mut [u64])
+    requires { ⌜ Proper curve × (now factors ≡ replicate (length (now marks)) 0) ⌝ }
+    ensures { λ _. ⌜ now (factors .exit) ≡ factorsOn (nodesOf curve) (now (marks .entry)) ⌝ }
 {
-    let n = asked.len();
-    let mut day = next_marked(asked, 0);
+    let n = marks.len();
+    let mut day = next_marked(marks, 0);
     while day < n {
-        let other = next_marked(asked, day + 1);
+        let other = next_marked(marks, day + 1);
         if other == n {
             let t = day as u64;
             factors[day] = factor(curve.rate_at(t), t).0;
             return;
         }
         fill_pair(curve, day, other, factors);
-        day = next_marked(asked, other + 1);
+        day = next_marked(marks, other + 1);
     }
 }

@@ -1,70 +1,80 @@
 // The value of a cash flow ladder, given the factor of each day.
 ghost use mathlib.Core.Path.{_≡_};
-ghost use Prim.Native.Nat.{_+_, _*_, _≤_, _<_};
-ghost use lib.ListN.{length};
-ghost use Rattle.margin.specs.Ladder.{payments, payment, scheduleFlows, ladderFlows, ScheduleLimits, LadderLimits};
-ghost use Rattle.margin.specs.Totals.{plusFlows, noFlows, RoomFor};
+ghost use Rattle.margin.specs.Ladder.{payment, ladderFlows, LadderLimits, RungLimits, nextRung};
+ghost use Rattle.margin.specs.Totals.{plusFlows, noFlows};
 ghost use Rattle.margin.specs.Factors.{factorIn, FactorLimits};
 use super::total::Total;
 use discount::Flow;
 
-// Payment j of schedule i, on a curve.
-pub fn payment(curve: u64, l: &[u64], i: usize, j: u64) -> Flow
-    requires { ⌜ (i * 6 + 6 ≤ length (now l)) × ScheduleLimits (now l) i × (j < payments (now l) i) ⌝ }
-    ensures { λ r. ⌜ r ≡ payment curve (now (l .entry)) i j ⌝ }
+// A payment's place in a ladder: its schedule, and which of its payments it is.
+pub struct Rung {
+    pub schedule: usize,
+    pub payment: u64,
+}
+
+impl Rung {
+    // The next payment's.
+    pub fn next(self, ladder: &[u64]) -> Rung
+        requires { ⌜ RungLimits (now ladder) self ⌝ }
+        ensures { λ r. ⌜ r ≡ nextRung (now (ladder .entry)) self ⌝ }
+    {
+        let at = self.schedule * 6 + 2;
+        let payment = self.payment + 1;
+        if payment == ladder[at] {
+            return Rung {
+                schedule: self.schedule + 1,
+                payment: 0,
+            };
+        }
+        Rung {
+            schedule: self.schedule,
+            payment: payment,
+        }
+    }
+}
+
+// The payment of a rung, on a curve.
+pub fn payment(curve: u64, ladder: &[u64], rung: Rung) -> Flow
+    requires { ⌜ RungLimits (now ladder) rung ⌝ }
+    ensures { λ r. ⌜ r ≡ payment curve (now (ladder .entry)) (rung .schedule) (rung .payment) ⌝ }
 {
-    let at = i * 6;
-    let day = l[at] + j * l[at + 1];
-    let received = l[at + 5] != 0;
-    if j + 1 == l[at + 2] {
+    let at = rung.schedule * 6;
+    let day = ladder[at] + rung.payment * ladder[at + 1];
+    let received = ladder[at + 5] != 0;
+    if rung.payment + 1 == ladder[at + 2] {
         return Flow {
             curve: curve,
             day: day,
             received: received,
-            amount: l[at + 4],
+            amount: ladder[at + 4],
         };
     }
     Flow {
         curve: curve,
         day: day,
         received: received,
-        amount: l[at + 3],
+        amount: ladder[at + 3],
     }
 }
 
-impl Total {
-    // With the payments of schedule i.
-    pub fn with_schedule(self, curve: u64, l: &[u64], i: usize, factors: &[u64]) -> Total
-        requires { ⌜ (i * 6 + 6 ≤ length (now l)) × ScheduleLimits (now l) i × FactorLimits (now factors) × RoomFor (payments (now l) i) self ⌝ }
-        ensures { λ r. ⌜ r ≡ plusFlows (factorIn (now (factors .entry))) self (scheduleFlows curve (now (l .entry)) i) ⌝ }
-    {
-        let mut t = self;
-        let at = i * 6 + 2;
-        let n = l[at];
-        let mut j: u64 = 0;
-        while j < n {
-            let f = payment(curve, l, i, j);
-            let day = f.day as usize;
-            t = t.with_flow(f, factors[day]);
-            j += 1;
-        }
-        t
-    }
-}
-
-// The total of the first n schedules.
-pub fn value_of(curve: u64, l: &[u64], n: usize, factors: &[u64]) -> Total
-    requires { ⌜ LadderLimits (now l) n × FactorLimits (now factors) ⌝ }
-    ensures { λ r. ⌜ r ≡ plusFlows (factorIn (now (factors .entry))) noFlows (ladderFlows curve (now (l .entry)) n) ⌝ }
+// The total of the first schedules.
+pub fn value_of(curve: u64, ladder: &[u64], schedules: usize, factors: &[u64]) -> Total
+    requires { ⌜ LadderLimits (now ladder) schedules × FactorLimits (now factors) ⌝ }
+    ensures { λ r. ⌜ r ≡ plusFlows (factorIn (now (factors .entry))) noFlows (ladderFlows curve (now (ladder .entry)) schedules) ⌝ }
 {
     let mut t = Total {
         sum: 0,
         tolerance: 0,
     };
-    let mut i: usize = 0;
-    while i < n {
-        t = t.with_schedule(curve, l, i, factors);
-        i += 1;
+    let mut rung = Rung {
+        schedule: 0,
+        payment: 0,
+    };
+    while rung.schedule < schedules {
+        let f = payment(curve, ladder, rung);
+        let day = f.day as usize;
+        t = t.with_flow(f, factors[day]);
+        rung = rung.next(ladder);
     }
     t
 }

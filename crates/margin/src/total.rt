@@ -2,7 +2,7 @@
 ghost use mathlib.Core.Path.{_≡_};
 ghost use Prim.Native.Nat.{_≤_};
 ghost use Rattle.decimal.specs.Product.{unit};
-ghost use Rattle.margin.specs.Totals.{plusFlow, FlowLimits, RoomFor};
+ghost use Rattle.margin.specs.Totals.{plusFlow, FlowLimits, TotalRoom};
 use decimal::product::multiply;
 use discount::Flow;
 use discount::value::tolerance;
@@ -16,7 +16,7 @@ pub struct Total {
 impl Total {
     // With one flow more, at the factor of its day.
     pub fn with_flow(self, f: Flow, factor: u64) -> Total
-        requires { ⌜ RoomFor 1 self × FlowLimits f × (factor ≤ unit) ⌝ }
+        requires { ⌜ TotalRoom 1 self × FlowLimits f × (factor ≤ unit) ⌝ }
         ensures { λ r. ⌜ r ≡ plusFlow self f factor ⌝ }
     {
         let value = multiply(f.amount, factor) as i64;

@@ -1,5 +1,4 @@
 -- A day's net amount with one flow more: what it is worth moves by what the flow is worth, within a kuruş, though each is cut by itself.
--- Assumes nothing.
 use mathlib.Core.Path.{_≡_, refl, sym, ap, _∙_}
 use mathlib.Core.Logic.{_⊎_, inl, inr}
 use mathlib.Core.Bool.{Bool, true, false, cond}

@@ -1,5 +1,5 @@
 -- Sums over all days: those without a net amount add nothing, so they are the sums over the listed days; and a change of one day's net
--- amount moves them by no more than that day's. Assumes nothing.
+-- amount moves them by no more than that day's.
 use mathlib.Core.Path.{_≡_, refl, sym, _∙_}
 use mathlib.Core.Bool.{Bool, true, false, cond}
 use mathlib.Core.List.{List, [], _∷_}

@@ -1,4 +1,4 @@
--- The value of netted flows at cheap factors is within the flows' reach of their present values. Assumes nothing.
+-- The value of netted flows at cheap factors is within the flows' reach of their present values.
 use mathlib.Core.Bool.{Bool, true, false}
 use mathlib.Core.List.{List, [], _∷_}
 use Prim.Native.Nat.{ℕ, _+_, _*_, _/_, _≤_, _<_}
@@ -6,7 +6,7 @@ use native.Mathlib.Nat.{mul-le-mul-left, mul-le-mul-right, lt-of-mul-lt-mul-righ
 use native.Mathlib.Omega.{arith}
 use lib.Dec.{lit<}
 use lib.IntN.{ℤ, pos, negℤ, _+ℤ_, +ℤ-idl}
-use lib.ListN.{length, set, length-set, length-replicate}
+use lib.ListN.{length, length-set, length-replicate}
 use Rattle.laws.specs.Distance.{Within}
 use Rattle.laws.proofs.Integer.{int, plus, up-pos, down-pos, up-neg, down-neg}
 use Rattle.decimal.specs.Product.{unit}
@@ -17,7 +17,7 @@ use Rattle.discount.specs.Flows.{signed, total, sum, flowValue}
 use Rattle.sieve.specs.Cheap.{whole, cheapFactor, distance}
 use Rattle.sieve.proofs.Rows.{whole-pos}
 use Rattle.sieve.proofs.Bound.{cheap-near}
-use Rattle.netting.specs.Netting.{noNets, netOn, netted, listed, worth, netValue, cheapOn, distanceUp, reach, flowReach, Dated}
+use Rattle.netting.specs.Netting.{noNets, netOn, netWith, netted, listed, worth, netValue, cheapOn, distanceUp, reach, flowReach, OnDays}
 use Rattle.netting.proofs.Cuts.{worth-more}
 use Rattle.netting.proofs.DaySums.{daysWorth, listed-worth, none-days, days-changed}
 
@@ -79,9 +79,9 @@ module _ (a r days : ℕ) (l : r ≤ 1000000) (k : days ≤ 10950) where
 -- ---- all flows
 
 module _ (rate : ℕ → ℕ) (rated : (d : ℕ) → rate d ≤ 1000000) where
-  flows-within : (fs : List Flow) (nets : List ℤ) → 10950 < length nets → Dated fs
+  flows-within : (fs : List Flow) (nets : List ℤ) → 10950 < length nets → OnDays fs
       → Within (daysWorth (cheapOn rate) 0 (netted fs nets)) (daysWorth (cheapOn rate) 0 nets +ℤ total (flowValue rate) fs) (sum flowReach fs)
-  unfolding netted total sum
+  unfolding netWith total sum
   flows-within [] nets l h = let z = daysWorth (cheapOn rate) 0 nets in omega (int, plus z (pos 0), up-pos 0, down-pos 0)
   flows-within (f ∷ fs) nets l h =
       let d = f .day in
@@ -89,14 +89,14 @@ module _ (rate : ℕ → ℕ) (rated : (d : ℕ) → rate d ≤ 1000000) where
       let y = x +ℤ signed (f .received) (f .amount) in
       let v = signed (f .received) (flowValue rate f) in
       let was = daysWorth (cheapOn rate) 0 nets in
-      let now = daysWorth (cheapOn rate) 0 (set nets d y) in
+      let now = daysWorth (cheapOn rate) 0 (netWith nets f) in
       let rest = total (flowValue rate) fs in
       let one : Within now (was +ℤ v) (flowReach f) =
       days-changed (cheapOn rate) 0 nets d y v (flowReach f) (omega (arith, h .0)) (rw zero-add (flow-within (f .amount) (rate d) d (rated d) (h .0) x (f .received))) in
-      let others = flows-within fs (set nets d y) (rw length-set l) (h .1) in
+      let others = flows-within fs (netWith nets f) (rw length-set l) (h .1) in
       omega (int, one, others, plus was v, plus now rest, plus v rest, plus was (v +ℤ rest))
 
-  pub netted-within : (fs : List Flow) → Dated fs
+  pub netted-within : (fs : List Flow) → OnDays fs
       → Within (netValue (cheapOn rate) (netted fs noNets) (listed (netted fs noNets))) (total (flowValue rate) fs) (sum flowReach fs)
   netted-within fs h =
       let all = flows-within fs noNets (rw length-replicate (lit< tt)) h in

@@ -1,4 +1,4 @@
--- What a net amount is worth, by its sign, as the code has it: z is read back from its bits. Assumes nothing.
+-- What a net amount is worth, by its sign, as the code has it: z is read back from its bits.
 use mathlib.Core.Path.{_≡_, refl, ap}
 use mathlib.Core.Bool.{true, false, true≢false}
 use Prim.Native.Nat.{ℕ, _*_, _/_, _<_}

@@ -1,4 +1,4 @@
--- How large netted flows can be: no larger than all amounts together; and the size of a reach. Assumes nothing.
+-- How large netted flows can be: no larger than all amounts together; and the size of a reach.
 use mathlib.Core.Path.{_≡_, refl, _∙_}
 use mathlib.Core.Bool.{Bool, true, false, cond}
 use mathlib.Core.List.{List, [], _∷_}
@@ -7,35 +7,37 @@ use native.Mathlib.Nat.{mul-le-mul, mul-le-mul-left, div-le-of-le-mul}
 use native.Mathlib.Omega.{arith}
 use lib.IntN.{ℤ, pos, negℤ, natAbs, _+ℤ_}
 use lib.Signed.{ltZ}
-use lib.ListN.{length, set, length-set}
+use lib.ListN.{length, length-set}
 use Rattle.laws.proofs.Signed.{abs-neg, abs-add}
 use Rattle.decimal.specs.Product.{unit}
 use Rattle.discount.specs.Discount.{year, products}
 use Rattle.discount.specs.declared.Flow.{Flow}
 use Rattle.discount.specs.Flows.{signed, sum}
 use Rattle.sieve.specs.Cheap.{whole}
-use Rattle.netting.specs.Netting.{noNets, netOn, netted, listed, worth, netValue, netSize, distanceUp, reach}
+use Rattle.netting.specs.Netting.{noNets, netOn, netWith, netted, listed, worth, netValue, netSize, distanceUp, reach}
 use Rattle.netting.proofs.DaySums.{daysSize, listed-size, none-size, size-changed}
 
 -- ---- the net amounts
 
 pub nets-length : (fs : List Flow) (nets : List ℤ) → length (netted fs nets) ≡ length nets
-unfolding netted
+unfolding netWith
 nets-length [] nets = refl
-nets-length (f ∷ fs) nets = nets-length fs _ ∙ length-set nets (f .day) _
+nets-length (f ∷ fs) nets = nets-length fs (netWith nets f) ∙ length-set nets (f .day) _
 
-signed-size : (s : Bool) (n : ℕ) → natAbs (signed s n) ≡ n
+pub signed-size : (s : Bool) (n : ℕ) → natAbs (signed s n) ≡ n
 signed-size true n = refl
 signed-size false n = abs-neg (pos n)
 
+pub signed-more : (x : ℤ) (s : Bool) (n : ℕ) → natAbs (x +ℤ signed s n) ≤ natAbs x + n
+signed-more x s n = omega (arith, abs-add x (signed s n), signed-size s n)
+
 days-size : (fs : List Flow) (nets : List ℤ) → daysSize (netted fs nets) ≤ daysSize nets + sum (λ f. f .amount) fs
-unfolding netted sum
+unfolding netWith sum
 days-size [] nets = omega arith
 days-size (f ∷ fs) nets =
     let was = netOn nets (f .day) in
-    let more = signed (f .received) (f .amount) in
-    let one = size-changed nets (f .day) (was +ℤ more) (f .amount) (omega (arith, abs-add was more, signed-size (f .received) (f .amount))) in
-    omega (arith, one, days-size fs (set nets (f .day) (was +ℤ more)))
+    let one = size-changed nets (f .day) (was +ℤ signed (f .received) (f .amount)) (f .amount) (signed-more was (f .received) (f .amount)) in
+    omega (arith, one, days-size fs (netWith nets f))
 
 day-size : (nets : List ℤ) (d : ℕ) → natAbs (netOn nets d) ≤ daysSize nets
 unfolding daysSize
@@ -64,12 +66,12 @@ worth-size c x h = go (ltZ x (pos 0)) (natAbs x * c / whole) (scaled-le (natAbs 
     go true v l = omega (arith, abs-neg (pos v))
     go false v l = l
 
-pub value-size : (c : ℕ → ℕ) → ((d : ℕ) → c d ≤ 2147483648) → (nets : List ℤ) (ds : List ℕ) → natAbs (netValue c nets ds) ≤ netSize nets ds
+pub net-value-size : (c : ℕ → ℕ) → ((d : ℕ) → c d ≤ 2147483648) → (nets : List ℤ) (ds : List ℕ) → natAbs (netValue c nets ds) ≤ netSize nets ds
 unfolding netValue netSize
-value-size c h nets [] = omega arith
-value-size c h nets (d ∷ ds) =
+net-value-size c h nets [] = omega arith
+net-value-size c h nets (d ∷ ds) =
     let v = worth (c d) (netOn nets d) in
-    omega (arith, abs-add v (netValue c nets ds), worth-size (c d) (netOn nets d) (h d), value-size c h nets ds)
+    omega (arith, abs-add v (netValue c nets ds), worth-size (c d) (netOn nets d) (h d), net-value-size c h nets ds)
 
 -- ---- the reach of a flow
 

@@ -1,6 +1,6 @@
--- Flows netted by day, and what the net amounts are worth at a cheap factor for each day. Assumes nothing.
+-- Flows netted by day, and what the net amounts are worth at a cheap factor for each day.
 use mathlib.Core.Bool.{cond}
-use mathlib.Core.List.{List, [], _∷_}
+use mathlib.Core.List.{List, [], _∷_, foldl}
 use Prim.Native.Nat.{ℕ, suc, _+_, _*_, _/_, _≤_}
 use lib.Dec.{eqb}
 use lib.IntN.{ℤ, pos, negℤ, natAbs, _+ℤ_}
@@ -20,11 +20,13 @@ noNets = replicate 10951 (pos 0)
 abbrev pub netOn : List ℤ → ℕ → ℤ
 netOn nets day = getD nets day (pos 0)
 
--- with each flow of a list added to its day's
-unfoldable pub netted : List Flow → List ℤ → List ℤ
-netted [] nets = nets
-netted (f ∷ fs) nets =
-    netted fs (set nets (f .day) (netOn nets (f .day) +ℤ signed (f .received) (f .amount)))
+-- with a flow added to its day's
+unfoldable pub netWith : List ℤ → Flow → List ℤ
+netWith nets f = set nets (f .day) (netOn nets (f .day) +ℤ signed (f .received) (f .amount))
+
+-- with each flow of a list
+abbrev pub netted : List Flow → List ℤ → List ℤ
+netted fs nets = foldl netWith nets fs
 
 -- the days that have a net amount, in order
 unfoldable pub listedFrom : ℕ → List ℤ → List ℕ
@@ -66,5 +68,5 @@ abbrev pub flowReach : Flow → ℕ
 flowReach f = reach (f .amount) (f .day)
 
 -- every flow's day is one of document 01's
-abbrev pub Dated : List Flow → Type 0
-Dated fs = All (λ f. f .day ≤ 10950) fs
+abbrev pub OnDays : List Flow → Type 0
+OnDays fs = All (λ f. f .day ≤ 10950) fs

@@ -1,4 +1,4 @@
--- `exposure::gather` meets its contract. The invariant: the ladder holds the flows of the first i trades that stand on the curve. Assumes nothing.
+-- `exposure::gather` meets its contract. The invariant: the ladder holds the flows of the first i trades that stand on the curve.
 use mathlib.Core.Path.{_≡_, refl, sym, ap, _∙_}
 use Prim.Native.Nat.{_-_, _≤_, _<_}
 use native.Mathlib.Omega.{arith}
@@ -16,11 +16,11 @@ use Rattle.exposure.proofs.gather.Statement.{statement}
 use Rattle.exposure.proofs.gather.Tie as tie
 
 abbrev Inv-loop : tie.InvT-loop
-Inv-loop book used curve ladder₀ count n₀ i₀ ladder n i =
-    (i ≤ count) × (length ladder ≡ length ladder₀) × Collected book curve ladder n i
+Inv-loop book used curve ladder₀ count schedules₀ i₀ ladder schedules i =
+    (i ≤ count) × (length ladder ≡ length ladder₀) × Collected book curve ladder schedules i
 
 abbrev μ-loop : tie.MeasureT-loop
-μ-loop book used curve ladder₀ count n₀ i₀ ladder n i = count - i
+μ-loop book used curve ladder₀ count schedules₀ i₀ ladder schedules i = count - i
 
 -- at the entry: the book is sound
 here : (s : tie.Start Inv-loop μ-loop) → Sound (s .args .book .now) (s .args .used)
@@ -33,7 +33,7 @@ loop-holds : tie.Need-loop-holds Inv-loop μ-loop
 loop-holds c = (omega arith, refl, collected-none _ _ _)
 
 -- in the loop: the position is one of the book's
-at : (c : tie.In-loop Inv-loop μ-loop) → c .before .loop .i < tradeCount (c .before .before .before .before .before .args .book .now)
+at : (c : tie.In-loop Inv-loop μ-loop) → let start = c .before .before .before .before .before in c .before .loop .i < tradeCount (start .args .book .now)
 at c = omega (arith, c .before .before .trade-count .ensures)
 
 record-at-requires : tie.Need-record-at-requires Inv-loop μ-loop
@@ -42,17 +42,11 @@ record-at-requires c κs =
     let b = here start in
     omega (arith, place-held (start .args .book .now) (start .args .used) b (c .before .loop .i) (at c) .0, b .blocks, b .lent)
 
-slice-aggregate-fields-of : tie.Need-slice-aggregate-fields-of Inv-loop μ-loop
-slice-aggregate-fields-of c = search needs
-
 fields-of-requires : tie.Need-fields-of-requires Inv-loop μ-loop
 fields-of-requires c κs =
     let turn = c .before .before in
     let start = turn .before .before .before .before .before in
     ap length (c .before .record-at .ensures) ∙ length-recordAt (start .args .book .now) (start .args .used) (here start) (turn .before .loop .i) (at turn)
-
-trade-of-requires : tie.Need-trade-of-requires Inv-loop μ-loop
-trade-of-requires c κs = search needs
 
 -- after the trade is read: it is the one at the position
 module _ (c : tie.After-trade-of Inv-loop μ-loop) where
@@ -100,19 +94,16 @@ loop-again c =
       collected-next _ _ (legs .legs-of .result) (inv .2) (legs .legs-of .ensures .0 ∙ ap flowsOf (trade-is read)) (pushed .push-legs .ensures),
     )
 
-same-length : tie.Need-same-length Inv-loop μ-loop
-same-length c = search needs
-
 returns : tie.Need-returns Inv-loop μ-loop
 returns c =
     let start = c .before .before .before .before .before in
     let s = start .args .book .now in
     let inv = c .before .loop .inv in
     let e : c .before .loop .i ≡ tradeCount s = omega (arith, c .before .before .trade-count .ensures) in
-    let all : Collected s (start .args .curve) (c .before .loop .ladder) (c .before .loop .n) (tradeCount s) = rw (sym e) (inv .2) in
-    (all .flows, collected-all s (start .args .used) (here start) (start .args .curve) (c .before .loop .ladder) (c .before .loop .n) (omega (arith, inv .1, start .pre .1)) all)
+    let all : Collected s (start .args .curve) (c .before .loop .ladder) (c .before .loop .schedules) (tradeCount s) = rw (sym e) (inv .2) in
+    (all .flows, collected-all s (start .args .used) (here start) (start .args .curve) (c .before .loop .ladder) (c .before .loop .schedules) (omega (arith, inv .1, start .pre .1)) all)
 
 pub gather-spec : {M : Type 1} → statement M
 gather-spec =
     tie.close
-    (tie.spec Inv-loop μ-loop trade-count-requires loop-holds record-at-requires slice-aggregate-fields-of fields-of-requires trade-of-requires legs-of-requires push-legs-requires add-i loop-less loop-again same-length returns)
+    (tie.spec Inv-loop μ-loop trade-count-requires loop-holds record-at-requires (λ c. search needs) fields-of-requires (λ c κs. search needs) legs-of-requires push-legs-requires add-i loop-less loop-again (λ c. search needs) returns)

@@ -1,4 +1,4 @@
--- `margin::factors::fill_pair` meets its contract, by that of `factors`. Assumes nothing.
+-- `margin::factors::fill_pair` meets its contract, by that of `factors`.
 use borrow.Author.Needs.{needs}
 use mathlib.Core.Path.{_≡_}
 use mathlib.Core.List.{List}
@@ -9,32 +9,11 @@ use Rattle.discount.specs.Discount.{million, factor}
 use Rattle.margin.proofs.factors.fill_pair.Statement.{statement}
 use Rattle.margin.proofs.factors.fill_pair.Tie as tie
 
-rate-at-requires : tie.Need-rate-at-requires
-rate-at-requires c κs = search needs
-
-rate-at-requires-2 : tie.Need-rate-at-requires-2
-rate-at-requires-2 c κs = search needs
-
 factors-requires : tie.Need-factors-requires
 unfolding million
 factors-requires c κs =
     let proper = c .before .before .before .pre .0 in
     (rw (c .before .rate-at .ensures) (curve-rate-limit _ proper _), rw (c .rate-at2 .ensures) (curve-rate-limit _ proper _))
-
-mul-factors : tie.Need-mul-factors
-mul-factors c = search needs
-
-slice-write-factors : tie.Need-slice-write-factors
-slice-write-factors c = search needs
-
-mul-factors-2 : tie.Need-mul-factors-2
-mul-factors-2 c = search needs
-
-slice-write-factors-2 : tie.Need-slice-write-factors-2
-slice-write-factors-2 c = search needs
-
-same-length : tie.Need-same-length
-same-length c = search needs
 
 -- two numbers written, as the rates and the factors are known
 written : (l : List ℕ) (t u : ℕ) {x y r s r' s' : ℕ} → r ≡ r' → s ≡ s' → x ≡ factor r t → y ≡ factor s u
@@ -52,12 +31,12 @@ pub fill-pair-spec : {M : Type 1} → statement M
 fill-pair-spec =
     tie.close
     (tie.spec
-    rate-at-requires
-    rate-at-requires-2
+    (λ c κs. search needs)
+    (λ c κs. search needs)
     factors-requires
-    mul-factors
-    slice-write-factors
-    mul-factors-2
-    slice-write-factors-2
-    same-length
+    (λ c. search needs)
+    (λ c. search needs)
+    (λ c. search needs)
+    (λ c. search needs)
+    (λ c. search needs)
     returns)

@@ -1,53 +1,60 @@
--- `margin::factors::mark_days` meets its contract: what is marked and what is left are together all. Assumes nothing.
-use borrow.Author.Needs.{needs}
-use Prim.Native.Nat.{_-_, _<_}
+-- `margin::factors::mark_days` meets its contract, by the fold over the ladder's flows.
+use mathlib.Core.Path.{_≡_, sym, _∙_}
 use native.Mathlib.Omega.{arith}
-use Rattle.margin.specs.Ladder.{ladderFlows}
-use Rattle.margin.proofs.LadderFlows.{flowsFrom, flows-all, flows-next, flows-end}
-use Rattle.margin.proofs.DayFactors.{Marking, marking-all, marking-some, marking-none}
+use lib.ListN.{length}
+use Rattle.margin.specs.Factors.{dayCount, markDay}
+use Rattle.margin.specs.Ladder.{RungLimits}
+use Rattle.margin.specs.Totals.{FlowLimits}
+use Rattle.margin.proofs.DayFactors.{length-mark}
+use Rattle.margin.proofs.LadderFlows.{flowsFrom}
+use Rattle.margin.proofs.Folds.{Folded, folded-none, folded-next, folded-all, rung-limits, flow-limits, fewer-left}
 use Rattle.margin.proofs.factors.mark_days.Statement.{statement}
 use Rattle.margin.proofs.factors.mark_days.Tie as tie
 
 abbrev Inv-loop : tie.InvT-loop
-Inv-loop curve l n asked₀ i₀ asked i = Marking asked₀ (ladderFlows curve l n) asked (flowsFrom curve l n i)
+Inv-loop curve ladder schedules marks₀ rung₀ marks rung = Folded markDay (λ n a. length a ≡ dayCount) curve ladder schedules marks₀ marks rung
 
 abbrev μ-loop : tie.MeasureT-loop
-μ-loop curve l n asked₀ i₀ asked i = n - i
+μ-loop curve ladder schedules marks₀ rung₀ marks rung = length (flowsFrom curve ladder schedules rung)
 
 loop-holds : tie.Need-loop-holds Inv-loop μ-loop
-loop-holds c =
-    let a = c .before .before .args in
-    rw (flows-all (a .curve) (a .l .now) (a .n)) (marking-all _ _)
+loop-holds c = let p = c .before .before .pre in folded-none _ _ _ _ _ (p .0) _ (p .1)
 
-mark-schedule-requires : tie.Need-mark-schedule-requires Inv-loop μ-loop
-mark-schedule-requires c κs =
-    let s = c .before .before .before .before .before in
-    let i = c .before .before .loop .i in
-    let k : i < s .args .n = search needs in
-    (omega (arith, s .pre .0 .places), s .pre .0 .each i k, omega (arith, c .before .before .loop .inv .places, s .pre .1))
+-- in a turn
+module _ (c : tie.Then1 Inv-loop μ-loop) where
+  abbrev start : tie.Start Inv-loop μ-loop
+  start = c .before .before .before .before .before
 
-add-i : tie.Need-add-i Inv-loop μ-loop
-add-i c = search needs
+  here : RungLimits (start .args .ladder .now) (c .before .before .loop .rung)
+  here = rung-limits (c .before .before .loop .inv) (start .pre .0) (c .if1 .taken)
+
+limits : (c : tie.After-payment Inv-loop μ-loop) → FlowLimits (c .payment .result)
+limits c =
+    let turn = c .before in
+    flow-limits (turn .before .before .loop .inv) (start turn .pre .0) (turn .if1 .taken) (c .payment .ensures)
+
+slice-write-marks : tie.Need-slice-write-marks Inv-loop μ-loop
+slice-write-marks c = omega (arith, limits c .day, c .before .before .before .loop .inv .room)
 
 loop-less : tie.Need-loop-less Inv-loop μ-loop
-loop-less c = search needs
+loop-less c =
+    let turn = c .before .before in
+    fewer-left (turn .before .before .loop .inv) (start turn .pre .0) (turn .if1 .taken) (c .next .ensures)
 
 loop-again : tie.Need-loop-again Inv-loop μ-loop
+unfolding markDay
 loop-again c =
-    let l = c .before .before .before .before .before in
-    let s = l .before .before .before in
-    let k : l .loop .i < s .args .n = search needs in
-    let h = rw (flows-next (s .args .curve) (s .args .l .now) (s .args .n) (l .loop .i) k) at (l .loop .inv) in
-    rw (c .before .before .mark-schedule .ensures) (marking-some _ _ _ _ _ h)
+    let turn = c .before .before in
+    let kept = length-mark (c .before .payment .result) (turn .before .before .loop .marks) in
+    folded-next (turn .before .before .loop .inv) (start turn .pre .0) (turn .if1 .taken) (c .before .payment .ensures) (c .next .ensures) (λ n k. kept ∙ k)
 
 same-length : tie.Need-same-length Inv-loop μ-loop
-same-length c = c .before .loop .inv .places
+same-length c =
+    let head = c .before .before in
+    head .loop .inv .room ∙ sym (head .before .before .before .pre .1)
 
 returns : tie.Need-returns Inv-loop μ-loop
-returns c =
-    let s = c .before .before .before .before in
-    let e = flows-end (s .args .curve) (s .args .l .now) (s .args .n) (c .before .loop .i) (search needs) in
-    marking-none _ _ _ (rw e at (c .before .loop .inv))
+returns c = folded-all (c .before .before .loop .inv) (c .if1 .left)
 
 pub mark-days-spec : {M : Type 1} → statement M
 mark-days-spec =
@@ -56,8 +63,10 @@ mark-days-spec =
     Inv-loop
     μ-loop
     loop-holds
-    mark-schedule-requires
-    add-i
+    (λ c κs. here c)
+    (λ c. omega (arith, limits c .day))
+    slice-write-marks
+    (λ c κs. here (c .before))
     loop-less
     loop-again
     same-length

@@ -1,4 +1,4 @@
--- `margin::factors::next_marked` meets its contract: no day passed is marked. Assumes nothing.
+-- `margin::factors::next_marked` meets its contract: no day passed is marked.
 use borrow.Author.Count.{below-more}
 use borrow.Author.Needs.{needs}
 use mathlib.Core.Path.{_≡_}
@@ -9,31 +9,19 @@ use Rattle.margin.proofs.factors.next_marked.Statement.{statement}
 use Rattle.margin.proofs.factors.next_marked.Tie as tie
 
 abbrev Inv-loop : tie.InvT-loop
-Inv-loop asked from n day₀ day =
-    (from ≤ day) × (day ≤ n) × ((k : ℕ) → k < day → from ≤ k → getD asked k 0 ≡ 0)
+Inv-loop marks from n day₀ day =
+    (from ≤ day) × (day ≤ n) × ((k : ℕ) → k < day → from ≤ k → getD marks k 0 ≡ 0)
 
 abbrev μ-loop : tie.MeasureT-loop
-μ-loop asked from n day₀ day = n - day
+μ-loop marks from n day₀ day = n - day
 
 loop-holds : tie.Need-loop-holds Inv-loop μ-loop
 loop-holds c = (omega arith, search needs, λ k h l. absurd (omega arith))
-
-mul-if1 : tie.Need-mul-if1 Inv-loop μ-loop
-mul-if1 c = search needs
-
-shared-slice-read-if1 : tie.Need-shared-slice-read-if1 Inv-loop μ-loop
-shared-slice-read-if1 c = search needs
 
 returns : tie.Need-returns Inv-loop μ-loop
 returns c =
     let inv = c .before .before .before .loop .inv in
     record { least = inv .0; most = inv .1; between = inv .2; mark = λ l. c .if1 .taken }
-
-add-day : tie.Need-add-day Inv-loop μ-loop
-add-day c = search needs
-
-loop-less : tie.Need-loop-less Inv-loop μ-loop
-loop-less c = search needs
 
 loop-again : tie.Need-loop-again Inv-loop μ-loop
 loop-again c =
@@ -46,4 +34,4 @@ returns-2 c =
     record { least = inv .0; most = inv .1; between = inv .2; mark = λ l. absurd (omega arith) }
 
 pub next-marked-spec : {M : Type 1} → statement M
-next-marked-spec = tie.close (tie.spec Inv-loop μ-loop loop-holds mul-if1 shared-slice-read-if1 returns add-day loop-less loop-again returns-2)
+next-marked-spec = tie.close (tie.spec Inv-loop μ-loop loop-holds (λ c. search needs) (λ c. search needs) returns (λ c. search needs) (λ c. search needs) loop-again returns-2)

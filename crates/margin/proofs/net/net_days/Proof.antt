@@ -1,56 +1,78 @@
--- `margin::net::net_days` meets its contract: what is netted and what is left are together all. Assumes nothing.
-use borrow.Author.Needs.{needs}
-use Prim.Native.Nat.{_-_, _<_}
+-- `margin::net::net_days` meets its contract, by the fold over the ladder's flows.
+use mathlib.Core.Path.{sym, _∙_}
+use Prim.Native.Nat.{_<_}
 use native.Mathlib.Omega.{arith}
-use Rattle.margin.specs.Ladder.{scheduleFlows, ladderFlows}
-use Rattle.margin.proofs.LadderFlows.{length-schedule, schedule-limits, flowsFrom, flows-all, flows-next, flows-end}
-use Rattle.margin.proofs.Netting.{Netting, netting-all, netting-some, netting-none, nets-part}
+use lib.IntN.{natAbs}
+use lib.ListN.{length}
+use Rattle.laws.proofs.Signed.{back}
+use Rattle.decimal.specs.Product.{unit}
+use Rattle.netting.specs.Netting.{netOn, netWith}
+use Rattle.margin.specs.Ladder.{RungLimits}
+use Rattle.margin.specs.Totals.{FlowLimits, RoomFor}
+use Rattle.margin.proofs.LadderFlows.{flowsFrom}
+use Rattle.margin.proofs.Folds.{Folded, folded-none, folded-next, folded-all, rung-limits, rung-room, flow-limits, fewer-left, room-less}
+use Rattle.margin.proofs.Netting.{DaysRoom, nets-next, net-read}
 use Rattle.margin.proofs.net.net_days.Statement.{statement}
 use Rattle.margin.proofs.net.net_days.Tie as tie
 
 abbrev Inv-loop : tie.InvT-loop
-Inv-loop curve l n nets₀ i₀ nets i = Netting nets₀ (ladderFlows curve l n) nets (flowsFrom curve l n i)
+Inv-loop curve ladder schedules nets₀ rung₀ nets rung = Folded netWith DaysRoom curve ladder schedules nets₀ nets rung
 
 abbrev μ-loop : tie.MeasureT-loop
-μ-loop curve l n nets₀ i₀ nets i = n - i
+μ-loop curve ladder schedules nets₀ rung₀ nets rung = length (flowsFrom curve ladder schedules rung)
 
 loop-holds : tie.Need-loop-holds Inv-loop μ-loop
-loop-holds c =
-    let s = c .before in
-    let a = s .args in
-    rw (flows-all (a .curve) (a .l .now) (a .n)) (netting-all _ _ (s .pre .2))
+loop-holds c = let p = c .before .pre in folded-none _ _ _ _ _ (p .0) _ (p .1, p .2)
 
-net-schedule-requires : tie.Need-net-schedule-requires Inv-loop μ-loop
-net-schedule-requires c κs =
-    let s = c .before .before .before .before in
-    let i = c .before .before .loop .i in
-    let k : i < s .args .n = search needs in
-    let h = rw (flows-next (s .args .curve) (s .args .l .now) (s .args .n) i k) at (c .before .before .loop .inv) in
-    let r = rw length-schedule at (nets-part _ (scheduleFlows (s .args .curve) (s .args .l .now) i) _ (h .room)) in
-    (omega (arith, s .pre .0 .places), s .pre .0 .each i k, omega (arith, c .before .before .loop .inv .places, s .pre .1), r)
+-- in a turn
+module _ (c : tie.Then1 Inv-loop μ-loop) where
+  abbrev start : tie.Start Inv-loop μ-loop
+  start = c .before .before .before .before
 
-add-i : tie.Need-add-i Inv-loop μ-loop
-add-i c = search needs
+  here : RungLimits (start .args .ladder .now) (c .before .before .loop .rung)
+  here = rung-limits (c .before .before .loop .inv) (start .pre .0) (c .if1 .taken)
+
+module _ (c : tie.After-payment Inv-loop μ-loop) where
+  limits : FlowLimits (c .payment .result)
+  limits =
+      let turn = c .before in
+      flow-limits (turn .before .before .loop .inv) (start turn .pre .0) (turn .if1 .taken) (c .payment .ensures)
+
+  index : c .payment .result .day < length (c .before .before .before .loop .nets)
+  index = omega (arith, limits .day, c .before .before .before .loop .inv .room .0)
+
+  room : RoomFor unit 1 (natAbs (netOn (c .before .before .before .loop .nets) (c .payment .result .day)))
+  room =
+      let turn = c .before in
+      room-less (omega arith) (rung-room (turn .before .before .loop .inv) (start turn .pre .0) (turn .if1 .taken) .1 .each _)
+
+net-with-requires : tie.Need-net-with-requires Inv-loop μ-loop
+net-with-requires c κs =
+    let at = c .before in
+    (rw (back (netOn (at .before .before .before .loop .nets) (at .payment .result .day)) (c .net-with-arg .given)) (room at), limits at)
 
 loop-less : tie.Need-loop-less Inv-loop μ-loop
-loop-less c = search needs
+loop-less c =
+    let turn = c .before .before .before .before in
+    fewer-left (turn .before .before .loop .inv) (start turn .pre .0) (turn .if1 .taken) (c .next .ensures)
 
 loop-again : tie.Need-loop-again Inv-loop μ-loop
+unfolding netWith
 loop-again c =
-    let l = c .before .before .before .before in
-    let s = l .before .before in
-    let k : l .loop .i < s .args .n = search needs in
-    let h = rw (flows-next (s .args .curve) (s .args .l .now) (s .args .n) (l .loop .i) k) at (l .loop .inv) in
-    rw (c .before .net-schedule .ensures) (netting-some _ _ _ (s .pre .1) _ _ (schedule-limits _ _ _ (s .pre .0 .each _ k)) h)
+    let at = c .before .before .before in
+    let turn = at .before in
+    let net = netOn (turn .before .before .loop .nets) (at .payment .result .day) in
+    let fit = back net (c .before .before .net-with-arg .given) in
+    rw (net-read net (at .payment .result) (room at) (limits at) _ (rw fit at (c .before .net-with .ensures)))
+    (folded-next (turn .before .before .loop .inv) (start turn .pre .0) (turn .if1 .taken) (at .payment .ensures) (c .next .ensures) (λ n k. nets-next _ _ (limits at) k))
 
 same-length : tie.Need-same-length Inv-loop μ-loop
-same-length c = c .before .loop .inv .places
+same-length c =
+    let head = c .before .before in
+    head .loop .inv .room .0 ∙ sym (head .before .before .pre .1)
 
 returns : tie.Need-returns Inv-loop μ-loop
-returns c =
-    let s = c .before .before .before in
-    let e = flows-end (s .args .curve) (s .args .l .now) (s .args .n) (c .before .loop .i) (search needs) in
-    netting-none _ _ _ (s .pre .1) (rw e at (c .before .loop .inv))
+returns c = folded-all (c .before .before .loop .inv) (c .if1 .left)
 
 pub net-days-spec : {M : Type 1} → statement M
 net-days-spec =
@@ -59,8 +81,13 @@ net-days-spec =
     Inv-loop
     μ-loop
     loop-holds
-    net-schedule-requires
-    add-i
+    (λ c κs. here c)
+    (λ c. omega (arith, limits c .day))
+    index
+    net-with-requires
+    (λ c. omega (arith, limits (c .before .before) .day))
+    (λ c. index (c .before .before))
+    (λ c κs. here (c .before .before .before))
     loop-less
     loop-again
     same-length

@@ -1,70 +1,68 @@
--- `margin::net::reach_of` meets its contract: what is added and what is left are together all. Assumes nothing.
-use borrow.Author.Needs.{needs}
-use mathlib.Core.Path.{_≡_}
-use Prim.Native.Nat.{_+_, _-_, _<_}
+-- `margin::net::reach_of` meets its contract, by the fold over the ladder's flows.
+use mathlib.Core.Path.{_∙_}
+use Prim.Native.Nat.{_+_}
+use native.Mathlib.Nat.{zero-add}
 use native.Mathlib.Omega.{arith}
-use Rattle.discount.specs.Flows.{sum}
+use lib.ListN.{length}
+use Rattle.decimal.specs.Product.{unit}
 use Rattle.netting.specs.Netting.{flowReach}
-use Rattle.margin.specs.Ladder.{scheduleFlows, ladderFlows}
-use Rattle.margin.proofs.LadderFlows.{ladder-limits, flowsFrom, flows-all, flows-next, flows-end}
-use Rattle.margin.proofs.Netting.{reach-append, reach-most}
+use Rattle.margin.specs.Ladder.{RungLimits}
+use Rattle.margin.specs.Totals.{FlowLimits, RoomFor}
+use Rattle.margin.proofs.LadderFlows.{flowsFrom}
+use Rattle.margin.proofs.Folds.{Folded, folded-none, folded-next, folded-all, rung-limits, rung-room, flow-limits, fewer-left, sum-fold, room-none}
+use Rattle.margin.proofs.Netting.{reach-next}
 use Rattle.margin.proofs.net.reach_of.Statement.{statement}
 use Rattle.margin.proofs.net.reach_of.Tie as tie
 
 abbrev Inv-loop : tie.InvT-loop
-Inv-loop curve l n off₀ i₀ off i =
-    off + sum flowReach (flowsFrom curve l n i) ≡ sum flowReach (ladderFlows curve l n)
+Inv-loop curve ladder schedules off₀ rung₀ off rung =
+    Folded (λ off f. off + flowReach f) (RoomFor 200000) curve ladder schedules 0 off rung
 
 abbrev μ-loop : tie.MeasureT-loop
-μ-loop curve l n off₀ i₀ off i = n - i
+μ-loop curve ladder schedules off₀ rung₀ off rung = length (flowsFrom curve ladder schedules rung)
 
 loop-holds : tie.Need-loop-holds Inv-loop μ-loop
 loop-holds c =
-    let a = c .before .args in
-    rw (flows-all (a .curve) (a .l .now) (a .n)) (omega arith)
+    let s = c .before in
+    folded-none _ _ _ _ _ (s .pre) _ (room-none 200000 (s .pre .few (s .args .curve)))
 
-reach-schedule-requires : tie.Need-reach-schedule-requires Inv-loop μ-loop
-reach-schedule-requires c κs =
-    let s = c .before .before .before in
-    let i = c .before .loop .i in
-    let k : i < s .args .n = search needs in
-    (omega (arith, s .pre .places), s .pre .each i k)
+-- in a turn
+module _ (c : tie.Then1 Inv-loop μ-loop) where
+  abbrev start : tie.Start Inv-loop μ-loop
+  start = c .before .before .before .before
 
--- with schedule i
-added : (c : tie.After-reach-schedule Inv-loop μ-loop)
-    → let a = c .before .before .before .before .args in
-    let l = c .before .before .loop in
-    l .off + c .reach-schedule .result + sum flowReach (flowsFrom (a .curve) (a .l .now) (a .n) (l .i + 1)) ≡ sum flowReach (ladderFlows (a .curve) (a .l .now) (a .n))
-added c =
-    let s = c .before .before .before .before in
-    let a = s .args in
-    let l = c .before .before .loop in
-    let k : l .i < a .n = search needs in
-    let h = rw (flows-next (a .curve) (a .l .now) (a .n) (l .i) k) at (l .inv) in
-    rw (c .reach-schedule .ensures) (omega (arith, h, reach-append (scheduleFlows (a .curve) (a .l .now) (l .i)) (flowsFrom (a .curve) (a .l .now) (a .n) (l .i + 1))))
+  here : RungLimits (start .args .ladder .now) (c .before .before .loop .rung)
+  here = rung-limits (c .before .before .loop .inv) (start .pre) (c .if1 .taken)
+
+limits : (c : tie.After-payment Inv-loop μ-loop) → FlowLimits (c .payment .result)
+limits c =
+    let turn = c .before in
+    flow-limits (turn .before .before .loop .inv) (start turn .pre) (turn .if1 .taken) (c .payment .ensures)
+
+reach-requires : tie.Need-reach-requires Inv-loop μ-loop
+unfolding unit
+reach-requires c κs = (limits c .amount, limits c .day)
 
 add-off : tie.Need-add-off Inv-loop μ-loop
 add-off c =
-    let s = c .before .before .before .before in
-    let a = s .args in
-    record { fits = omega (arith, added c, reach-most (ladderFlows (a .curve) (a .l .now) (a .n)) (ladder-limits (a .curve) (a .l .now) (a .n) (s .pre)), s .pre .few (a .curve)) }
-
-add-i : tie.Need-add-i Inv-loop μ-loop
-add-i c = search needs
+    let turn = c .before .before in
+    let room = rung-room (turn .before .before .loop .inv) (start turn .pre) (turn .if1 .taken) in
+    rw (c .reach .ensures) (record { fits = omega (arith, reach-next _ _ (limits (c .before)) room .fits) })
 
 loop-less : tie.Need-loop-less Inv-loop μ-loop
-loop-less c = search needs
+loop-less c =
+    let turn = c .before .before .before in
+    fewer-left (turn .before .before .loop .inv) (start turn .pre) (turn .if1 .taken) (c .next .ensures)
 
 loop-again : tie.Need-loop-again Inv-loop μ-loop
-loop-again c = added c
+loop-again c =
+    let at = c .before .before in
+    let turn = at .before in
+    rw (c .before .reach .ensures)
+    (folded-next (turn .before .before .loop .inv) (start turn .pre) (turn .if1 .taken) (at .payment .ensures) (c .next .ensures) (λ n k. reach-next _ _ (limits at) k))
 
 returns : tie.Need-returns Inv-loop μ-loop
-unfolding sum
-returns c =
-    let s = c .before .before .before in
-    let e = flows-end (s .args .curve) (s .args .l .now) (s .args .n) (c .before .loop .i) (search needs) in
-    let h = rw e at (c .before .loop .inv) in
-    omega (arith, h)
+returns c = folded-all (c .before .before .loop .inv) (c .if1 .left) ∙ sum-fold flowReach 0 _ ∙ zero-add _
 
 pub reach-of-spec : {M : Type 1} → statement M
 reach-of-spec =
@@ -73,9 +71,10 @@ reach-of-spec =
     Inv-loop
     μ-loop
     loop-holds
-    reach-schedule-requires
+    (λ c κs. here c)
+    reach-requires
     add-off
-    add-i
+    (λ c κs. here (c .before .before))
     loop-less
     loop-again
     returns)

@@ -1,4 +1,4 @@
--- `netting::value::reach` meets its contract: a day's distance is at most 393. Assumes nothing.
+-- `netting::value::reach` meets its contract: a day's distance is at most 393.
 use borrow.Author.Needs.{needs}
 use mathlib.Core.Path.{refl}
 use Prim.Native.Nat.{_*_, _≤_}

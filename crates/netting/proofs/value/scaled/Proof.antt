@@ -1,4 +1,4 @@
--- `netting::value::scaled` meets its contract. Assumes nothing.
+-- `netting::value::scaled` meets its contract.
 use mathlib.Core.Path.{_≡_, sym, ap, _∙_}
 use Prim.Native.Nat.{ℕ, _+_, _*_, _/_, _%_, _≤_}
 use native.Mathlib.Nat.{mul-le-mul, add-mul-div-right, div-add-mod', add-comm}

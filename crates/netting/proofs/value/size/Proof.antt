@@ -1,4 +1,4 @@
--- `netting::value::size` meets its contract. Assumes nothing.
+-- `netting::value::size` meets its contract.
 use mathlib.Core.Path.{_≡_, refl, ap}
 use native.Mathlib.Omega.{arith}
 use lib.IntN.{pos, natAbs, _-ℤ_}

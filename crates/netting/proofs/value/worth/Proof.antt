@@ -1,4 +1,4 @@
--- `netting::value::worth` meets its contract, by those of `size` and `scaled`. Assumes nothing.
+-- `netting::value::worth` meets its contract, by those of `size` and `scaled`.
 use mathlib.Core.Path.{_≡_, ap, _∙_}
 use Prim.Native.Nat.{ℕ, _*_, _/_, _^_, _≤_, _<_}
 use native.Mathlib.Omega.{arith}

@@ -1,49 +1,57 @@
--- `margin::total::Total::with_flow` meets its contract. Assumes nothing.
+-- `margin::total::Total::with_flow` meets its contract.
 use borrow.Author.Needs.{needs}
+use Prim.Native.Nat.{_≤_}
+use Rattle.decimal.specs.Product.{unit}
 use Rattle.margin.specs.Totals.{plusFlow}
-use Rattle.margin.proofs.Totals.{flow-size, off-fits, value-fits, fits-more, read-more, fits-less, read-less}
+use Rattle.margin.proofs.Totals.{flow-size, off-fits, cast-fits, fits-more, read-more, fits-less, read-less}
 use Rattle.margin.proofs.total.Total.with_flow.Statement.{statement}
 use Rattle.margin.proofs.total.Total.with_flow.Tie as tie
 
-multiply-requires : tie.Need-multiply-requires
-multiply-requires c κs = search needs
+-- the flow's value is in its limits
+most : (c : tie.After-multiply) → c .multiply .result ≤ unit
+most c = let s = c .before in rw (c .multiply .ensures) (flow-size (s .args .f) (s .args .factor) (s .pre .1) (s .pre .2))
 
 cast-value : tie.Need-cast-value
-cast-value c =
-    let s = c .before in
-    rw (c .multiply .ensures) (value-fits (s .args .self .sum) _ (s .pre .0 .value) (flow-size _ _ (s .pre .1) (s .pre .2)))
-
-tolerance-requires : tie.Need-tolerance-requires
-tolerance-requires c κs = search needs
+cast-value c = cast-fits (c .before .args .self .sum) _ (c .before .pre .0 .value) (most c)
 
 add-off : tie.Need-add-off
 add-off c =
-    let p = c .before .before .before .pre in
-    rw (c .before .tolerance .ensures) (record { fits = off-fits _ (p .0) _ _ (p .1 .amount) (search needs) })
+    let s = c .before .before .before in
+    rw (c .before .tolerance .ensures) (record { fits = off-fits _ _ _ (s .pre .0 .off) (s .pre .1 .amount) (search needs) })
 
-add-t8 : tie.Need-add-t8
-add-t8 c =
-    let s = c .before .before .before .before .before .before in
-    rw (c .before .before .before .before .before .multiply .ensures) (fits-more (s .args .self .sum) _ (s .pre .0 .value) (flow-size _ _ (s .pre .1) (s .pre .2)))
+add-sum : tie.Need-add-t8
+add-sum c =
+    let at = c .before .before .before .before .before in
+    fits-more (at .before .args .self .sum) _ (at .before .pre .0 .value) (most at)
 
 returns : tie.Need-returns
 unfolding plusFlow
 returns c =
-    let s = c .before .before .before .before .before .before in
-    rw (c .before .before .before .before .before .multiply .ensures, c .before .before .before .before .tolerance .ensures, read-more (s .args .self .sum) _ (s .pre .0 .value) (flow-size _ _ (s .pre .1) (s .pre .2)), c .before .before .if1 .taken)
+    let off = c .before .before .before .before in
+    let at = off .before in
+    rw (read-more (at .before .args .self .sum) _ (at .before .pre .0 .value) (most at), at .multiply .ensures, off .tolerance .ensures, c .before .before .if1 .taken)
 
-sub-t9 : tie.Need-sub-t9
-sub-t9 c =
-    let s = c .before .before .before .before .before .before in
-    rw (c .before .before .before .before .before .multiply .ensures) (fits-less (s .args .self .sum) _ (s .pre .0 .value) (flow-size _ _ (s .pre .1) (s .pre .2)))
+sub-sum : tie.Need-sub-t9
+sub-sum c =
+    let at = c .before .before .before .before .before in
+    fits-less (at .before .args .self .sum) _ (at .before .pre .0 .value) (most at)
 
 returns-2 : tie.Need-returns-2
 unfolding plusFlow
 returns-2 c =
-    let s = c .before .before .before .before .before .before in
-    rw (c .before .before .before .before .before .multiply .ensures, c .before .before .before .before .tolerance .ensures, read-less (s .args .self .sum) _ (s .pre .0 .value) (flow-size _ _ (s .pre .1) (s .pre .2)), c .before .before .if1 .left)
+    let off = c .before .before .before .before in
+    let at = off .before in
+    rw (read-less (at .before .args .self .sum) _ (at .before .pre .0 .value) (most at), at .multiply .ensures, off .tolerance .ensures, c .before .before .if1 .left)
 
 pub with-flow-spec : {M : Type 1} → statement M
 with-flow-spec =
     tie.close
-    (tie.spec multiply-requires cast-value tolerance-requires add-off add-t8 returns sub-t9 returns-2)
+    (tie.spec
+    (λ c κs. search needs)
+    cast-value
+    (λ c κs. search needs)
+    add-off
+    add-sum
+    returns
+    sub-sum
+    returns-2)
