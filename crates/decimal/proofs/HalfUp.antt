@@ -1,5 +1,4 @@
 -- Laws of rounding half up: a multiple of the divisor comes out whole, and so does the quotient of a factor.
--- Assumes nothing.
 use mathlib.Core.Path.{_≡_, ap, sym, _∙_}
 use Prim.Native.Nat.{ℕ, _+_, _*_, _/_, _%_, _≤_, _<_}
 use native.Mathlib.Nat.{add-comm, add-mul-div-right, div-le-of-le-mul, div-lt-iff-lt-mul, div-eq-of-lt, div-eq-of-lt-le, div-add-mod', mul-le-mul-right}
@@ -45,10 +44,10 @@ half-up-at-most n d m h l =
     omega arith
 
 -- the answer for an amount m that was computed as n
-pub within : {n m : ℕ} → n ≡ m → n ≤ unit → Within n ≡ scaledTo m
+pub scaled-within : {n m : ℕ} → n ≡ m → n ≤ unit → Within n ≡ scaledTo m
 unfolding scaledTo
-within {n} e h = rw (← e, le-leb n unit h)
+scaled-within {n} e h = rw (← e, le-leb n unit h)
 
-pub over : {n m : ℕ} → n ≡ m → unit < n → Over ≡ scaledTo m
+pub scaled-over : {n m : ℕ} → n ≡ m → unit < n → Over ≡ scaledTo m
 unfolding scaledTo
-over {n} e h = rw (← e, lt-leb n unit h)
+scaled-over {n} e h = rw (← e, lt-leb n unit h)

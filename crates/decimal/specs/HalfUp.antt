@@ -1,4 +1,4 @@
--- Quotients rounded to the nearest, halves up, once (document 01, "Flows"). Assumes nothing.
+-- Quotients rounded to the nearest, halves up, once (document 01, "Flows").
 use mathlib.Core.Bool.{cond}
 use Prim.Native.Nat.{ℕ, _+_, _*_, _/_}
 use lib.Dec.{leb}

@@ -1,4 +1,4 @@
--- Products of numbers in fixed point (document 01, "Present value"). Assumes nothing.
+-- Products of numbers in fixed point (document 01, "Present value").
 use Prim.Native.Nat.{ℕ, _*_, _/_}
 
 -- "S = 10^12": one, in fixed point; and the largest amount

@@ -1,4 +1,4 @@
--- The figures that document 01 marks to be proved ("Checked figures"), as one theorem. Assumes nothing.
+-- The figures that document 01 marks to be proved ("Checked figures"), as one theorem.
 use mathlib.Core.Path.{_≡_}
 use mathlib.Core.List.{[], _∷_, map}
 use Prim.Native.Nat.{ℕ}

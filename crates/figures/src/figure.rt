@@ -1,5 +1,6 @@
 // The worked figures of source document 004, sections 6.1 to 6.3, whose inputs it publishes. Amounts are in kurus, for every currency; rates,
 // prices and coupons in millionths.
+ghost use Prim.Native.Nat.{_<_};
 
 // A flow: an amount, the rate that it is discounted at, and its day.
 pub struct Flow(pub u64, pub u64, pub u64);
@@ -29,7 +30,9 @@ pub const COUNT: usize = 47;
 
 // 004 writes amounts in whole lira and discounts them unrounded. Where the whole lira give another figure, the kurus of its own formula stand
 // here: 94 and 3% of 90 in 182 days (477), 10,000,000 / (1 + 0.146 * 99 / 365) (737), the second leg of 870 (885), and a tenth of it (985).
-pub const FIGURES: [Figure; COUNT] = [
+//
+// The figures stand in groups, since what a function that reads an array is checked for grows with the square of its length.
+const BONDS: [Figure; 10] = [
     // Discounted bond. In one year simple and compound interest agree.
     Figure(434, Work::Present(1_000_000_000, 120_000, 365), 8_928_571),
     Figure(444, Work::Present(892_857_100, 120_000, 0), 8_928_571),
@@ -45,6 +48,9 @@ pub const FIGURES: [Figure; COUNT] = [
     // Lease certificate issued abroad, in dollars.
     Figure(587, Work::Price(1_030_000, 4_000), 103_40),
     Figure(599, Work::Present(1_034_006_200, 15_000, 1), 10_339_640),
+];
+
+const STRIPPED: [Figure; 7] = [
     // Stripped coupon.
     Figure(619, Work::Cash(1_000_000_000, 39_300, 0), 393_000),
     Figure(634, Work::Present(39_300_000, 132_500, 1), 392_866),
@@ -62,6 +68,9 @@ pub const FIGURES: [Figure; COUNT] = [
     // Eurobond, in euros.
     Figure(673, Work::Price(1_025_000, 8_500), 103_35),
     Figure(687, Work::Present(1_033_458_900, 12_000, 1), 10_334_251),
+];
+
+const PRIVATE: [Figure; 11] = [
     // Discounted commercial paper.
     Figure(737, Work::Present(961_908_426, 132_500, 1), 9_615_806),
     Figure(737, Work::Present(1_000_000_000, 153_600, 100), 9_616_091),
@@ -88,6 +97,9 @@ pub const FIGURES: [Figure; COUNT] = [
     // Private lease certificate.
     Figure(801, Work::Price(950_000, 3_800), 95_38),
     Figure(815, Work::Present(953_846_200, 131_500, 3), 9_528_781),
+];
+
+const POOL: [Figure; 10] = [
     // Pool repo.
     Figure(870, Work::Interest(1_000_000_000, 132_500, 1), 3_630),
     Figure(870, Work::Withholding(1_000_000_000, 132_500, 1), 545),
@@ -106,6 +118,9 @@ pub const FIGURES: [Figure; COUNT] = [
     Figure(915, Work::Cash(300_000_000, 930_000, 0), 2_790_000),
     Figure(916, Work::Cash(268_200_000, 900_000, 0), 2_413_800),
     Figure(985, Work::Present(100_030_856, 132_000, 1), 999_969),
+];
+
+const SPECIFIED: [Figure; 9] = [
     // Specified repo.
     Figure(1047, Work::Interest(1_000_000_000, 132_000, 1), 3_616),
     Figure(1047, Work::Withholding(1_000_000_000, 132_000, 1), 542),
@@ -131,3 +146,22 @@ pub const FIGURES: [Figure; COUNT] = [
         178,
     ),
 ];
+
+// The figure at a place.
+pub fn figure_at(i: usize) -> Figure
+    requires { ⌜ i < 47 ⌝ }
+{
+    if i < 10 {
+        return BONDS[i];
+    }
+    if i < 17 {
+        return STRIPPED[i - 10];
+    }
+    if i < 28 {
+        return PRIVATE[i - 17];
+    }
+    if i < 38 {
+        return POOL[i - 28];
+    }
+    SPECIFIED[i - 38]
+}

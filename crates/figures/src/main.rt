@@ -5,9 +5,9 @@ mod worked;
 
 use decimal::round::half_up;
 use figure::COUNT;
-use figure::FIGURES;
 use figure::Figure;
 use figure::Work;
+use figure::figure_at;
 use worked::worked;
 
 // What a figure is.
@@ -74,7 +74,7 @@ fn main() {
     let mut agreed: u64 = 0;
     let mut i = 0;
     while i < COUNT {
-        if compare(FIGURES[i]) {
+        if compare(figure_at(i)) {
             agreed += 1;
         }
         i += 1;

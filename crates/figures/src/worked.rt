@@ -1,7 +1,10 @@
 // A figure by the engine's own functions, in kurus. An input outside the engine's limits is brought into them.
-ghost use Prim.Native.Nat.{_≤_};
+ghost use mathlib.Core.Path.{_≡_};
+ghost use Prim.Native.Nat.{_-_, _*_, _≤_};
 ghost use Rattle.decimal.specs.Product.{unit};
+ghost use Rattle.decimal.specs.HalfUp.{withholdingOn};
 ghost use Rattle.discount.specs.Discount.{million};
+ghost use Rattle.figures.specs.Worked.{brought, amountIn, rateIn, cashFor, indexedFor, presentFor, interestFor, secondLegFor, workedOf};
 use crate::figure::Work;
 use decimal::round;
 use decimal::round::Scaled;
@@ -11,7 +14,7 @@ use trade::price::Clean;
 
 fn within(least: u64, most: u64, n: u64) -> u64
     requires { ⌜ least ≤ most ⌝ }
-    ensures { λ r. ⌜ (least ≤ r) × (r ≤ most) ⌝ }
+    ensures { λ r. ⌜ (r ≡ brought least most n) × (least ≤ r) × (r ≤ most) ⌝ }
 {
     if n < least {
         return least;
@@ -23,25 +26,29 @@ fn within(least: u64, most: u64, n: u64) -> u64
 }
 
 fn amount(n: u64) -> u64
-    ensures { λ r. ⌜ r ≤ unit ⌝ }
+    ensures { λ r. ⌜ (r ≡ amountIn n) × (r ≤ unit) ⌝ }
 {
     within(0, 1_000_000_000_000, n)
 }
 
 fn rate(n: u64) -> u64
-    ensures { λ r. ⌜ (r ≤ million) × (r ≤ 1_000_000) ⌝ }
+    ensures { λ r. ⌜ (r ≡ rateIn n) × (r ≤ million) × (r ≤ 1_000_000) ⌝ }
 {
     within(0, 1_000_000, n)
 }
 
-fn settlement(nominal: u64, clean: u64, accrued: u64) -> u64 {
+fn settlement(nominal: u64, clean: u64, accrued: u64) -> u64
+    ensures { λ r. ⌜ r ≡ cashFor nominal clean accrued ⌝ }
+{
     let price = Clean(within(0, 4_000_000, clean));
-    let dirty = price.dirty(within(0, 1_000_000, accrued));
+    let dirty = price.dirty(rate(accrued));
     amounts::settlement_cash(amount(nominal), dirty)
 }
 
-fn indexed(nominal: u64, coupon: u64, settlement: u64, issue: u64) -> u64 {
-    let payment = amount(round::millionths_of(amount(nominal), rate(coupon)));
+fn indexed(nominal: u64, coupon: u64, settlement: u64, issue: u64) -> u64
+    ensures { λ r. ⌜ r ≡ indexedFor nominal coupon settlement issue ⌝ }
+{
+    let payment = round::millionths_of(amount(nominal), rate(coupon));
     let scaled = round::indexed_by(
         within(1, 10_000_000, settlement),
         within(1, 10_000_000, issue),
@@ -53,30 +60,40 @@ fn indexed(nominal: u64, coupon: u64, settlement: u64, issue: u64) -> u64 {
     }
 }
 
-fn present(sum: u64, at: u64, days: u64) -> u64 {
+fn present(sum: u64, at: u64, days: u64) -> u64
+    ensures { λ r. ⌜ r ≡ presentFor sum at days ⌝ }
+{
     present_value(amount(sum), rate(at), days)
 }
 
 // 0 where more is paid than received.
-fn difference(received: u64, paid: u64) -> u64 {
+fn difference(received: u64, paid: u64) -> u64
+    ensures { λ r. ⌜ r ≡ received - paid ⌝ }
+{
     if paid <= received { received - paid } else { 0 }
 }
 
 fn interest(cash: u64, at: u64, term: u64) -> u64
-    ensures { λ r. ⌜ r ≤ unit ⌝ }
+    ensures { λ r. ⌜ (r ≡ interestFor cash at term) × (r ≤ 2 * unit) ⌝ }
 {
-    amount(round::interest_on(amount(cash), rate(at), within(0, 730, term)))
+    round::interest_on(amount(cash), rate(at), within(0, 730, term))
 }
 
-fn withholding(cash: u64, at: u64, term: u64) -> u64 {
+fn withholding(cash: u64, at: u64, term: u64) -> u64
+    ensures { λ r. ⌜ r ≡ withholdingOn (interestFor cash at term) ⌝ }
+{
     round::withholding_on(interest(cash, at, term))
 }
 
-fn second_leg(cash: u64, at: u64, term: u64) -> u64 {
+fn second_leg(cash: u64, at: u64, term: u64) -> u64
+    ensures { λ r. ⌜ r ≡ secondLegFor cash at term ⌝ }
+{
     amounts::second_leg_cash(amount(cash), rate(at), within(0, 730, term))
 }
 
-pub fn worked(w: Work) -> u64 {
+pub fn worked(w: Work) -> u64
+    ensures { λ r. ⌜ r ≡ workedOf w ⌝ }
+{
     match w {
         Work::Price(clean, accrued) => settlement(10_000, clean, accrued),
         Work::Cash(nominal, clean, accrued) => settlement(nominal, clean, accrued),

@@ -1,9 +1,9 @@
--- The bases of the two tables of powers are what they should be, to two parts of 2 ^ 40. Numerals that the checker computes. Assumes nothing.
+-- The bases of the two tables of powers are what they should be, to two parts of 2 ^ 40. Numerals that the checker computes.
 use mathlib.Core.Path.{_≡_, refl}
 use Prim.Native.Nat.{ℕ, _+_, _*_, _^_, _≤_, _<_}
 use native.Mathlib.Nat.{one-le-pow}
 use lib.Dec.{lit<, lit≤}
-use Rattle.sieve.specs.Cheap.{scale, under, over, fineWhole, middleBase, upperBase}
+use Rattle.sieve.specs.Cheap.{scale, baseNum, baseDen, fineWhole, middleBase, upperBase}
 use Rattle.sieve.proofs.Exponents.{Low, High, base-low, base-high, raised, scaled-low, scaled-high}
 
 -- ---- the base to the power 2 ^ 24 lies between lower / (lower + 2 short) and higher / (higher + 2 short)
@@ -37,10 +37,10 @@ higher-pos : 0 < higher + 2 * short
 unfolding higher short
 higher-pos = lit< tt
 
-short-low : lower * over ^ short ≤ (lower + 2 * short) * under ^ short
+short-low : lower * baseDen ^ short ≤ (lower + 2 * short) * baseNum ^ short
 short-low = base-low short lower lower-is
 
-short-high : (higher + 2 * short) * under ^ short ≤ higher * over ^ short
+short-high : (higher + 2 * short) * baseNum ^ short ≤ higher * baseDen ^ short
 short-high = rw higher-is at (base-high short lower 17 lower-is square)
 
 -- ---- to the power 2 ^ 29
@@ -61,13 +61,13 @@ pub middle-low : Low fineWhole middleBase 536870912
 middle-low =
     rw middle-exponent at
     (scaled-low fineWhole middleBase (lower ^ 32) ((lower + 2 * short) ^ 32) (short * 32) (one-le-pow 32 _ lower-pos)
-    (raised lower (lower + 2 * short) over under short 32 short-low) middle-low-test)
+    (raised lower (lower + 2 * short) baseDen baseNum short 32 short-low) middle-low-test)
 
 pub middle-high : High fineWhole (middleBase + 2) 536870912
 middle-high =
     rw middle-exponent at
     (scaled-high fineWhole (middleBase + 2) ((higher + 2 * short) ^ 32) (higher ^ 32) (short * 32) (one-le-pow 32 _ higher-pos)
-    (raised (higher + 2 * short) higher under over short 32 short-high) middle-high-test)
+    (raised (higher + 2 * short) higher baseNum baseDen short 32 short-high) middle-high-test)
 
 -- ---- to the power 2 ^ 39, by way of 2 ^ 34, in parts of 2 ^ 90: the numbers of one step would be too long
 
@@ -95,12 +95,12 @@ stage-high-test = lit≤ tt
 stage-low : Low stageWhole stageLow (short * 1024)
 stage-low =
     scaled-low stageWhole stageLow (lower ^ 1024) ((lower + 2 * short) ^ 1024) (short * 1024) (one-le-pow 1024 _ lower-pos)
-    (raised lower (lower + 2 * short) over under short 1024 short-low) stage-low-test
+    (raised lower (lower + 2 * short) baseDen baseNum short 1024 short-low) stage-low-test
 
 stage-high : High stageWhole stageHigh (short * 1024)
 stage-high =
     scaled-high stageWhole stageHigh ((higher + 2 * short) ^ 1024) (higher ^ 1024) (short * 1024) (one-le-pow 1024 _ higher-pos)
-    (raised (higher + 2 * short) higher under over short 1024 short-high) stage-high-test
+    (raised (higher + 2 * short) higher baseNum baseDen short 1024 short-high) stage-high-test
 
 upper-exponent : short * 1024 * 32 ≡ 549755813888
 unfolding short
@@ -118,10 +118,10 @@ pub upper-low : Low fineWhole upperBase 549755813888
 upper-low =
     rw upper-exponent at
     (scaled-low fineWhole upperBase (stageLow ^ 32) (stageWhole ^ 32) (short * 1024 * 32) (one-le-pow 32 _ stage-pos)
-    (raised stageLow stageWhole over under (short * 1024) 32 (stage-low .low)) upper-low-test)
+    (raised stageLow stageWhole baseDen baseNum (short * 1024) 32 (stage-low .low)) upper-low-test)
 
 pub upper-high : High fineWhole (upperBase + 2) 549755813888
 upper-high =
     rw upper-exponent at
     (scaled-high fineWhole (upperBase + 2) (stageWhole ^ 32) (stageHigh ^ 32) (short * 1024 * 32) (one-le-pow 32 _ stage-pos)
-    (raised stageWhole stageHigh under over (short * 1024) 32 (stage-high .high)) upper-high-test)
+    (raised stageWhole stageHigh baseNum baseDen (short * 1024) 32 (stage-high .high)) upper-high-test)

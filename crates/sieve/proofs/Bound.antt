@@ -1,4 +1,4 @@
--- The cheap factor is at most `whole`, and within `distance` of document 01's. Assumes nothing.
+-- The cheap factor is at most `whole`, and within `distance` of document 01's.
 use Prim.Native.Nat.{ℕ, _+_, _*_, _/_, _≤_}
 use native.Mathlib.Nat.{add-le-add, mul-le-mul-left, mul-le-mul-right, div-mul-le-self}
 use native.Mathlib.Omega.{arith}
@@ -8,7 +8,7 @@ use Rattle.sieve.specs.Cheap.{scale, whole, logAt, antilog, cheapFactor,
 use Rattle.sieve.proofs.Rows.{whole-pos, exponent-le}
 use Rattle.sieve.proofs.Antilogs.{antilog-low, antilog-high, antilog-le}
 use Rattle.sieve.proofs.Logarithms.{log-near}
-use Rattle.sieve.proofs.Closeness.{near, near-wide}
+use Rattle.sieve.proofs.Closeness.{factor-near, near-wide}
 
 pub cheap-le : (r days : ℕ) → cheapFactor r days ≤ whole
 unfolding cheapFactor
@@ -45,7 +45,7 @@ module _ (r days : ℕ) (l : r ≤ 1000000) (k : days ≤ 10950) where
       let x : ℕ = e * days / 365 in
       let m : ℕ = 50000 * days / 365 + 2 in
       let all : Near whole (antilog x) r days ((24 + (m / 4096 + 1)) * unit + 2 * products days * whole) =
-      near r days whole (antilog x) 24 x e 50000 m (m / 4096 + 1) rate-le whole-pos (log-near r l) (antilog-low x)
+      factor-near r days whole (antilog x) 24 x e 50000 m (m / 4096 + 1) rate-le whole-pos (log-near r l) (antilog-low x)
       (antilog-high x (exponent-le r l days k)) (cut e) (covers e) few (units (antilog x) m (antilog-le x)) in
       -- what was found is no more than what `distance` says
       near-wide all (add-le-add (mul-le-mul-right unit (omega arith)) (omega arith))

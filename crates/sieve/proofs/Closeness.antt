@@ -1,4 +1,4 @@
--- A number near a power of the base of the logarithms is near document 01's factor. Assumes nothing.
+-- A number near a power of the base of the logarithms is near document 01's factor.
 use mathlib.Core.Path.{_≡_, sym}
 use Prim.Native.Nat.{ℕ, _+_, _-_, _*_, _^_, _≤_, _<_}
 use native.Mathlib.Nat.{mul-pos, mul-le-mul, mul-le-mul-left, mul-le-mul-right, le-of-mul-le-mul-right, pow-le-pow-left, one-le-pow}
@@ -9,19 +9,19 @@ use Rattle.decimal.specs.Product.{unit}
 use Rattle.discount.specs.Discount.{million, year, factor, products}
 use Rattle.discount.proofs.Roots.{year-pos, rate-pos}
 use Rattle.discount.proofs.Factors.{factor-high, factor-low}
-use Rattle.sieve.specs.Cheap.{scale, under, over, Near}
-use Rattle.sieve.proofs.Exponents.{Low, High, Logged, under-pos, over-pos, under-le, raised}
+use Rattle.sieve.specs.Cheap.{scale, baseNum, baseDen, Near}
+use Rattle.sieve.proofs.Exponents.{Low, High, Logged, num-pos, den-pos, num-le, raised}
 use Rattle.sieve.proofs.Ratios.{low-later}
 
 -- ---- from exponents to the power inequality of document 01
 
 -- the base's powers do not rise
-falls : (i j : ℕ) → i ≤ j → under ^ j * over ^ i ≤ under ^ i * over ^ j
+falls : (i j : ℕ) → i ≤ j → baseNum ^ j * baseDen ^ i ≤ baseNum ^ i * baseDen ^ j
 falls i j l =
     let rest : j ≡ i + (j - i) = omega arith in
-    let step : under ^ (j - i) ≤ over ^ (j - i) = pow-le-pow-left under-le (j - i) in
-    let all : under ^ (i + (j - i)) * over ^ i ≤ under ^ i * over ^ (i + (j - i)) =
-    rw (pow-add under i (j - i), pow-add over i (j - i)) (omega (arith, mul-le-mul-left (under ^ i * over ^ i) step)) in
+    let step : baseNum ^ (j - i) ≤ baseDen ^ (j - i) = pow-le-pow-left num-le (j - i) in
+    let all : baseNum ^ (i + (j - i)) * baseDen ^ i ≤ baseNum ^ i * baseDen ^ (i + (j - i)) =
+    rw (pow-add baseNum i (j - i), pow-add baseDen i (j - i)) (omega (arith, mul-le-mul-left (baseNum ^ i * baseDen ^ i) step)) in
     rw (sym rest) at all
 
 -- two ratios, one after the other
@@ -33,13 +33,13 @@ joined z n c m ax bx ae be pa pb g h k =
 module _ (r e s days z : ℕ) (g : Logged (million + r) e s) where
   fits-high : (c x : ℕ) → High z c x → x * year ≤ e * days → z ^ year * million ^ days ≤ c ^ year * (million + r) ^ days
   fits-high c x h l =
-      joined _ _ _ _ _ _ _ _ (one-le-pow (x * year) under under-pos) (one-le-pow (e * days) over over-pos)
-      (raised z c under over x year (h .high)) (raised million (million + r) over under e days (g .most)) (falls (x * year) (e * days) l)
+      joined _ _ _ _ _ _ _ _ (one-le-pow (x * year) baseNum num-pos) (one-le-pow (e * days) baseDen den-pos)
+      (raised z c baseNum baseDen x year (h .high)) (raised million (million + r) baseDen baseNum e days (g .most)) (falls (x * year) (e * days) l)
 
   fits-low : (c x : ℕ) → Low z c x → (e + s) * days ≤ x * year → c ^ year * (million + r) ^ days ≤ z ^ year * million ^ days
   fits-low c x h l =
-      joined _ _ _ _ _ _ _ _ (one-le-pow (x * year) over over-pos) (one-le-pow ((e + s) * days) under under-pos)
-      (raised c z over under x year (h .low)) (raised (million + r) million under over (e + s) days (g .least))
+      joined _ _ _ _ _ _ _ _ (one-le-pow (x * year) baseDen den-pos) (one-le-pow ((e + s) * days) baseNum num-pos)
+      (raised c z baseDen baseNum x year (h .low)) (raised (million + r) million baseNum baseDen (e + s) days (g .least))
       (omega (arith, falls ((e + s) * days) (x * year) l))
 
 -- ---- and so near the factor
@@ -61,9 +61,9 @@ module _ (r days z c : ℕ) where
 
 -- c and c + w stand on either side of the base to the power x; the logarithm of the year's factor lies between e and e + s; m units of the
 -- exponent cover what the quotient e * days / year and s leave open, and d what these are in parts of z
-pub near : (r days z c w x e s m d : ℕ) → r ≤ million → 0 < z → Logged (million + r) e s → Low z c x → High z (c + w) x → x * year ≤ e * days
+pub factor-near : (r days z c w x e s m d : ℕ) → r ≤ million → 0 < z → Logged (million + r) e s → Low z c x → High z (c + w) x → x * year ≤ e * days
     → (e + s) * days ≤ (x + m) * year → m ≤ scale → 2 * m * c ≤ d * scale → Near z c r days ((w + d) * unit + 2 * products days * z)
-near r days z c w x e s m d l pos g lo hi a b k h =
+factor-near r days z c w x e s m d l pos g lo hi a b k h =
     let above' = near-above r days z (c + w) l (fits-high r e s days z g (c + w) x hi a) in
     let below' = near-below r days z (c - d) (fits-low r e s days z g (c - d) (x + m) (low-later z pos c x m d k h lo) b) in
     record { above = omega (arith, simp sub-mul at above'); below = omega (arith, simp sub-mul at below') }

@@ -4,7 +4,7 @@ pub mod Cayley
 pub mod Exponents
 pub mod Ratios
 pub mod Bases
-pub mod Entries
+pub mod PowerRows
 pub mod LowDigits
 pub mod Antilogs
 pub mod Logarithms

@@ -1,12 +1,11 @@
 -- The logarithms: each row of the table loses 2 units at most, and the line between two rows 18,100, so `logAt` is at most 50,000 units short.
--- Assumes nothing.
 use mathlib.Core.Path.{_≡_}
 use Prim.Native.Nat.{ℕ, zero, suc, _+_, _*_, _/_, _%_, _^_, _≤_, _<_}
 use native.Mathlib.Nat.{le-trans, le-of-lt, mul-zero, add-zero, mul-le-mul-left, mul-le-mul-right, le-of-mul-le-mul-right, div-mul-le-self, lt-div-mul-add}
 use native.Mathlib.Omega.{arith}
 use lib.Dec.{lit<}
 use Rattle.discount.specs.Discount.{million}
-use Rattle.sieve.specs.Cheap.{scale, under, over, logOf, logAt}
+use Rattle.sieve.specs.Cheap.{scale, baseNum, baseDen, logOf, logAt}
 use Rattle.sieve.proofs.Exponents.{Logged, scale-is}
 use Rattle.sieve.proofs.Ratios.{ratio-most, ratio-least, logged-none, logged-more, logged-wide}
 use Rattle.sieve.proofs.Rows.{stepOf, step-le, part-le, log-step, row-le}
@@ -28,20 +27,20 @@ square : (d : ℕ) → d ≤ 563000000 → d * d + d ≤ 18100 * (scale + 18100)
 unfolding scale
 square d l = omega (arith, mul-le-mul-right d l)
 
-small : (d : ℕ) → d ≤ 563000000 → d ≤ scale
+below-scale : (d : ℕ) → d ≤ 563000000 → d ≤ scale
 unfolding scale
-small d l = omega arith
+below-scale d l = omega arith
 
 module _ (m d : ℕ) (s : Step m d) where
   -- ---- the whole step, and 2 units more
 
-  step-most : m * over ^ d ≤ (m + 64) * under ^ d
-  step-most = ratio-most m 64 d (small d (omega (arith, s .few))) (omega (arith, s .cut, scale-is))
+  step-most : m * baseDen ^ d ≤ (m + 64) * baseNum ^ d
+  step-most = ratio-most m 64 d (below-scale d (omega (arith, s .few))) (omega (arith, s .cut, scale-is))
 
-  step-least : (m + 64) * under ^ (d + 2) ≤ m * over ^ (d + 2)
+  step-least : (m + 64) * baseNum ^ (d + 2) ≤ m * baseDen ^ (d + 2)
   step-least =
       let l : d + 2 ≤ 563000000 = omega (arith, s .few) in
-      ratio-least m 64 (d + 2) (small (d + 2) l) 18100 (lit< tt) (square (d + 2) l) (omega (arith, s .rest, s .large, scale-is))
+      ratio-least m 64 (d + 2) (below-scale (d + 2) l) 18100 (lit< tt) (square (d + 2) l) (omega (arith, s .rest, s .large, scale-is))
 
   -- ---- j of the 64: on the line, and 18100 more
 
@@ -65,17 +64,17 @@ module _ (m d : ℕ) (s : Step m d) where
         omega (arith, mul-le-mul-right (2 * m + 64) (le-of-lt c), mul-le-mul-left j (le-of-lt (s .rest)), mul-le-mul-right (2 * m + 64) (le-of-lt l)) in
         le-of-mul-le-mul-right scaled (lit< tt)
 
-    part-most : m * over ^ part ≤ (m + j) * under ^ part
+    part-most : m * baseDen ^ part ≤ (m + j) * baseNum ^ part
     part-most =
         let less : part * (2 * m + j) ≤ part * (2 * m + 64) = mul-le-mul-left part (omega arith) in
         let most : part * (2 * m + j) ≤ scale * j = rw scale-is (le-trans less part-cut) in
-        ratio-most m j part (small part (omega (arith, part-few))) most
+        ratio-most m j part (below-scale part (omega (arith, part-few))) most
 
-    part-least : (m + j) * under ^ (part + 18100) ≤ m * over ^ (part + 18100)
+    part-least : (m + j) * baseNum ^ (part + 18100) ≤ m * baseDen ^ (part + 18100)
     part-least =
         let w : part + 18100 ≤ 563000000 = omega (arith, part-few) in
         let least : (scale + 18100) * j ≤ (part + 18100) * (2 * m + j) = rw scale-is (covered part m j part-rest part-few (s .large) l) in
-        ratio-least m j (part + 18100) (small (part + 18100) w) 18100 (lit< tt) (square (part + 18100) w) least
+        ratio-least m j (part + 18100) (below-scale (part + 18100) w) 18100 (lit< tt) (square (part + 18100) w) least
       where
         covered : (p m j : ℕ) → 17592186044416 * j ≤ p * (2 * m + 64) + 2 * (2 * m + 64) → p ≤ 562931939 → 1000000 ≤ m → j < 64
             → (17592186044416 + 18100) * j ≤ (p + 18100) * (2 * m + j)

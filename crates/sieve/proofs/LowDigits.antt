@@ -1,4 +1,4 @@
--- The lowest 29 digits of an exponent: 1 - 2 x / scale is at most 6 parts of 2 ^ 31 under the base to the power x. Assumes nothing.
+-- The lowest 29 digits of an exponent: 1 - 2 x / scale is at most 6 parts of 2 ^ 31 under the base to the power x.
 use mathlib.Core.Path.{_≡_, refl, sym, ap, _∙_}
 use Prim.Native.Nat.{ℕ, _+_, _-_, _*_, _/_, _≤_, _<_}
 use native.Mathlib.Nat.{le-of-lt, mul-le-mul-left, mul-le-mul-right}

@@ -1,4 +1,4 @@
--- Exponents of quotients and products: what a step of the table of logarithms adds, and what a product of two entries keeps. Assumes nothing.
+-- Exponents of quotients and products: what a step of the table of logarithms adds, and what a product of two rows keeps.
 use mathlib.Core.Path.{_≡_, ap}
 use Prim.Native.Nat.{ℕ, _+_, _-_, _*_, _/_, _^_, _≤_, _<_}
 use native.Mathlib.Nat.{le-refl, mul-le-mul, mul-le-mul-left, mul-le-mul-right, le-of-mul-le-mul-right, pow-zero, pow-le-pow-left, div-mul-le-self, lt-div-mul-add}
@@ -6,8 +6,8 @@ use native.Mathlib.Omega.{arith}
 use lib.Pow.{pow-add}
 use Rattle.laws.proofs.Powers.{sub-mul}
 use Rattle.discount.specs.Discount.{million}
-use Rattle.sieve.specs.Cheap.{scale, under, over}
-use Rattle.sieve.proofs.Exponents.{Low, High, Logged, scale-pos, under-le, base-low, base-high}
+use Rattle.sieve.specs.Cheap.{scale, baseNum, baseDen}
+use Rattle.sieve.proofs.Exponents.{Low, High, Logged, scale-pos, num-le, base-low, base-high}
 
 -- ---- m / (m + j) against the base to the power d
 
@@ -23,19 +23,19 @@ module _ (m j d : ℕ) (l : d ≤ scale) where
   times = ap (λ (z : ℕ). z * j) sum
 
   -- where d * (2 m + j) ≤ scale * j, it is at most that
-  pub ratio-most : d * (2 * m + j) ≤ scale * j → m * over ^ d ≤ (m + j) * under ^ d
+  pub ratio-most : d * (2 * m + j) ≤ scale * j → m * baseDen ^ d ≤ (m + j) * baseNum ^ d
   ratio-most h =
       let less : (p + 2 * d) * m ≤ p * (m + j) = omega (arith, times) in
-      let scaled : m * over ^ d * (p + 2 * d) ≤ (m + j) * under ^ d * (p + 2 * d) =
-      omega (arith, mul-le-mul-left (m + j) (base-low d p sum), mul-le-mul-right (over ^ d) less) in
+      let scaled : m * baseDen ^ d * (p + 2 * d) ≤ (m + j) * baseNum ^ d * (p + 2 * d) =
+      omega (arith, mul-le-mul-left (m + j) (base-low d p sum), mul-le-mul-right (baseDen ^ d) less) in
       le-of-mul-le-mul-right scaled (omega (arith, scale-pos))
 
   -- where (scale + k) * j ≤ d * (2 m + j), with k * (scale + k) at least d * (d + 1), it is at least that
-  pub ratio-least : (k : ℕ) → 0 < k → d * d + d ≤ k * (scale + k) → (scale + k) * j ≤ d * (2 * m + j) → (m + j) * under ^ d ≤ m * over ^ d
+  pub ratio-least : (k : ℕ) → 0 < k → d * d + d ≤ k * (scale + k) → (scale + k) * j ≤ d * (2 * m + j) → (m + j) * baseNum ^ d ≤ m * baseDen ^ d
   ratio-least k pos sq h =
       let less : (k + p) * (m + j) ≤ (k + p + 2 * d) * m = omega (arith, times) in
-      let scaled : (m + j) * under ^ d * (k + p) ≤ m * over ^ d * (k + p) =
-      omega (arith, mul-le-mul-left m (base-high d p k sum sq), mul-le-mul-right (under ^ d) less) in
+      let scaled : (m + j) * baseNum ^ d * (k + p) ≤ m * baseDen ^ d * (k + p) =
+      omega (arith, mul-le-mul-left m (base-high d p k sum sq), mul-le-mul-right (baseNum ^ d) less) in
       le-of-mul-le-mul-right scaled (omega arith)
 
 -- ---- logarithms add up
@@ -43,35 +43,35 @@ module _ (m j d : ℕ) (l : d ≤ scale) where
 pub logged-none : Logged million 0 0
 logged-none = record { most = simp pow-zero (le-refl _); least = simp pow-zero (le-refl _) }
 
-pub logged-more : (m e s j d t : ℕ) → Logged m e s → m * over ^ d ≤ (m + j) * under ^ d → (m + j) * under ^ (d + t) ≤ m * over ^ (d + t)
+pub logged-more : (m e s j d t : ℕ) → Logged m e s → m * baseDen ^ d ≤ (m + j) * baseNum ^ d → (m + j) * baseNum ^ (d + t) ≤ m * baseDen ^ (d + t)
     → Logged (m + j) (e + d) (s + t)
 logged-more m e s j d t g h k =
     let swap : e + d + (s + t) ≡ (e + s) + (d + t) = omega arith in
-    let both : (m + j) * (under ^ (e + s) * under ^ (d + t)) ≤ million * (over ^ (e + s) * over ^ (d + t)) =
-    omega (arith, mul-le-mul-right (over ^ (d + t)) (g .least), mul-le-mul-right (under ^ (e + s)) k) in
+    let both : (m + j) * (baseNum ^ (e + s) * baseNum ^ (d + t)) ≤ million * (baseDen ^ (e + s) * baseDen ^ (d + t)) =
+    omega (arith, mul-le-mul-right (baseDen ^ (d + t)) (g .least), mul-le-mul-right (baseNum ^ (e + s)) k) in
     record {
-      most = simp pow-add (omega (arith, mul-le-mul-right (over ^ d) (g .most), mul-le-mul-right (under ^ e) h));
-      least = rw (swap, pow-add under (e + s) (d + t), pow-add over (e + s) (d + t)) both;
+      most = simp pow-add (omega (arith, mul-le-mul-right (baseDen ^ d) (g .most), mul-le-mul-right (baseNum ^ e) h));
+      least = rw (swap, pow-add baseNum (e + s) (d + t), pow-add baseDen (e + s) (d + t)) both;
     }
 
 -- a wider one
 pub logged-wide : (m e s t : ℕ) → Logged m e s → s ≤ t → Logged m e t
 logged-wide m e s t g l =
     let rest : e + t ≡ (e + s) + (t - s) = omega arith in
-    let both : m * (under ^ (e + s) * under ^ (t - s)) ≤ million * (over ^ (e + s) * over ^ (t - s)) =
+    let both : m * (baseNum ^ (e + s) * baseNum ^ (t - s)) ≤ million * (baseDen ^ (e + s) * baseDen ^ (t - s)) =
     omega
-    (arith, mul-le-mul-right (under ^ (t - s)) (g .least), mul-le-mul-left (million * over ^ (e + s)) (pow-le-pow-left under-le (t - s))) in
-    record { most = g .most; least = rw (rest, pow-add under (e + s) (t - s), pow-add over (e + s) (t - s)) both }
+    (arith, mul-le-mul-right (baseNum ^ (t - s)) (g .least), mul-le-mul-left (million * baseDen ^ (e + s)) (pow-le-pow-left num-le (t - s))) in
+    record { most = g .most; least = rw (rest, pow-add baseNum (e + s) (t - s), pow-add baseDen (e + s) (t - s)) both }
 
--- ---- products of entries
+-- ---- products of rows
 
 module _ (z : ℕ) (pos : 0 < z) where
   pub low-product : (a b x y : ℕ) → Low z a x → Low z b y → Low z (a * b / z) (x + y)
   low-product a b x y g h =
       let c : ℕ = a * b / z in
       let cut : c * z ≤ a * b = div-mul-le-self (a * b) z in
-      let scaled : c * (over ^ x * over ^ y) * z ≤ z * (under ^ x * under ^ y) * z =
-      omega (arith, mul-le-mul-right (over ^ x * over ^ y) cut, mul-le-mul (g .low) (h .low)) in
+      let scaled : c * (baseDen ^ x * baseDen ^ y) * z ≤ z * (baseNum ^ x * baseNum ^ y) * z =
+      omega (arith, mul-le-mul-right (baseDen ^ x * baseDen ^ y) cut, mul-le-mul (g .low) (h .low)) in
       record { low = simp pow-add (le-of-mul-le-mul-right scaled pos) }
 
   pub high-product : (a b v w x y : ℕ) → a ≤ z → b ≤ z → v * w ≤ z → High z (a + v) x → High z (b + w) y → High z (a * b / z + (v + w + 2)) (x + y)
@@ -79,8 +79,8 @@ module _ (z : ℕ) (pos : 0 < z) where
       let c : ℕ = a * b / z in
       let cut : a * b < c * z + z = lt-div-mul-add pos in
       let all : (a + v) * (b + w) ≤ (c + (v + w + 2)) * z = omega (arith, mul-le-mul-right w la, mul-le-mul-left v lb) in
-      let scaled : z * (under ^ x * under ^ y) * z ≤ (c + (v + w + 2)) * (over ^ x * over ^ y) * z =
-      omega (arith, mul-le-mul-right (over ^ x * over ^ y) all, mul-le-mul (g .high) (h .high)) in
+      let scaled : z * (baseNum ^ x * baseNum ^ y) * z ≤ (c + (v + w + 2)) * (baseDen ^ x * baseDen ^ y) * z =
+      omega (arith, mul-le-mul-right (baseDen ^ x * baseDen ^ y) all, mul-le-mul (g .high) (h .high)) in
       record { high = simp pow-add (le-of-mul-le-mul-right scaled pos) }
 
   -- m units of the exponent more, and d less in c
@@ -89,7 +89,7 @@ module _ (z : ℕ) (pos : 0 < z) where
       let p : ℕ = scale - m in
       let sum : p + m ≡ scale = omega arith in
       let less : (c - d) * (p + 2 * m) ≤ c * p = simp sub-mul (omega (arith, ap (λ (z : ℕ). d * z) sum)) in
-      let down : (c - d) * over ^ m * (p + 2 * m) ≤ c * under ^ m * (p + 2 * m) =
-      omega (arith, mul-le-mul-left c (base-low m p sum), mul-le-mul-right (over ^ m) less) in
-      let one : (c - d) * over ^ m ≤ c * under ^ m = le-of-mul-le-mul-right down (omega (arith, scale-pos)) in
-      record { low = simp pow-add (omega (arith, mul-le-mul-right (over ^ x) one, mul-le-mul-right (under ^ m) (g .low))) }
+      let down : (c - d) * baseDen ^ m * (p + 2 * m) ≤ c * baseNum ^ m * (p + 2 * m) =
+      omega (arith, mul-le-mul-left c (base-low m p sum), mul-le-mul-right (baseDen ^ m) less) in
+      let one : (c - d) * baseDen ^ m ≤ c * baseNum ^ m = le-of-mul-le-mul-right down (omega (arith, scale-pos)) in
+      record { low = simp pow-add (omega (arith, mul-le-mul-right (baseDen ^ x) one, mul-le-mul-right (baseNum ^ m) (g .low))) }

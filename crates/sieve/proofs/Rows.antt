@@ -1,4 +1,4 @@
--- The rows of the tables: the first, each after the one before it, and what they are at most. Assumes nothing.
+-- The rows of the tables: the first, each after the one before it, and what they are at most.
 use mathlib.Core.Path.{_≡_, refl}
 use Prim.Native.Nat.{ℕ, zero, suc, _+_, _-_, _*_, _/_, _%_, _≤_, _<_, zero-le}
 use native.Mathlib.Nat.{le-refl, le-of-lt, mul-le-mul, div-le-of-le-mul, div-lt-iff-lt-mul}
@@ -6,7 +6,7 @@ use native.Mathlib.Numerals.{add-one}
 use native.Mathlib.Omega.{arith}
 use lib.Dec.{lit<, lit≤}
 use Rattle.discount.specs.Discount.{million}
-use Rattle.sieve.specs.Cheap.{scale, whole, fineWhole, logOf, logAt, chain, entry, middleBase, upperBase}
+use Rattle.sieve.specs.Cheap.{scale, whole, fineWhole, logOf, logAt, chain, powerRow, middleBase, upperBase}
 
 pub whole-is : whole ≡ 2147483648
 unfolding whole
@@ -43,9 +43,9 @@ module _ (b : ℕ) where
   unfolding chain
   chain-more j = rw add-one refl
 
-  pub entry-is : (j : ℕ) → entry b j ≡ chain b j / 512
-  unfolding entry
-  entry-is j = refl
+  pub power-row-is : (j : ℕ) → powerRow b j ≡ chain b j / 512
+  unfolding powerRow
+  power-row-is j = refl
 
   module _ (l : b ≤ fineWhole) where
     pub chain-le : (j : ℕ) → chain b j ≤ fineWhole
@@ -53,9 +53,9 @@ module _ (b : ℕ) where
     chain-le zero = le-refl fineWhole
     chain-le (suc j) = div-le-of-le-mul fineWhole (mul-le-mul (chain-le j) l)
 
-    pub entry-le : (j : ℕ) → entry b j ≤ whole
-    unfolding entry
-    entry-le j = div-le-of-le-mul 512 (omega (arith, chain-le j, fine-is, whole-is))
+    pub power-row-le : (j : ℕ) → powerRow b j ≤ whole
+    unfolding powerRow
+    power-row-le j = div-le-of-le-mul 512 (omega (arith, chain-le j, fine-is, whole-is))
 
 -- ---- the logarithms
 

@@ -1,5 +1,5 @@
 -- The cheap factor: a logarithm from a table, its product with the days, and an antilogarithm from two tables. Logarithms are exponents of
--- (scale - 1) / (scale + 1). What the tables hold, the factor, and how near it is to document 01's. Assumes nothing.
+-- (scale - 1) / (scale + 1). What the tables hold, the factor, and how near it is to document 01's.
 use Prim.Native.Nat.{ℕ, zero, suc, _+_, _-_, _*_, _/_, _%_, _≤_, _<_}
 use mathlib.Core.Path.{_≡_}
 use mathlib.Core.List.{List}
@@ -7,15 +7,15 @@ use lib.ListN.{length, getD}
 use Rattle.decimal.specs.Product.{unit}
 use Rattle.discount.specs.Discount.{million, factor, products}
 
--- 2 ^ 44; the base of the logarithms is under / over
+-- 2 ^ 44; the base of the logarithms is baseNum / baseDen, the one below and the one above
 unfoldable pub scale : ℕ
 scale = 17592186044416
 
-unfoldable pub under : ℕ
-under = 17592186044415
+unfoldable pub baseNum : ℕ
+baseNum = 17592186044415
 
-unfoldable pub over : ℕ
-over = 17592186044417
+unfoldable pub baseDen : ℕ
+baseDen = 17592186044417
 
 -- one, in a cheap factor: 2 ^ 31; and while a table is filled: 2 ^ 40
 unfoldable pub whole : ℕ
@@ -41,8 +41,8 @@ chain b zero = fineWhole
 chain b (suc j) = chain b j * b / fineWhole
 
 -- and in parts of whole
-unfoldable pub entry : ℕ → ℕ → ℕ
-entry b j = chain b j / 512
+unfoldable pub powerRow : ℕ → ℕ → ℕ
+powerRow b j = chain b j / 512
 
 -- the base of the logarithms to the powers 2 ^ 29 and 2 ^ 39, rounded down
 unfoldable pub middleBase : ℕ
@@ -54,7 +54,7 @@ upperBase = 1032895585847
 -- the base to the power x: the upper digits of x from one table, the next ten from the other, the lowest 29 on a line
 unfoldable pub antilog : ℕ → ℕ
 antilog x =
-    entry upperBase (x / 549755813888) * entry middleBase (x / 536870912 % 1024) / 2147483648
+    powerRow upperBase (x / 549755813888) * powerRow middleBase (x / 536870912 % 1024) / 2147483648
     * (2147483647 - x % 536870912 / 4096)
     / 2147483648
 
@@ -79,5 +79,5 @@ pub record Logs (logs : List ℕ) : Type 0 where
 pub record Powers (middle upper : List ℕ) : Type 0 where
   pub middles : length middle ≡ 1024
   pub uppers : length upper ≡ 481
-  pub middleRow : (k : ℕ) → k < 1024 → getD middle k 0 ≡ entry middleBase k
-  pub upperRow : (k : ℕ) → k < 481 → getD upper k 0 ≡ entry upperBase k
+  pub middleRow : (k : ℕ) → k < 1024 → getD middle k 0 ≡ powerRow middleBase k
+  pub upperRow : (k : ℕ) → k < 481 → getD upper k 0 ≡ powerRow upperBase k

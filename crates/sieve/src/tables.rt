@@ -2,7 +2,7 @@
 ghost use mathlib.Core.Path.{_≡_};
 ghost use Prim.Native.Nat.{ℕ, _*_, _/_, _≤_, _<_};
 ghost use lib.ListN.{length, getD};
-ghost use Rattle.sieve.specs.Cheap.{fineWhole, logOf, entry, Powers};
+ghost use Rattle.sieve.specs.Cheap.{fineWhole, logOf, powerRow, Powers};
 
 // The bases of the two tables of powers.
 const MIDDLE_BASE: u64 = 1_099_444_520_959;
@@ -28,7 +28,7 @@ fn multiply(a: u64, b: u64) -> u64
 pub fn powers(base: u64, out: &mut [u64])
     requires { ⌜ base ≤ fineWhole ⌝ }
     ensures kept { λ _. ⌜ length (now (out .exit)) ≡ length (now (out .entry)) ⌝ }
-    ensures rows { λ _. ⌜ ((k : ℕ) → k < length (now (out .entry)) → getD (now (out .exit)) k 0 ≡ entry base k) ⌝ }
+    ensures rows { λ _. ⌜ ((k : ℕ) → k < length (now (out .entry)) → getD (now (out .exit)) k 0 ≡ powerRow base k) ⌝ }
 {
     let mut x = WHOLE;
     let mut i = 0;

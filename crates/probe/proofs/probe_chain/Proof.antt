@@ -1,4 +1,4 @@
--- `probe::probe_chain` meets its contract, by that of `compound`. Assumes nothing.
+-- `probe::probe_chain` meets its contract, by that of `compound`.
 use native.Mathlib.Omega.{arith}
 use borrow.Author.Needs.{needs}
 use Rattle.decimal.specs.Product.{unit}
@@ -9,8 +9,5 @@ compound-requires : tie.Need-compound-requires
 unfolding unit
 compound-requires c κs = omega arith
 
-returns : tie.Need-returns
-returns c = search needs
-
 pub probe-chain-spec : {M : Type 1} → statement M
-probe-chain-spec = tie.close (tie.spec compound-requires returns)
+probe-chain-spec = tie.close (tie.spec compound-requires (λ c. search needs))

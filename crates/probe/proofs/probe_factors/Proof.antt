@@ -1,4 +1,4 @@
--- `probe::probe_factors` meets its contract, by that of `factors`. Assumes nothing.
+-- `probe::probe_factors` meets its contract, by that of `factors`.
 use mathlib.Core.Path.{_≡_}
 use Prim.Native.Nat.{ℕ, _+_}
 use native.Mathlib.Omega.{arith}
@@ -7,15 +7,6 @@ use Rattle.decimal.specs.Product.{unit}
 use Rattle.discount.specs.Discount.{factor}
 use Rattle.probe.proofs.probe_factors.Statement.{statement}
 use Rattle.probe.proofs.probe_factors.Tie as tie
-
-rate-of-requires : tie.Need-rate-of-requires
-rate-of-requires c κs = search needs
-
-rate-of-requires-2 : tie.Need-rate-of-requires-2
-rate-of-requires-2 c κs = search needs
-
-factors-requires : tie.Need-factors-requires
-factors-requires c κs = search needs
 
 add-result : tie.Need-add-result
 unfolding unit
@@ -27,10 +18,11 @@ total t u e f g h = cc
 
 returns : tie.Need-returns
 returns c =
-    let at = c .before .before .before .before in
+    let second = c .before .before in
+    let at = second .before .before in
     let both = at .factors .ensures in
     let a = at .before .before .before .args in
     total (a .days) (a .other-days) (at .before .before .rate-of .ensures .0) (at .before .rate-of2 .ensures .0) (both .0) (both .2)
 
 pub probe-factors-spec : {M : Type 1} → statement M
-probe-factors-spec = tie.close (tie.spec rate-of-requires rate-of-requires-2 factors-requires add-result returns)
+probe-factors-spec = tie.close (tie.spec (λ c κs. search needs) (λ c κs. search needs) (λ c κs. search needs) add-result returns)

@@ -1,4 +1,4 @@
--- `probe::rate_of` meets its contract. Assumes nothing.
+-- `probe::rate_of` meets its contract.
 use mathlib.Core.Path.{refl}
 use native.Mathlib.Omega.{arith}
 use Rattle.discount.specs.Discount.{million}

@@ -1,12 +1,11 @@
 -- `decimal::product::multiply` meets its contract (`Products.antt`).
--- Assumes nothing.
 use native.Mathlib.Omega.{arith}
-use Rattle.decimal.proofs.Products.{Small, small, split}
+use Rattle.decimal.proofs.Products.{ProductParts, product-parts, product-by-parts}
 use Rattle.decimal.proofs.product.multiply.Statement.{statement}
 use Rattle.decimal.proofs.product.multiply.Tie as tie
 
-bounds : (c : tie.Start) → Small (c .args .a) (c .args .b)
-bounds c = small (c .args .a) (c .args .b) (c .pre .0) (c .pre .1)
+bounds : (c : tie.Start) → ProductParts (c .args .a) (c .args .b)
+bounds c = product-parts (c .args .a) (c .args .b) (c .pre .0) (c .pre .1)
 
 mul-result : tie.Need-mul-result
 mul-result c = omega (arith, bounds c)
@@ -24,7 +23,7 @@ add-result-2 : tie.Need-add-result-2
 add-result-2 c = omega (arith, bounds c)
 
 returns : tie.Need-returns
-returns c = split (c .args .a) (c .args .b)
+returns c = product-by-parts (c .args .a) (c .args .b)
 
 pub multiply-spec : {M : Type 1} → statement M
 multiply-spec = tie.close (tie.spec mul-result mul-result-2 mul-result-3 add-result add-result-2 returns)

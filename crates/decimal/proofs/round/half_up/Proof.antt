@@ -1,4 +1,4 @@
--- `decimal::round::half_up` meets its contract: n is whole times d and the rest, and the rest decides. Assumes nothing.
+-- `decimal::round::half_up` meets its contract: n is whole times d and the rest, and the rest decides.
 use mathlib.Core.Path.{_≡_, sym, ap, _∙_}
 use Prim.Native.Nat.{ℕ, _+_, _/_, _%_, _<_}
 use native.Mathlib.Nat.{mod-lt, div-add-mod', mul-le-mul-left}
@@ -13,12 +13,6 @@ use Rattle.decimal.proofs.round.half_up.Tie as tie
 joined : (n d t : ℕ) → 0 < d → halfUp (n % d) d ≡ t → n / d + t ≡ halfUp n d
 joined n d t h e =
     ap (λ (x : ℕ). n / d + x) (sym e) ∙ half-up-multiple (n / d) (n % d) d h ∙ ap (λ (x : ℕ). halfUp x d) (div-add-mod' n d)
-
-div-whole : tie.Need-div-whole
-div-whole c = search needs
-
-rem-rest : tie.Need-rem-rest
-rem-rest c = search needs
 
 mul-if1 : tie.Need-mul-if1
 mul-if1 c = omega (arith, mod-lt (c .args .n) (c .pre .0))
@@ -42,4 +36,4 @@ returns-2 c =
     omega (arith, e)
 
 pub half-up-spec : {M : Type 1} → statement M
-half-up-spec = tie.close (tie.spec div-whole rem-rest mul-if1 add-result returns returns-2)
+half-up-spec = tie.close (tie.spec (λ c. search needs) (λ c. search needs) mul-if1 add-result returns returns-2)

@@ -1,5 +1,4 @@
 -- `decimal::round::interest_on` meets its contract: the products fit, and the divisor may be taken out first (`HalfUp.antt`).
--- Assumes nothing.
 use mathlib.Core.Path.{ap, _∙_}
 use Prim.Native.Nat.{ℕ, _+_, _*_, _/_, _%_, _≤_}
 use native.Mathlib.Nat.{mul-le-mul}
@@ -11,12 +10,12 @@ use Rattle.decimal.proofs.round.interest_on.Statement.{statement}
 use Rattle.decimal.proofs.round.interest_on.Tie as tie
 
 -- what the products are at most
-record Small (x t : ℕ) : Type 0 where
+record InterestParts (x t : ℕ) : Type 0 where
   yearly : x ≤ 1000000000000 * 1000000
   whole : x / 365_000_000 * t ≤ 2_739_726_027 * 730
   left : x % 365_000_000 * t ≤ 365_000_000 * 730
 
-bounds : (c : tie.Start) → Small (c .args .cash * c .args .rate) (c .args .term)
+bounds : (c : tie.Start) → InterestParts (c .args .cash * c .args .rate) (c .args .term)
 unfolding unit
 bounds c =
     let x = c .args .cash * c .args .rate in

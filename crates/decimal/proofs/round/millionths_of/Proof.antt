@@ -1,4 +1,4 @@
--- `decimal::round::millionths_of` meets its contract, by that of `half_up`. Assumes nothing.
+-- `decimal::round::millionths_of` meets its contract, by that of `half_up`.
 use Prim.Native.Nat.{_*_, _≤_}
 use native.Mathlib.Nat.{mul-le-mul}
 use native.Mathlib.Omega.{arith}

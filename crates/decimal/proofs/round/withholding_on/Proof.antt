@@ -1,4 +1,4 @@
--- `decimal::round::withholding_on` meets its contract, by that of `half_up`. Assumes nothing.
+-- `decimal::round::withholding_on` meets its contract, by that of `half_up`.
 use native.Mathlib.Omega.{arith}
 use Rattle.decimal.specs.Product.{unit}
 use Rattle.decimal.specs.HalfUp.{withholdingOn}

@@ -43,13 +43,13 @@ returns-2 : tie.Need-returns-2
 returns-2 c =
     let first = c .before .before in
     let fields = first .before .before in
-    omega (arith, too-small (fields .before .before) (c .if2 .taken))
+    omega (arith, too-small (fields .before .before) (omega (arith, c .if2 .taken)))
 
 returns-3 : tie.Need-returns-3
 returns-3 c =
     let first = c .before .before in
     let fields = first .before .before in
-    omega (arith, right (fields .before .before) (first .if1 .left) (c .if2 .left))
+    omega (arith, right (fields .before .before) (first .if1 .left) (omega (arith, c .if2 .left)))
 
 pub nearer-spec : {M : Type 1} → statement M
 nearer-spec = tie.close (tie.spec sub-less returns add-more returns-2 returns-3)

@@ -1,6 +1,5 @@
 -- `discount::daily::search` meets its contract. The invariant: q is below one. The measure is how far q stands from the root, to which every
 -- turn comes one nearer.
-use mathlib.Core.Path.{_≡_}
 use Prim.Native.Nat.{_<_, zero-le}
 use native.Mathlib.Omega.{arith}
 use borrow.Author.Needs.{needs}

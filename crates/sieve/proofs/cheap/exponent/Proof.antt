@@ -1,4 +1,4 @@
--- `sieve::cheap::exponent` meets its contract: what it reads of the table is what the definition has, and all of it fits. Assumes nothing.
+-- `sieve::cheap::exponent` meets its contract: what it reads of the table is what the definition has, and all of it fits.
 use mathlib.Core.Path.{_≡_, refl}
 use Prim.Native.Nat.{ℕ, _+_, _-_, _*_, _/_, _%_, _≤_}
 use native.Mathlib.Nat.{mul-le-mul}
@@ -43,23 +43,8 @@ module _ (c : tie.Start) where
   unfolding logAt
   log-is = rw (from-is, to-is) refl
 
-  product-le : (from + (to - from) * (rate % 64) / 64) * c .args .day ≤ 8796374478814 * 10950
-  product-le = rw log-is (mul-le-mul (log-at-le rate (c .pre .1)) (c .pre .2))
-
-mul-from : tie.Need-mul-from
-mul-from c = search needs
-
-shared-slice-read-from : tie.Need-shared-slice-read-from
-shared-slice-read-from c = search needs
-
-add-to : tie.Need-add-to
-add-to c = search needs
-
-mul-to : tie.Need-mul-to
-mul-to c = search needs
-
-shared-slice-read-to : tie.Need-shared-slice-read-to
-shared-slice-read-to c = search needs
+  log-product-le : (from + (to - from) * (rate % 64) / 64) * c .args .day ≤ 8796374478814 * 10950
+  log-product-le = rw log-is (mul-le-mul (log-at-le rate (c .pre .1)) (c .pre .2))
 
 sub-log : tie.Need-sub-log
 sub-log c = rises (c .before .before)
@@ -71,11 +56,11 @@ add-log : tie.Need-add-log
 add-log c = omega (arith, step-le (c .before .before), to-le (c .before .before), rises (c .before .before))
 
 mul-result : tie.Need-mul-result
-mul-result c = omega (arith, product-le (c .before .before))
+mul-result c = omega (arith, log-product-le (c .before .before))
 
 returns : tie.Need-returns
 returns c = rw (log-is (c .before .before)) refl
 
 pub exponent-spec : {M : Type 1} → statement M
 exponent-spec =
-    tie.close (tie.spec mul-from shared-slice-read-from add-to mul-to shared-slice-read-to sub-log mul-log add-log mul-result returns)
+    tie.close (tie.spec (λ c. search needs) (λ c. search needs) (λ c. search needs) (λ c. search needs) (λ c. search needs) sub-log mul-log add-log mul-result returns)

@@ -1,4 +1,4 @@
--- `sieve::cheap::factor` meets its contract. Assumes nothing.
+-- `sieve::cheap::factor` meets its contract.
 use mathlib.Core.Path.{ap, _∙_}
 use borrow.Author.Needs.{needs}
 use Rattle.sieve.specs.Cheap.{antilog, cheapFactor}
@@ -6,12 +6,10 @@ use Rattle.sieve.proofs.Rows.{exponent-le}
 use Rattle.sieve.proofs.cheap.factor.Statement.{statement}
 use Rattle.sieve.proofs.cheap.factor.Tie as tie
 
-exponent-requires : tie.Need-exponent-requires
-exponent-requires c κs = search needs
-
 antilog-requires : tie.Need-antilog-requires
 antilog-requires c κs =
-    let start = c .before .before .before .before in
+    let lent = c .before .before in
+    let start = lent .before .before in
     (start .pre .1, rw (c .exponent .ensures) (exponent-le (start .args .rate) (start .pre .2) (start .args .day) (start .pre .3)))
 
 returns : tie.Need-returns
@@ -19,4 +17,4 @@ unfolding cheapFactor
 returns c = c .antilog .ensures ∙ ap antilog (c .before .exponent .ensures)
 
 pub factor-spec : {M : Type 1} → statement M
-factor-spec = tie.close (tie.spec exponent-requires antilog-requires returns)
+factor-spec = tie.close (tie.spec (λ c κs. search needs) antilog-requires returns)

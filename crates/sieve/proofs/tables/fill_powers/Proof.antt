@@ -1,4 +1,4 @@
--- `sieve::tables::fill_powers` meets its contract. Assumes nothing.
+-- `sieve::tables::fill_powers` meets its contract.
 use mathlib.Core.Path.{_∙_}
 use borrow.Author.Needs.{needs}
 use Rattle.sieve.specs.Cheap.{middleBase, upperBase}
@@ -14,18 +14,14 @@ powers-requires-2 : tie.Need-powers-requires-2
 unfolding upperBase
 powers-requires-2 c κs = upper-le
 
-same-length : tie.Need-same-length
-same-length c = search needs
-
-same-length-2 : tie.Need-same-length-2
-same-length-2 c = search needs
-
 returns : tie.Need-returns
 unfolding middleBase upperBase
 returns c =
     let second = c .before .before in
-    let first = second .before .before .before .before in
-    let start = first .before .before .before .before in
+    let between = second .before .before in
+    let first = between .before .before in
+    let lent = first .before .before in
+    let start = lent .before .before in
     record {
       middles = first .powers .ensures .0 ∙ start .pre .0;
       uppers = second .powers2 .ensures .0 ∙ start .pre .1;
@@ -34,4 +30,4 @@ returns c =
     }
 
 pub fill-powers-spec : {M : Type 1} → statement M
-fill-powers-spec = tie.close (tie.spec powers-requires powers-requires-2 same-length same-length-2 returns)
+fill-powers-spec = tie.close (tie.spec powers-requires powers-requires-2 (λ c. search needs) (λ c. search needs) returns)

@@ -1,5 +1,5 @@
 -- `sieve::tables::logs` meets its contract. The invariant: each row below i holds its logarithm, `log` is that of row i, `divisor` is that of
--- the next step, and the slice keeps its length. The measure is what is left of the length. Assumes nothing.
+-- the next step, and the slice keeps its length. The measure is what is left of the length.
 use mathlib.Core.Path.{_≡_, refl, sym, _∙_}
 use Prim.Native.Nat.{ℕ, _+_, _-_, _*_, _/_, _≤_, _<_}
 use native.Mathlib.Nat.{div-le-self}
@@ -31,15 +31,6 @@ next i =
 loop-holds : tie.Need-loop-holds Inv-loop μ-loop
 loop-holds c = (omega arith, refl, sym log-none, refl, below-none _)
 
-mul-out : tie.Need-mul-out Inv-loop μ-loop
-mul-out c = search needs
-
-slice-write-out : tie.Need-slice-write-out Inv-loop μ-loop
-slice-write-out c = search needs
-
-div-log : tie.Need-div-log Inv-loop μ-loop
-div-log c = search needs
-
 add-log : tie.Need-add-log Inv-loop μ-loop
 add-log c =
     let few : c .before .loop .i < 15627 = omega (arith, c .before .before .pre, c .before .loop .inv .1, c .loop-test .taken) in
@@ -49,9 +40,6 @@ add-divisor : tie.Need-add-divisor Inv-loop μ-loop
 add-divisor c =
     let few : c .before .loop .i < 15627 = omega (arith, c .before .before .pre, c .before .loop .inv .1, c .loop-test .taken) in
     omega arith
-
-add-i : tie.Need-add-i Inv-loop μ-loop
-add-i c = search needs
 
 loop-less : tie.Need-loop-less Inv-loop μ-loop
 loop-less c = simp length-set (omega arith)
@@ -74,9 +62,6 @@ loop-again c =
           (getD-set-same out i log 0 here ∙ inv .2),
     )
 
-same-length : tie.Need-same-length Inv-loop μ-loop
-same-length c = search needs
-
 returns : tie.Need-returns Inv-loop μ-loop
 returns c =
     let inv = c .before .loop .inv in
@@ -85,4 +70,4 @@ returns c =
 pub logs-spec : {M : Type 1} → statement M
 logs-spec =
     tie.close
-    (tie.spec Inv-loop μ-loop loop-holds mul-out slice-write-out div-log add-log add-divisor add-i loop-less loop-again same-length returns)
+    (tie.spec Inv-loop μ-loop loop-holds (λ c. search needs) (λ c. search needs) (λ c. search needs) add-log add-divisor (λ c. search needs) loop-less loop-again (λ c. search needs) returns)

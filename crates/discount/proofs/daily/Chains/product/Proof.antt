@@ -1,5 +1,4 @@
 -- `discount::daily::Chains::product` meets its contract, by that of `Factor::product`.
-use borrow.Author.Needs.{needs}
 use native.Mathlib.Omega.{arith}
 use Rattle.decimal.specs.Product.{unit}
 use Rattle.discount.proofs.daily.Chains.product.Statement.{statement}

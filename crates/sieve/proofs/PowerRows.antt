@@ -1,10 +1,10 @@
--- The entries of the tables of powers are near the powers of the base. Assumes nothing.
+-- The rows of the tables of powers are near the powers of the base.
 use mathlib.Core.Path.{_≡_, refl, ap, subst}
 use Prim.Native.Nat.{ℕ, zero, suc, _+_, _*_, _/_, _^_, _≤_, _<_}
 use native.Mathlib.Nat.{le-refl, mul-le-mul-right, le-of-mul-le-mul-right, pow-zero, zero-mul, div-mul-le-self}
 use native.Mathlib.Omega.{arith}
 use lib.Dec.{lit<, lit≤}
-use Rattle.sieve.specs.Cheap.{under, over, whole, fineWhole, chain, entry, middleBase, upperBase}
+use Rattle.sieve.specs.Cheap.{baseNum, baseDen, whole, fineWhole, chain, powerRow, middleBase, upperBase}
 use Rattle.sieve.proofs.Exponents.{Low, High}
 use Rattle.sieve.proofs.Ratios.{low-product, high-product}
 use Rattle.sieve.proofs.Rows.{fine-pos, middle-le, upper-le, chain-le}
@@ -42,34 +42,34 @@ fine-large = lit≤ tt
 
 part-low : (c x : ℕ) → Low fineWhole c x → Low whole (c / 512) x
 part-low c x h =
-    let scaled : c / 512 * over ^ x * 512 ≤ whole * under ^ x * 512 =
-    omega (arith, mul-le-mul-right (over ^ x) (div-mul-le-self c 512), h .low, ap (λ (n : ℕ). n * under ^ x) fine-whole) in
+    let scaled : c / 512 * baseDen ^ x * 512 ≤ whole * baseNum ^ x * 512 =
+    omega (arith, mul-le-mul-right (baseDen ^ x) (div-mul-le-self c 512), h .low, ap (λ (n : ℕ). n * baseNum ^ x) fine-whole) in
     record { low = le-of-mul-le-mul-right scaled (lit< tt) }
 
 part-high : (c w t x : ℕ) → w ≤ 512 * t → High fineWhole (c + w) x → High whole (c / 512 + (t + 1)) x
 part-high c w t x l h =
     let all : c + w ≤ (c / 512 + (t + 1)) * 512 = omega arith in
-    let scaled : whole * under ^ x * 512 ≤ (c / 512 + (t + 1)) * over ^ x * 512 =
-    omega (arith, mul-le-mul-right (over ^ x) all, h .high, ap (λ (n : ℕ). n * under ^ x) fine-whole) in
+    let scaled : whole * baseNum ^ x * 512 ≤ (c / 512 + (t + 1)) * baseDen ^ x * 512 =
+    omega (arith, mul-le-mul-right (baseDen ^ x) all, h .high, ap (λ (n : ℕ). n * baseNum ^ x) fine-whole) in
     record { high = le-of-mul-le-mul-right scaled (lit< tt) }
 
 -- ---- the two tables
 
 module _ (j : ℕ) where
-  pub middle-entry-low : Low whole (entry middleBase j) (j * 536870912)
-  unfolding entry
-  middle-entry-low = part-low _ _ (chain-low middleBase 536870912 middle-low j)
+  pub middle-row-low : Low whole (powerRow middleBase j) (j * 536870912)
+  unfolding powerRow
+  middle-row-low = part-low _ _ (chain-low middleBase 536870912 middle-low j)
 
-  pub middle-entry-high : j < 1024 → High whole (entry middleBase j + 9) (j * 536870912)
-  unfolding entry
-  middle-entry-high l =
+  pub middle-row-high : j < 1024 → High whole (powerRow middleBase j + 9) (j * 536870912)
+  unfolding powerRow
+  middle-row-high l =
       part-high _ (4 * j) 8 _ (omega arith) (chain-high middleBase 536870912 middle-le middle-high j (omega (arith, fine-large)))
 
-  pub upper-entry-low : Low whole (entry upperBase j) (j * 549755813888)
-  unfolding entry
-  upper-entry-low = part-low _ _ (chain-low upperBase 549755813888 upper-low j)
+  pub upper-row-low : Low whole (powerRow upperBase j) (j * 549755813888)
+  unfolding powerRow
+  upper-row-low = part-low _ _ (chain-low upperBase 549755813888 upper-low j)
 
-  pub upper-entry-high : j ≤ 480 → High whole (entry upperBase j + 5) (j * 549755813888)
-  unfolding entry
-  upper-entry-high l =
+  pub upper-row-high : j ≤ 480 → High whole (powerRow upperBase j + 5) (j * 549755813888)
+  unfolding powerRow
+  upper-row-high l =
       part-high _ (4 * j) 4 _ (omega arith) (chain-high upperBase 549755813888 upper-le upper-high j (omega (arith, fine-large)))
