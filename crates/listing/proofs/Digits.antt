@@ -1,4 +1,4 @@
--- The laws of a number in plain decimal. Assumes nothing.
+-- The laws of a number in plain decimal.
 use mathlib.Core.Path.{_≡_, sym, _∙_, ap}
 use mathlib.Core.Bool.{Bool, true, false, cond}
 use mathlib.Core.List.{List, [], _∷_, _++_}
@@ -66,8 +66,8 @@ pub length-short : (n : ℕ) → n ≤ 2 ^ 63 → length (decimalOf n) ≤ 19
 unfolding decimalOf
 length-short n h = rw (← spare 18 n (omega arith)) (length-within 19 n)
 
-pub length-more : (n : ℕ) → 10 ≤ n → n < 2 ^ 64 → length (decimalOf n) ≡ length (decimalOf (n / 10)) + 1
-length-more n h l = ap length (decimal-more n h l) ∙ length-append (decimalOf (n / 10)) (digit (n % 10) ∷ [])
+pub decimal-longer : (n : ℕ) → 10 ≤ n → n < 2 ^ 64 → length (decimalOf n) ≡ length (decimalOf (n / 10)) + 1
+decimal-longer n h l = ap length (decimal-more n h l) ∙ length-append (decimalOf (n / 10)) (digit (n % 10) ∷ [])
 
 -- ---- with its sign
 

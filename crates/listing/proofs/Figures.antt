@@ -1,4 +1,4 @@
--- The texts that document 01 shows under "Checked figures". Assumes nothing.
+-- The texts that document 01 shows under "Checked figures".
 use mathlib.Core.Path.{_≡_, refl}
 use mathlib.Core.List.{[], _∷_}
 use lib.IntN.{pos, negsuc}

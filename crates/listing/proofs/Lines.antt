@@ -1,4 +1,4 @@
--- The lines of a listing one by one, as loops over the first n curves and over the currencies take them. Assumes nothing.
+-- The lines of a listing one by one, as loops over the first n curves and over the currencies take them.
 use mathlib.Core.Path.{_≡_}
 use mathlib.Core.Bool.{false, _||_}
 use mathlib.Core.List.{List, [], _++_}

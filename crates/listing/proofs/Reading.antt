@@ -1,4 +1,4 @@
--- A number's text read again is the number: it is plain decimal. Assumes nothing.
+-- A number's text read again is the number: it is plain decimal.
 use mathlib.Core.Path.{_≡_}
 use mathlib.Core.List.{List, [], _∷_, _++_}
 use Prim.Native.Nat.{ℕ, zero, suc, _+_, _-_, _*_, _/_, _%_, _^_, _<_}

@@ -1,4 +1,4 @@
--- What the list program prints (document 01, "Checked figures"). Assumes nothing.
+-- What the list program prints (document 01, "Checked figures").
 use Prim.Native.Nat.{ℕ, suc}
 use mathlib.Core.Bool.{Bool, false, cond, _||_}
 use mathlib.Core.List.{List, [], _∷_, _++_}
@@ -7,7 +7,7 @@ use lib.ListN.{take}
 use Rattle.margin.specs.declared.CurveMargin.{CurveMargin}
 use Rattle.margin.specs.declared.CurrencyMargin.{CurrencyMargin}
 use Rattle.margin.specs.declared.Margin.{Margin}
-use Rattle.listing.specs.Text.{ascii, number, signed}
+use Rattle.listing.specs.Text.{ascii, figure, signedFigure}
 
 -- a blank and a currency's name: 1 TRY, 2 USD, 3 EUR. A book that is accepted has no other
 unfoldable pub currencyWord : ℕ → List ℕ
@@ -16,15 +16,16 @@ currencyWord c = cond (eqb c 1) (ascii " TRY") (cond (eqb c 2) (ascii " USD") (c
 -- " base 10000 loss 30000 scenario 2 tolerance 1"
 unfoldable pub curveFigures : CurveMargin → List ℕ
 curveFigures m =
-    signed " base " (m .base) ++ signed " loss " (m .loss) ++ number " scenario " (m .scenario) ++ number " tolerance " (m .tolerance)
+    signedFigure " base " (m .base) ++ signedFigure " loss " (m .loss) ++ figure " scenario " (m .scenario) ++ figure " tolerance " (m .tolerance)
 
 -- "curve 1 TRY" and the figures
 unfoldable pub curveLine : ℕ → CurveMargin → List ℕ
-curveLine k m = number "curve " k ++ currencyWord (m .currency) ++ curveFigures m ++ ascii "\n"
+curveLine k m = figure "curve " k ++ currencyWord (m .currency) ++ curveFigures m ++ ascii "\n"
 
 -- " initial 30000 variation 10000 total -20000"
 unfoldable pub currencyFigures : CurrencyMargin → List ℕ
-currencyFigures m = signed " initial " (m .initial) ++ signed " variation " (m .variation) ++ signed " total " (m .total)
+currencyFigures m =
+    signedFigure " initial " (m .initial) ++ signedFigure " variation " (m .variation) ++ signedFigure " total " (m .total)
 
 -- "currency TRY" and the figures
 unfoldable pub currencyLine : ℕ → CurrencyMargin → List ℕ
@@ -52,8 +53,8 @@ currencyLines curves c (m ∷ ms) = currencyPart (hasCurrency c curves) c m ++ c
 -- an accepted book of so many curves: "account 7", the curves, the currencies
 unfoldable pub listing : ℕ → Margin → List ℕ
 listing n m =
-    number "account " (m .account) ++ ascii "\n" ++ curveLines 1 (take n (m .curves)) ++ currencyLines (take n (m .curves)) 1 (m .currencies)
+    figure "account " (m .account) ++ ascii "\n" ++ curveLines 1 (take n (m .curves)) ++ currencyLines (take n (m .curves)) 1 (m .currencies)
 
 -- a refused one: "one line only, "refused", number and block, a blank apart"
 unfoldable pub refusedLine : ℕ → ℕ → List ℕ
-refusedLine ground block = number "refused " ground ++ number " " block ++ ascii "\n"
+refusedLine ground block = figure "refused " ground ++ figure " " block ++ ascii "\n"

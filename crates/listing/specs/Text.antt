@@ -1,12 +1,15 @@
--- Words and numbers as bytes of ASCII (document 01, "Checked figures"). Assumes nothing.
+-- Words and numbers as bytes of ASCII (document 01, "Checked figures"), and a text written into lent bytes.
 use Prim.Native.Nat.{ℕ, zero, suc, _+_, _/_, _%_}
 use Prim.Native.Char.{code}
 use Prim.Native.String.{String}
 use Prim.Native.String as string
 use mathlib.Core.Bool.{cond}
+use mathlib.Core.Path.{_≡_}
 use mathlib.Core.List.{List, [], _∷_, _++_}
 use lib.Dec.{ltb}
 use lib.IntN.{ℤ, pos, negsuc}
+use lib.ListN.{length}
+use Rattle.layout.specs.Bytes.{put}
 
 -- a word's characters
 unfoldable pub ascii : String → List ℕ
@@ -32,8 +35,13 @@ signedText (pos n) = decimalOf n
 signedText (negsuc n) = 45 ∷ decimalOf (suc n)
 
 -- a word and a number
-abbrev pub number : String → ℕ → List ℕ
-number word n = ascii word ++ decimalOf n
+abbrev pub figure : String → ℕ → List ℕ
+figure word n = ascii word ++ decimalOf n
 
-abbrev pub signed : String → ℤ → List ℕ
-signed word z = ascii word ++ signedText z
+abbrev pub signedFigure : String → ℤ → List ℕ
+signedFigure word z = ascii word ++ signedText z
+
+-- t is s with the text from a place on, and end is the place behind the text
+pub record TextWritten (s : List ℕ) (at : ℕ) (text t : List ℕ) (end : ℕ) : Type 0 where
+  pub bytes : t ≡ put s at text
+  pub place : end ≡ at + length text

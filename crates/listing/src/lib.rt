@@ -8,13 +8,12 @@ ghost use mathlib.Core.Path.{_≡_};
 ghost use mathlib.Core.List.{_++_};
 ghost use Prim.Native.Nat.{_+_, _*_, _≤_};
 ghost use lib.ListN.{length, take, drop};
-ghost use Rattle.listing.specs.Text.{decimalOf, signedText};
-ghost use Rattle.listing.specs.Listing.{currencyWord, curveFigures, curveLine, currencyFigures, currencyLine, curveLines, hasCurrency, currencyPart, currencyLines, listing, refusedLine};
-ghost use Rattle.listing.specs.Written.{Written};
+ghost use Rattle.listing.specs.Text.{decimalOf, signedText, TextWritten};
+ghost use Rattle.listing.specs.Listing.{currencyWord, curveFigures, curveLine, currencyFigures, curveLines, hasCurrency, currencyPart, currencyLines, listing, refusedLine};
 
 fn put_text(out: &mut [u8], at: usize, text: &[u8]) -> usize
     requires { ⌜ at + length (now text) ≤ length (now out) ⌝ }
-    ensures { λ r. ⌜ Written (now (out .entry)) at (now (text .entry)) (now (out .exit)) r ⌝ }
+    ensures { λ r. ⌜ TextWritten (now (out .entry)) at (now (text .entry)) (now (out .exit)) r ⌝ }
 {
     copy_in(out, at, text);
     at + text.len()
@@ -22,7 +21,7 @@ fn put_text(out: &mut [u8], at: usize, text: &[u8]) -> usize
 
 fn put_digits(out: &mut [u8], at: usize, n: u64) -> usize
     requires { ⌜ at + length (decimalOf n) ≤ length (now out) ⌝ }
-    ensures { λ r. ⌜ Written (now (out .entry)) at (decimalOf n) (now (out .exit)) r ⌝ }
+    ensures { λ r. ⌜ TextWritten (now (out .entry)) at (decimalOf n) (now (out .exit)) r ⌝ }
 {
     if n < 10 {
         out[at] = 48 + n as u8;
@@ -35,7 +34,7 @@ fn put_digits(out: &mut [u8], at: usize, n: u64) -> usize
 
 fn put_integer(out: &mut [u8], at: usize, v: i64) -> usize
     requires { ⌜ at + 20 ≤ length (now out) ⌝ }
-    ensures { λ r. ⌜ Written (now (out .entry)) at (signedText v) (now (out .exit)) r ⌝ }
+    ensures { λ r. ⌜ TextWritten (now (out .entry)) at (signedText v) (now (out .exit)) r ⌝ }
     ensures { λ r. ⌜ r ≤ at + 20 ⌝ }
 {
     if v < 0 {
@@ -49,7 +48,7 @@ fn put_integer(out: &mut [u8], at: usize, v: i64) -> usize
 // A word and a number.
 fn put_number(out: &mut [u8], at: usize, word: &[u8], n: u64) -> usize
     requires { ⌜ at + length (now word) + 20 ≤ length (now out) ⌝ }
-    ensures { λ r. ⌜ Written (now (out .entry)) at (now (word .entry) ++ decimalOf n) (now (out .exit)) r ⌝ }
+    ensures { λ r. ⌜ TextWritten (now (out .entry)) at (now (word .entry) ++ decimalOf n) (now (out .exit)) r ⌝ }
     ensures { λ r. ⌜ r ≤ at + length (now (word .entry)) + 20 ⌝ }
 {
     let from = put_text(out, at, word);
@@ -58,7 +57,7 @@ fn put_number(out: &mut [u8], at: usize, word: &[u8], n: u64) -> usize
 
 fn put_signed(out: &mut [u8], at: usize, word: &[u8], v: i64) -> usize
     requires { ⌜ at + length (now word) + 20 ≤ length (now out) ⌝ }
-    ensures { λ r. ⌜ Written (now (out .entry)) at (now (word .entry) ++ signedText v) (now (out .exit)) r ⌝ }
+    ensures { λ r. ⌜ TextWritten (now (out .entry)) at (now (word .entry) ++ signedText v) (now (out .exit)) r ⌝ }
     ensures { λ r. ⌜ r ≤ at + length (now (word .entry)) + 20 ⌝ }
 {
     let from = put_text(out, at, word);
@@ -67,7 +66,7 @@ fn put_signed(out: &mut [u8], at: usize, word: &[u8], v: i64) -> usize
 
 fn put_currency_word(out: &mut [u8], at: usize, currency: u64) -> usize
     requires { ⌜ at + 4 ≤ length (now out) ⌝ }
-    ensures { λ r. ⌜ Written (now (out .entry)) at (currencyWord currency) (now (out .exit)) r ⌝ }
+    ensures { λ r. ⌜ TextWritten (now (out .entry)) at (currencyWord currency) (now (out .exit)) r ⌝ }
     ensures { λ r. ⌜ r ≤ at + 4 ⌝ }
 {
     if currency == 1 {
@@ -84,7 +83,7 @@ fn put_currency_word(out: &mut [u8], at: usize, currency: u64) -> usize
 
 fn put_curve_figures(out: &mut [u8], at: usize, m: CurveMargin) -> usize
     requires { ⌜ at + 113 ≤ length (now out) ⌝ }
-    ensures { λ r. ⌜ Written (now (out .entry)) at (curveFigures m) (now (out .exit)) r ⌝ }
+    ensures { λ r. ⌜ TextWritten (now (out .entry)) at (curveFigures m) (now (out .exit)) r ⌝ }
     ensures { λ r. ⌜ r ≤ at + 113 ⌝ }
 {
     let loss = put_signed(out, at, b" base ", m.base);
@@ -95,7 +94,7 @@ fn put_curve_figures(out: &mut [u8], at: usize, m: CurveMargin) -> usize
 
 fn put_curve_line(out: &mut [u8], at: usize, k: u64, m: CurveMargin) -> usize
     requires { ⌜ at + 144 ≤ length (now out) ⌝ }
-    ensures { λ r. ⌜ Written (now (out .entry)) at (curveLine k m) (now (out .exit)) r ⌝ }
+    ensures { λ r. ⌜ TextWritten (now (out .entry)) at (curveLine k m) (now (out .exit)) r ⌝ }
     ensures { λ r. ⌜ r ≤ at + 144 ⌝ }
 {
     let currency = put_number(out, at, b"curve ", k);
@@ -106,7 +105,7 @@ fn put_curve_line(out: &mut [u8], at: usize, k: u64, m: CurveMargin) -> usize
 
 fn put_currency_figures(out: &mut [u8], at: usize, m: CurrencyMargin) -> usize
     requires { ⌜ at + 87 ≤ length (now out) ⌝ }
-    ensures { λ r. ⌜ Written (now (out .entry)) at (currencyFigures m) (now (out .exit)) r ⌝ }
+    ensures { λ r. ⌜ TextWritten (now (out .entry)) at (currencyFigures m) (now (out .exit)) r ⌝ }
     ensures { λ r. ⌜ r ≤ at + 87 ⌝ }
 {
     let variation = put_signed(out, at, b" initial ", m.initial);
@@ -114,20 +113,9 @@ fn put_currency_figures(out: &mut [u8], at: usize, m: CurrencyMargin) -> usize
     put_signed(out, total, b" total ", m.total)
 }
 
-fn put_currency_line(out: &mut [u8], at: usize, currency: u64, m: CurrencyMargin) -> usize
-    requires { ⌜ at + 100 ≤ length (now out) ⌝ }
-    ensures { λ r. ⌜ Written (now (out .entry)) at (currencyLine currency m) (now (out .exit)) r ⌝ }
-    ensures { λ r. ⌜ r ≤ at + 100 ⌝ }
-{
-    let word = put_text(out, at, b"currency");
-    let figures = put_currency_word(out, word, currency);
-    let end = put_currency_figures(out, figures, m);
-    put_text(out, end, b"\n")
-}
-
 fn put_curve_lines(out: &mut [u8], at: usize, curves: [CurveMargin; 8], count: usize) -> usize
     requires { ⌜ (count ≤ 8) × (at + 144 * count ≤ length (now out)) ⌝ }
-    ensures { λ r. ⌜ Written (now (out .entry)) at (curveLines 1 (take count curves)) (now (out .exit)) r ⌝ }
+    ensures { λ r. ⌜ TextWritten (now (out .entry)) at (curveLines 1 (take count curves)) (now (out .exit)) r ⌝ }
     ensures { λ r. ⌜ r ≤ at + 144 * count ⌝ }
 {
     let mut next = at;
@@ -155,7 +143,8 @@ fn has_currency(curves: [CurveMargin; 8], count: usize, currency: u64) -> bool
     false
 }
 
-fn put_currency_part(
+// The line of a currency that a curve has.
+fn put_currency_line(
     out: &mut [u8],
     at: usize,
     has: bool,
@@ -163,11 +152,14 @@ fn put_currency_part(
     m: CurrencyMargin,
 ) -> usize
     requires { ⌜ at + 100 ≤ length (now out) ⌝ }
-    ensures { λ r. ⌜ Written (now (out .entry)) at (currencyPart has currency m) (now (out .exit)) r ⌝ }
+    ensures { λ r. ⌜ TextWritten (now (out .entry)) at (currencyPart has currency m) (now (out .exit)) r ⌝ }
     ensures { λ r. ⌜ r ≤ at + 100 ⌝ }
 {
     if has {
-        return put_currency_line(out, at, currency, m);
+        let word = put_text(out, at, b"currency");
+        let figures = put_currency_word(out, word, currency);
+        let end = put_currency_figures(out, figures, m);
+        return put_text(out, end, b"\n");
     }
     at
 }
@@ -180,7 +172,7 @@ fn put_currency_lines(
     currencies: [CurrencyMargin; 3],
 ) -> usize
     requires { ⌜ (count ≤ 8) × (at + 300 ≤ length (now out)) ⌝ }
-    ensures { λ r. ⌜ Written (now (out .entry)) at (currencyLines (take count curves) 1 currencies) (now (out .exit)) r ⌝ }
+    ensures { λ r. ⌜ TextWritten (now (out .entry)) at (currencyLines (take count curves) 1 currencies) (now (out .exit)) r ⌝ }
     ensures { λ r. ⌜ r ≤ at + 300 ⌝ }
 {
     let mut next = at;
@@ -189,7 +181,7 @@ fn put_currency_lines(
         let currency = i as u64 + 1;
         let has = has_currency(curves, count, currency);
         let m = currencies[i];
-        next = put_currency_part(out, next, has, currency, m);
+        next = put_currency_line(out, next, has, currency, m);
         i += 1;
     }
     next

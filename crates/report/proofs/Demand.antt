@@ -20,10 +20,7 @@ use Rattle.decimal.specs.Product.{unit}
 use Rattle.curve.specs.Limits.{Limits, Each}
 use Rattle.curve.proofs.Rates.{each-limits}
 use Rattle.curve.proofs.Scenarios.{scenarios-most}
-use Rattle.curve_block.specs.Verdict.{curveVerdict}
-use Rattle.curve_block.proofs.Accepted.{accepted-curve}
-use Rattle.curve_block.proofs.Accepted as block
-use Rattle.book.specs.Parts.{blockAt, curveCount}
+use Rattle.book.specs.Parts.{curveCount}
 use Rattle.book.specs.Verdict.{verdict}
 use Rattle.book.proofs.Accepted.{Sound, sound}
 use Rattle.margin.specs.declared.CurveMargin.{CurveMargin}
@@ -42,7 +39,7 @@ use Rattle.exposure.specs.Exposures.{exposureAt, exposures}
 use Rattle.exposure.proofs.Fitting.{exposure-fits}
 use Rattle.report.specs.Entry.{marginIn, breaksReportSpace, marginVerdict, marginBytes}
 use Rattle.report.specs.Bounded.{Bounded}
-use Rattle.report.proofs.Placed.{length-exposures, length-figures, figures-at, exposures-fit}
+use Rattle.report.proofs.Placed.{length-exposures, length-figures, figures-at, block-sound, exposures-fit}
 use Rattle.report.proofs.Answers.{space}
 
 -- ---- the sum of a currency's losses fits 64 bits
@@ -60,21 +57,16 @@ sum-size currency (e ∷ es) h = go (eqb (curveMargin e .currency) currency) (su
 module _ (s : List ℕ) (used : ℕ) (b : Sound s used) where
   -- ---- curve k of the book
 
-  block-sound : (k : ℕ) → 1 ≤ k → k ≤ curveCount s → block.Sound (blockAt s k) k
-  block-sound k l m =
-      let e : 1 + (k - 1) ≡ k = omega arith in
-      accepted-curve (blockAt s k) k (ap (λ (j : ℕ). curveVerdict (blockAt s j) j) (sym e) ∙ b .curve (k - 1) (omega arith))
-
   nodes-limits : (k : ℕ) → 1 ≤ k → k ≤ curveCount s → Each Limits (exposureAt s k .nodes)
   unfolding exposureAt
-  nodes-limits k l m = each-limits _ (block-sound k l m .curve)
+  nodes-limits k l m = each-limits _ (block-sound s used b k l m .curve)
 
   figures-fit : (k : ℕ) → 1 ≤ k → k ≤ curveCount s → CurveFits (curveMargin (exposureAt s k))
   unfolding curveMargin exposureAt unit
   figures-fit k l m =
       let f = exposure-fits s used b k in
       let limits = margin-limits (exposureAt s k) (f .each) (f .few) in
-      let c = block-sound k l m in
+      let c = block-sound s used b k l m in
       let figures = curveMargin (exposureAt s k) in
       record {
         base = fits (figures .base) (value-fits (figures .base) (limits .base)) .sfits;

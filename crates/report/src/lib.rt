@@ -1,5 +1,6 @@
 // The margin entry: from a book to its report.
 use book::parts;
+use curve::Components;
 use ground::Ground;
 use ground::Verdict;
 use margin::CurveMargin;
@@ -8,12 +9,23 @@ ghost use mathlib.Core.Path.{_≡_};
 ghost use Prim.Native.Nat.{_≤_};
 ghost use lib.ListN.{length};
 ghost use Rattle.ground.specs.declared.Verdict.the-variants.{Accepted};
-ghost use Rattle.book.specs.Parts.{curveCount};
+ghost use Rattle.curve.specs.Limits.{ProperComponents};
+ghost use Rattle.curve_block.specs.Parts.{componentsOf};
+ghost use Rattle.book.specs.Parts.{blockAt, curveCount};
 ghost use Rattle.book.specs.Verdict.{verdict};
 ghost use Rattle.margin.specs.Margins.{curveMargin, noCurve};
 ghost use Rattle.exposure.specs.Exposures.{exposureAt};
 ghost use Rattle.report.specs.Bounded.{Bounded};
 ghost use Rattle.report.specs.Entry.{marginIn, breaksReportSpace, marginVerdict, marginBytes};
+
+// The components of a curve of an accepted book: each curve has scenarios of its own.
+fn components_at(book: &[u8], used: usize, curve: usize) -> Components
+    requires { ⌜ (verdict (now book) used ≡ Accepted) × (1 ≤ curve) × (curve ≤ curveCount (now book)) ⌝ }
+    ensures { λ r. ⌜ r ≡ componentsOf (blockAt (now (book .entry)) curve) ⌝ }
+    ensures { λ r. ⌜ ProperComponents r ⌝ }
+{
+    curve_block::components_of(parts::block_at(book, curve))
+}
 
 // The figures of a curve of an accepted book, by way of its ladder.
 fn curve_figures(book: &[u8], used: usize, curve: usize) -> CurveMargin
@@ -24,7 +36,7 @@ fn curve_figures(book: &[u8], used: usize, curve: usize) -> CurveMargin
     let n = exposure::gather(book, used, curve as u64, &mut ladder);
     let b = parts::block_at(book, curve);
     let currency = curve_block::currency_of(b);
-    let components = curve_block::components_of(b);
+    let components = components_at(book, used, curve);
     margin::margins::curve_margin(
         curve as u64,
         currency,

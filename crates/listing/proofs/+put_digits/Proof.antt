@@ -1,11 +1,11 @@
--- `listing::put_digits` meets its contract: the digits of the tenth, and the last one. The measure is the number. Assumes nothing.
+-- `listing::put_digits` meets its contract: the digits of the tenth, and the last one. The measure is the number.
 use Prim.Native.Nat.{ℕ, _/_, _<_}
 use native.Mathlib.Omega.{arith}
 use borrow.Author.Needs.{needs}
 use borrow.Fn.Kinds.{In}
 use borrow.Fn.PlainCycle.{Measures, is, falls, and}
 use lib.ListN.{length-set}
-use Rattle.listing.proofs.Digits.{decimal-one, decimal-more, length-more}
+use Rattle.listing.proofs.Digits.{decimal-one, decimal-more, decimal-longer}
 use Rattle.listing.proofs.Writing.{written-byte, and-then}
 use Rattle.listing.proofs.put_digits.Reads as put-digits
 use Rattle.listing.proofs.put_digits.Kinds as put-digits-kinds
@@ -37,21 +37,24 @@ module _ (t : ℕ) where
   put-digits-requires : put-digits-lts.Need-put-digits-requires (put-digits-below t, put-digits.Post) (put-digits-at t) put-digits.Post
   put-digits-requires c κs =
       let s = c .before .before .before in
-      let more = length-more (s .args .n) (c .before .if1 .left) (s .fits .n .fits) in
+      let more = decimal-longer (s .args .n) (c .before .if1 .left) (s .fits .n .fits) in
       let less : s .args .n / 10 < t = omega (arith, s .pre .0) in
       (less, omega (arith, s .pre .1, more))
 
   slice-write-out-2 : put-digits-lts.Need-slice-write-out-2 (put-digits-below t, put-digits.Post) (put-digits-at t) put-digits.Post
   slice-write-out-2 c =
-      let s = c .before .before .before .before .before .before in
-      let more = length-more (s .args .n) (c .before .before .before .before .if1 .left) (s .fits .n .fits) in
-      omega (arith, s .pre .1, more, c .before .before .put-digits .ensures .place)
+      let wrote = c .before .before in
+      let tenth = wrote .before .before in
+      let s = tenth .before .before in
+      let more = decimal-longer (s .args .n) (tenth .if1 .left) (s .fits .n .fits) in
+      omega (arith, s .pre .1, more, wrote .put-digits .ensures .place)
 
   returns-2 : put-digits-lts.Need-returns-2 (put-digits-below t, put-digits.Post) (put-digits-at t) put-digits.Post
   returns-2 c =
-      let s = c .before .before .before .before .before .before in
-      rw (decimal-more (s .args .n) (c .before .before .before .before .if1 .left) (s .fits .n .fits))
-      (and-then (c .before .before .put-digits .ensures) (written-byte _ _ _))
+      let wrote = c .before .before in
+      let tenth = wrote .before .before in
+      let s = tenth .before .before in
+      rw (decimal-more (s .args .n) (tenth .if1 .left) (s .fits .n .fits)) (and-then (wrote .put-digits .ensures) (written-byte _ _ _))
 
 pub +put-digits-spec : {M : Type 1} → statement M
 +put-digits-spec =

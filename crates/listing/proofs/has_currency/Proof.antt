@@ -1,4 +1,4 @@
--- `listing::has_currency` meets its contract. The loop's invariant: no curve passed has the currency. Assumes nothing.
+-- `listing::has_currency` meets its contract. The loop's invariant: no curve passed has the currency.
 use mathlib.Core.Path.{_≡_, refl, sym, _∙_}
 use Prim.Native.Nat.{_-_, _≤_}
 use native.Mathlib.Omega.{arith}
@@ -25,13 +25,15 @@ loop-holds c =
 
 returns : tie.Need-returns Inv-loop μ-loop
 returns c =
-    let at-loop = c .before .before .before .before in
+    let turn = c .before .before .before in
+    let at-loop = turn .before in
     let s = at-loop .before in
     sym (at-loop .loop .inv .2 ∙ has-next (s .args .t1) (s .args .count) (at-loop .loop .i) (s .args .currency) (omega arith) (omega arith) ∙ rw (eq-eqb _ _ (c .if1 .taken)))
 
 loop-again : tie.Need-loop-again Inv-loop μ-loop
 loop-again c =
-    let at-loop = c .before .before .before .before in
+    let turn = c .before .before .before in
+    let at-loop = turn .before in
     let s = at-loop .before in (
       search needs,
       at-loop .loop .inv .1,

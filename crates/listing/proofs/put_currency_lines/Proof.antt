@@ -1,21 +1,20 @@
--- `listing::put_currency_lines` meets its contract: what is written and what is left to write are together all. Assumes nothing.
+-- `listing::put_currency_lines` meets its contract: what is written and what is left to write are together all.
 use mathlib.Core.Path.{_≡_}
 use Prim.Native.Nat.{_+_, _*_, _-_, _≤_}
 use native.Mathlib.Omega.{arith}
 use borrow.Author.Needs.{needs}
 use lib.ListN.{length, take, drop}
-use Rattle.layout.proofs.Bytes.{length-put}
 use Rattle.laws.proofs.Arrays.{length-mapped}
 use Rattle.listing.specs.Listing.{currencyLines}
 use Rattle.listing.proofs.Lines.{currencies-next, currencies-none}
-use Rattle.listing.proofs.Writing.{Left, left-all, left-next, left-none}
+use Rattle.listing.proofs.Writing.{TextLeft, text-all, text-next, text-none}
 use Rattle.listing.proofs.put_currency_lines.Statement.{statement}
 use Rattle.listing.proofs.put_currency_lines.Tie as tie
 
 abbrev Inv-loop : tie.InvT-loop
 Inv-loop out₀ at curves count currencies next₀ i₀ out next i =
-    (i ≤ 3) × (length out ≡ length out₀) × (length currencies ≡ 3) × (next ≤ at + 100 * i)
-    × Left out₀ at (currencyLines (take count curves) 1 currencies) out next (currencyLines (take count curves) (i + 1) (drop i currencies))
+    (i ≤ 3) × (length currencies ≡ 3) × (next ≤ at + 100 * i)
+    × TextLeft out₀ at (currencyLines (take count curves) 1 currencies) out next (currencyLines (take count curves) (i + 1) (drop i currencies))
 
 abbrev μ-loop : tie.MeasureT-loop
 μ-loop out₀ at curves count currencies next₀ i₀ out next i = 3 - i
@@ -23,26 +22,25 @@ abbrev μ-loop : tie.MeasureT-loop
 loop-holds : tie.Need-loop-holds Inv-loop μ-loop
 loop-holds c =
     let long : length (c .before .args .t5) ≡ 3 = search (needs, length-mapped) in
-    (search needs, search needs, long, search needs, left-all _ _ _)
+    (search needs, long, search needs, text-all _ _ _)
 
 loop-again : tie.Need-loop-again Inv-loop μ-loop
 loop-again c =
-    let at-loop = c .before .before .before .before .before .before .before in
-    let s = at-loop .before .before in
+    let wrote = c .before .before in
+    let has = wrote .before .before .before in
+    let at-loop = has .before .before in
+    let a = at-loop .before .before .args in
     let h = at-loop .loop .inv in
-    let wrote = c .before .before .put-currency-part .ensures in
-    let next = currencies-next (take (s .args .count) (s .args .curves)) (s .args .t5) (at-loop .loop .i) (omega arith) in
-    (search needs, rw (wrote .0 .bytes, length-put) (h .1), h .2, omega (arith, wrote .1), left-next (rw next at (h .4)) (rw (c .before .before .before .before .before .has-currency .ensures) at (wrote .0)))
-
-same-length : tie.Need-same-length Inv-loop μ-loop
-same-length c = c .before .loop .inv .1
+    let next = currencies-next (take (a .count) (a .curves)) (a .t5) (at-loop .loop .i) (omega arith) in
+    let line = rw (has .has-currency .ensures) at (wrote .put-currency-line .ensures .0) in
+    (search needs, h .1, omega (arith, wrote .put-currency-line .ensures .1), text-next (rw next at (h .3)) line)
 
 returns : tie.Need-returns Inv-loop μ-loop
 returns c =
-    let s = c .before .before .before in
-    let h = c .before .loop .inv in
-    let none = currencies-none (take (s .args .count) (s .args .curves)) (s .args .t5) (c .before .loop .i) (c .before .loop .i + 1) (omega arith) in
-    (left-none (rw none at (h .4)), omega arith)
+    let at-loop = c .before in
+    let a = at-loop .before .before .args in
+    let i = at-loop .loop .i in
+    (text-none (rw (currencies-none (take (a .count) (a .curves)) (a .t5) i (i + 1) (omega arith)) at (at-loop .loop .inv .3)), omega arith)
 
 pub put-currency-lines-spec : {M : Type 1} → statement M
 put-currency-lines-spec =
@@ -59,5 +57,5 @@ put-currency-lines-spec =
     (λ c. search needs)
     (λ c. search needs)
     loop-again
-    same-length
+    (λ c. c .before .loop .inv .3 .lent)
     returns)

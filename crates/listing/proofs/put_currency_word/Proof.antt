@@ -1,4 +1,4 @@
--- `listing::put_currency_word` meets its contract, word by word. Assumes nothing.
+-- `listing::put_currency_word` meets its contract, word by word.
 use native.Mathlib.Omega.{arith}
 use borrow.Author.Needs.{needs}
 use borrow.Author.Tests.{eq-eqb, ne-eqb}
@@ -9,21 +9,31 @@ use Rattle.listing.proofs.put_currency_word.Tie as tie
 
 returns : tie.Need-returns
 unfolding currencyWord ascii
-returns c = (rw (eq-eqb _ 1 (c .before .before .before .before .before .if1 .taken)) (c .before .before .put-text .ensures), omega arith)
+returns c =
+    let wrote = c .before .before in
+    let lira = wrote .before .before .before in
+    (rw (eq-eqb _ 1 (lira .if1 .taken)) (wrote .put-text .ensures), omega arith)
 
 returns-2 : tie.Need-returns-2
 unfolding currencyWord ascii
-returns-2 c = (rw (ne-eqb _ 1 (c .before .before .before .before .before .before .if1 .left), eq-eqb _ 2 (c .before .before .before .before .before .if2 .taken)) (c .before .before .put-text2 .ensures), omega arith)
+returns-2 c =
+    let wrote = c .before .before in
+    let dollar = wrote .before .before .before in
+    (rw (ne-eqb _ 1 (dollar .before .if1 .left), eq-eqb _ 2 (dollar .if2 .taken)) (wrote .put-text2 .ensures), omega arith)
 
 returns-3 : tie.Need-returns-3
 unfolding currencyWord ascii
 returns-3 c =
-    (rw (ne-eqb _ 1 (c .before .before .before .before .before .before .before .if1 .left), ne-eqb _ 2 (c .before .before .before .before .before .before .if2 .left), eq-eqb _ 3 (c .before .before .before .before .before .if3 .taken)) (c .before .before .put-text3 .ensures), omega arith)
+    let wrote = c .before .before in
+    let euro = wrote .before .before .before in
+    (rw (ne-eqb _ 1 (euro .before .before .if1 .left), ne-eqb _ 2 (euro .before .if2 .left), eq-eqb _ 3 (euro .if3 .taken)) (wrote .put-text3 .ensures), omega arith)
 
 returns-4 : tie.Need-returns-4
 unfolding currencyWord ascii
 returns-4 c =
-    (rw (ne-eqb _ 1 (c .before .before .before .before .before .before .before .if1 .left), ne-eqb _ 2 (c .before .before .before .before .before .before .if2 .left), ne-eqb _ 3 (c .before .before .before .before .before .if3 .left)) (c .before .before .put-text4 .ensures), omega arith)
+    let wrote = c .before .before in
+    let none = wrote .before .before .before in
+    (rw (ne-eqb _ 1 (none .before .before .if1 .left), ne-eqb _ 2 (none .before .if2 .left), ne-eqb _ 3 (none .if3 .left)) (wrote .put-text4 .ensures), omega arith)
 
 pub put-currency-word-spec : {M : Type 1} → statement M
 put-currency-word-spec =

@@ -1,4 +1,4 @@
--- `listing::put_curve_figures` meets its contract: the figures, one behind the other. Assumes nothing.
+-- `listing::put_curve_figures` meets its contract: the figures, one behind the other.
 use borrow.Author.Needs.{needs}
 use mir.Syntax.{w64}
 use mir.Val.{SFits}

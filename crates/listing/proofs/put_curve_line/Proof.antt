@@ -1,4 +1,4 @@
--- `listing::put_curve_line` meets its contract: its parts, one behind the other. Assumes nothing.
+-- `listing::put_curve_line` meets its contract: its parts, one behind the other.
 use borrow.Author.Needs.{needs}
 use Rattle.listing.specs.Text.{ascii}
 use Rattle.listing.specs.Listing.{curveLine}

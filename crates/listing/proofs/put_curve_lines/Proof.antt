@@ -1,21 +1,20 @@
--- `listing::put_curve_lines` meets its contract: what is written and what is left to write are together all. Assumes nothing.
+-- `listing::put_curve_lines` meets its contract: what is written and what is left to write are together all.
 use mathlib.Core.Path.{_≡_}
 use Prim.Native.Nat.{_+_, _*_, _-_, _≤_}
 use native.Mathlib.Omega.{arith}
 use borrow.Author.Needs.{needs}
 use lib.ListN.{length, take, drop}
-use Rattle.layout.proofs.Bytes.{length-put}
 use Rattle.laws.proofs.Arrays.{length-mapped}
 use Rattle.listing.specs.Listing.{curveLines}
 use Rattle.listing.proofs.Lines.{curves-next, curves-none}
-use Rattle.listing.proofs.Writing.{Left, left-all, left-next, left-none}
+use Rattle.listing.proofs.Writing.{TextLeft, text-all, text-next, text-none}
 use Rattle.listing.proofs.put_curve_lines.Statement.{statement}
 use Rattle.listing.proofs.put_curve_lines.Tie as tie
 
 abbrev Inv-loop : tie.InvT-loop
 Inv-loop out₀ at count curves next₀ i₀ out next i =
-    (i ≤ count) × (length out ≡ length out₀) × (length curves ≡ 8) × (next ≤ at + 144 * i)
-    × Left out₀ at (curveLines 1 (take count curves)) out next (curveLines (i + 1) (drop i (take count curves)))
+    (i ≤ count) × (length curves ≡ 8) × (next ≤ at + 144 * i)
+    × TextLeft out₀ at (curveLines 1 (take count curves)) out next (curveLines (i + 1) (drop i (take count curves)))
 
 abbrev μ-loop : tie.MeasureT-loop
 μ-loop out₀ at count curves next₀ i₀ out next i = count - i
@@ -23,26 +22,24 @@ abbrev μ-loop : tie.MeasureT-loop
 loop-holds : tie.Need-loop-holds Inv-loop μ-loop
 loop-holds c =
     let long : length (c .before .args .t3) ≡ 8 = search (needs, length-mapped) in
-    (search needs, search needs, long, search needs, left-all _ _ _)
+    (search needs, long, search needs, text-all _ _ _)
 
 loop-again : tie.Need-loop-again Inv-loop μ-loop
 loop-again c =
-    let at-loop = c .before .before .before .before .before .before in
-    let s = at-loop .before .before in
+    let wrote = c .before .before in
+    let turn = wrote .before .before .before in
+    let at-loop = turn .before in
+    let a = at-loop .before .before .args in
     let h = at-loop .loop .inv in
-    let wrote = c .before .before .put-curve-line .ensures in
-    let next = curves-next (s .args .t3) (s .args .count) (at-loop .loop .i) (omega arith) (omega arith) in
-    (search needs, rw (wrote .0 .bytes, length-put) (h .1), h .2, omega (arith, wrote .1), left-next (rw next at (h .4)) (wrote .0))
-
-same-length : tie.Need-same-length Inv-loop μ-loop
-same-length c = c .before .loop .inv .1
+    let next = curves-next (a .t3) (a .count) (at-loop .loop .i) (omega arith) (omega arith) in
+    (search needs, h .1, omega (arith, wrote .put-curve-line .ensures .1), text-next (rw next at (h .3)) (wrote .put-curve-line .ensures .0))
 
 returns : tie.Need-returns Inv-loop μ-loop
 returns c =
-    let s = c .before .before .before in
-    let h = c .before .loop .inv in
-    let none = curves-none (s .args .t3) (s .args .count) (c .before .loop .i) (c .before .loop .i + 1) (omega arith) in
-    (left-none (rw none at (h .4)), omega arith)
+    let at-loop = c .before in
+    let a = at-loop .before .before .args in
+    let i = at-loop .loop .i in
+    (text-none (rw (curves-none (a .t3) (a .count) i (i + 1) (omega arith)) at (at-loop .loop .inv .3)), omega arith)
 
 pub put-curve-lines-spec : {M : Type 1} → statement M
 put-curve-lines-spec =
@@ -58,5 +55,5 @@ put-curve-lines-spec =
     (λ c. search needs)
     (λ c. search needs)
     loop-again
-    same-length
+    (λ c. c .before .loop .inv .3 .lent)
     returns)

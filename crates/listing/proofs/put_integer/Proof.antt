@@ -1,4 +1,4 @@
--- `listing::put_integer` meets its contract. Assumes nothing.
+-- `listing::put_integer` meets its contract.
 use mathlib.Core.Path.{_∙_}
 use Prim.Native.Nat.{_+_}
 use native.Mathlib.Omega.{arith}
@@ -39,10 +39,12 @@ same-length c = c .before .before .put-digits .kept .0 ∙ simp length-set
 
 returns : tie.Need-returns
 returns c =
-    let s = c .before .before .before .before .before .before in
-    let taken = c .before .before .before .before .if1 .taken in
+    let wrote = c .before .before in
+    let negative = wrote .before .before in
+    let s = negative .before .before in
+    let taken = negative .if1 .taken in
     let short = length-short (mag (s .args .v) + 1) (omega (arith, s .fits .v .sfits)) in
-    let digits = rw (code-back _ (s .fits .v) taken) at (c .before .before .put-digits .ensures) in
+    let digits = rw (code-back _ (s .fits .v) taken) at (wrote .put-digits .ensures) in
     let all = and-then (written-byte (s .args .out .now) (s .args .at) 45) digits in
     (rw (signed-negative _ (rw (code-read _ (s .fits .v)) at taken)) all, omega (arith, digits .place, short))
 
@@ -59,9 +61,11 @@ put-digits-requires-2 c κs =
 
 returns-2 : tie.Need-returns-2
 returns-2 c =
-    let s = c .before .before .before .before .before .before in
-    let natural = natural-of _ (s .fits .v) (c .before .before .before .before .if1 .left) in
-    let digits = rw (code-read _ (s .fits .v)) at (c .before .before .put-digits2 .ensures) in
+    let wrote = c .before .before in
+    let plain = wrote .before .before in
+    let s = plain .before .before in
+    let natural = natural-of _ (s .fits .v) (plain .if1 .left) in
+    let digits = rw (code-read _ (s .fits .v)) at (wrote .put-digits2 .ensures) in
     (rw (signed-natural _ (natural .0)) digits, omega (arith, digits .place, length-decimal (natAbs (s .args .v))))
 
 pub put-integer-spec : {M : Type 1} → statement M

@@ -1,4 +1,4 @@
--- `listing::put_number` meets its contract: a word, and the digits right behind it. Assumes nothing.
+-- `listing::put_number` meets its contract: a word, and the digits right behind it.
 use native.Mathlib.Omega.{arith}
 use borrow.Author.Needs.{needs}
 use Rattle.listing.proofs.Digits.{length-decimal}
@@ -7,18 +7,17 @@ use Rattle.listing.proofs.put_number.Statement.{statement}
 use Rattle.listing.proofs.put_number.Tie as tie
 
 put-digits-requires : tie.Need-put-digits-requires
-put-digits-requires c κs = omega (arith, length-decimal (c .before .before .before .before .before .before .before .args .n))
+put-digits-requires c κs =
+    let word = c .before .before .before in
+    let s = word .before .before .before .before in
+    omega (arith, length-decimal (s .args .n))
 
 returns : tie.Need-returns
 returns c =
-    let s = c .before .before .before .before .before .before .before .before .before .before in
-    (and-then (c .before .before .before .before .before .before .put-text .ensures) (c .before .before .put-digits .ensures), omega (arith, length-decimal (s .args .n)))
+    let digits = c .before .before in
+    let word = digits .before .before .before .before in
+    let s = word .before .before .before .before in
+    (and-then (word .put-text .ensures) (digits .put-digits .ensures), omega (arith, length-decimal (s .args .n)))
 
 pub put-number-spec : {M : Type 1} → statement M
-put-number-spec =
-    tie.close
-    (tie.spec
-    (λ c κs. search needs)
-    put-digits-requires
-    (λ c. search needs)
-    returns)
+put-number-spec = tie.close (tie.spec (λ c κs. search needs) put-digits-requires (λ c. search needs) returns)

@@ -1,4 +1,4 @@
--- `listing::put_signed` meets its contract: a word, and the number right behind it. Assumes nothing.
+-- `listing::put_signed` meets its contract: a word, and the number right behind it.
 use borrow.Author.Needs.{needs}
 use Rattle.layout.proofs.Signed.{code-read}
 use Rattle.listing.proofs.Writing.{and-then}
@@ -7,14 +7,10 @@ use Rattle.listing.proofs.put_signed.Tie as tie
 
 returns : tie.Need-returns
 returns c =
-    let s = c .before .before .before .before .before .before .before .before .before .before in
-    (and-then (c .before .before .before .before .before .before .put-text .ensures) (rw (code-read _ (s .fits .v)) at (c .before .before .put-integer .ensures .0)), search needs)
+    let number = c .before .before in
+    let word = number .before .before .before .before in
+    let s = word .before .before .before .before in
+    (and-then (word .put-text .ensures) (rw (code-read _ (s .fits .v)) at (number .put-integer .ensures .0)), search needs)
 
 pub put-signed-spec : {M : Type 1} → statement M
-put-signed-spec =
-    tie.close
-    (tie.spec
-    (λ c κs. search needs)
-    (λ c κs. search needs)
-    (λ c. search needs)
-    returns)
+put-signed-spec = tie.close (tie.spec (λ c κs. search needs) (λ c κs. search needs) (λ c. search needs) returns)

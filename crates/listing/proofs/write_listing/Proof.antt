@@ -1,4 +1,4 @@
--- `listing::write_listing` meets its contract. Assumes nothing.
+-- `listing::write_listing` meets its contract.
 use Prim.Native.Nat.{_≤_}
 use native.Mathlib.Omega.{arith}
 use borrow.Author.Needs.{needs}

@@ -1,4 +1,4 @@
--- `listing::write_refused` meets its contract. Assumes nothing.
+-- `listing::write_refused` meets its contract.
 use Prim.Native.Nat.{_≤_}
 use native.Mathlib.Omega.{arith}
 use borrow.Author.Needs.{needs}
