@@ -1,4 +1,4 @@
--- What an accepted book gives its user. Assumes nothing.
+-- What an accepted book gives its user.
 use mathlib.Core.Path.{_≡_, sym, _∙_}
 use mathlib.Core.Bool.{false}
 use mathlib.Core.List.{List}
@@ -73,7 +73,7 @@ module _ (s : List ℕ) (used : ℕ) (h : verdict s used ≡ Accepted) where
 -- ---- its records
 
 -- so many records take so many blocks, nine to a block
-pub record Counts (n trades : ℕ) : Type 0 where
+pub record BlocksTaken (n trades : ℕ) : Type 0 where
   pub most : n ≤ trades * 9
   pub least : trades * 9 < n + 9
 
@@ -82,10 +82,10 @@ module _ (s : List ℕ) (used : ℕ) (b : Sound s used) where
   full : (j : ℕ) → j + 1 < tradeBlocks s → recordCount (blockAt s (1 + curveCount s + j)) ≡ 9
   full j l = b .trades j (omega arith) .counts .count .full (ne-eqb (1 + curveCount s + j + 1) (1 + curveCount s + tradeBlocks s) (λ e. omega arith))
 
-  pub counts : Counts (tradeCount s) (tradeBlocks s)
-  counts = go (ℕ-discrete (tradeBlocks s) 0)
+  pub blocks-taken : BlocksTaken (tradeCount s) (tradeBlocks s)
+  blocks-taken = go (ℕ-discrete (tradeBlocks s) 0)
     where
-      go : Dec (tradeBlocks s ≡ 0) → Counts (tradeCount s) (tradeBlocks s)
+      go : Dec (tradeBlocks s ≡ 0) → BlocksTaken (tradeCount s) (tradeBlocks s)
       go (yes e) = let z = no-trades s e in record { most = omega arith; least = omega arith }
       go (no e) =
           let l : 0 < tradeBlocks s = omega arith in
@@ -95,12 +95,12 @@ module _ (s : List ℕ) (used : ℕ) (b : Sound s used) where
 
   pub trade-count-most : tradeCount s ≤ 126 * 9
   trade-count-most =
-      let c = counts in
+      let c = blocks-taken in
       let e = b .blocks in
       omega (arith, b .limit, b .least)
 
   pub blocks-for : blocksFor (tradeCount s) ≡ tradeBlocks s
-  blocks-for = let c = counts in omega arith
+  blocks-for = let c = blocks-taken in omega arith
 
   -- what trade block j holds
   pub held : (j : ℕ) → j < tradeBlocks s → recordCount (blockAt s (1 + curveCount s + j)) ≡ min 9 (tradeCount s - j * 9)
@@ -112,11 +112,11 @@ module _ (s : List ℕ) (used : ℕ) (b : Sound s used) where
           let n = rw i at (last-trades s (omega arith)) in
           let c = b .trades j l .counts .count in
           omega arith
-      go (no e) = let c = counts in omega (arith, full j (omega arith))
+      go (no e) = let c = blocks-taken in omega (arith, full j (omega arith))
 
   pub place-held : (i : ℕ) → i < tradeCount s → (i / 9 < tradeBlocks s) × (i % 9 < recordCount (blockAt s (1 + curveCount s + i / 9)))
   place-held i l =
-      let c = counts in
+      let c = blocks-taken in
       let p : i / 9 < tradeBlocks s = omega arith in
       (p, omega (arith, held (i / 9) p))
 
@@ -130,8 +130,8 @@ module _ (s : List ℕ) (used : ℕ) (b : Sound s used) where
   pub length-blockAt : (k : ℕ) → k < 1 + curveCount s + tradeBlocks s → length (blockAt s k) ≡ 512
   length-blockAt k l = let e = b .blocks in length-part s (k * 512) 512 (omega (arith, b .lent))
 
-  pub length-record : (i : ℕ) → i < tradeCount s → length (recordAt s i) ≡ 56
+  pub length-recordAt : (i : ℕ) → i < tradeCount s → length (recordAt s i) ≡ 56
   unfolding recordAt
-  length-record i l =
+  length-recordAt i l =
       let p = place-held i l .0 in
       length-part (blockAt s (1 + curveCount s + i / 9)) (recordPlace (i % 9)) 56 (omega (arith, length-blockAt (1 + curveCount s + i / 9) (omega arith)))

@@ -1,4 +1,4 @@
--- A book is canonical: an accepted one is the encoding of its parts. Assumes nothing.
+-- A book is canonical: an accepted one is the encoding of its parts.
 use mathlib.Core.Path.{_≡_, sym, ap, _∙_}
 use mathlib.Core.List.{List, _∷_, _++_}
 use Prim.Native.Nat.{ℕ, _+_, _*_, _/_, _%_, _<_}
@@ -8,22 +8,21 @@ use Rattle.laws.specs.Walk.{table}
 use Rattle.laws.proofs.Tables.{table-same, table-add, table-part, flatten-parts}
 use Rattle.ground.specs.declared.Verdict.the-variants.{Accepted}
 use Rattle.layout.specs.Bytes.{AreBytes}
-use Rattle.layout.proofs.Field.{field-bound}
-use Rattle.book.specs.Parts.{blockAt, account, curveCount, tradeBlocks, curveBlocks, curvesOf, recordCount, recordIn, tradeCount, recordAt, records}
+use Rattle.book.specs.Parts.{blockAt, headerOf, curveCount, tradeBlocks, curveBlocks, curvesOf, recordCount, recordIn, tradeCount, recordAt, records}
 use Rattle.book.specs.Verdict.{verdict}
-use Rattle.book.specs.Encode.{headerBlock, tradeBlock, recordsOfBlock, tradeBlocksOf, blocks, encode}
-use Rattle.book.proofs.Places.{head-account, head-curves, head-trades, length-curveBlocks, curve-block, length-records, record-of}
+use Rattle.book.specs.Encode.{headerBlock, tradeBlock, recordsOfBlock, tradeBlocksOf, bookBlocks, encode}
+use Rattle.book.proofs.Places.{head-fields, head-curves, head-trades, length-curveBlocks, curve-block, length-records, record-of}
 use Rattle.book.proofs.Verdicts.{any-block}
-use Rattle.book.proofs.HeaderBlock.{bytes-part, header-of}
+use Rattle.book.proofs.HeaderBlock.{bytes-part, header-fits, header-of}
 use Rattle.book.proofs.TradeBlock.{recordsIn, trades-of}
-use Rattle.book.proofs.Accepted.{Sound, sound, blocks-for, length-blockAt, length-record, held, accepted-record}
+use Rattle.book.proofs.Accepted.{Sound, sound, blocks-for, length-blockAt, length-recordAt, held, accepted-record}
 use Rattle.book.proofs.Encoded.{Encodable, Acceptable}
 
 module _ (s : List ℕ) (used : ℕ) (bytes : AreBytes s) (b : Sound s used) where
-  header-block : blockAt s 0 ≡ headerBlock (account s) (curveCount s) (tradeBlocks s)
+  header-block : blockAt s 0 ≡ headerBlock (headerOf s) (curveCount s) (tradeBlocks s)
   header-block =
       header-of (blockAt s 0) (1 + curveCount s + tradeBlocks s) (bytes-part s (0 * 512) 512 bytes) (length-blockAt s used b 0 (omega arith)) (b .header)
-      ∙ rw (head-account s, head-curves s, head-trades s)
+      ∙ rw (head-fields s, head-curves s, head-trades s)
 
   -- the records of trade block j are nine of the book's
   block-records : (j : ℕ) → j < tradeBlocks s → recordsIn (blockAt s (1 + curveCount s + j)) ≡ recordsOfBlock (records s) j
@@ -53,16 +52,16 @@ module _ (s : List ℕ) (used : ℕ) (bytes : AreBytes s) (b : Sound s used) whe
       let g : 0 + (1 + curveCount s) + j ≡ 1 + curveCount s + j = omega arith in
       rw (e, g) (trade-block j l)))
 
-  first-table : table (blockAt s) 0 (1 + curveCount s) ≡ headerBlock (account s) (curveCount s) (tradeBlocks s) ∷ curveBlocks s
+  first-table : table (blockAt s) 0 (1 + curveCount s) ≡ headerBlock (headerOf s) (curveCount s) (tradeBlocks s) ∷ curveBlocks s
   unfolding table curveBlocks
   first-table = table-add (blockAt s) 0 1 (curveCount s) ∙ rw (← header-block)
 
-  blocks-table : blocks (account s) (curveBlocks s) (records s) ≡ table (blockAt s) 0 (1 + curveCount s + tradeBlocks s)
-  unfolding blocks
+  blocks-table : bookBlocks (headerOf s) (curveBlocks s) (records s) ≡ table (blockAt s) 0 (1 + curveCount s + tradeBlocks s)
+  unfolding bookBlocks
   blocks-table =
       rw (length-curveBlocks s, length-records s, blocks-for s used b, table-add (blockAt s) 0 (1 + curveCount s) (tradeBlocks s), first-table, trades-table)
 
-  pub sound-encoded : take used s ≡ encode (account s) (curveBlocks s) (records s)
+  pub sound-encoded : take used s ≡ encode (headerOf s) (curveBlocks s) (records s)
   unfolding encode
   sound-encoded =
       let n = 1 + curveCount s + tradeBlocks s in
@@ -72,7 +71,7 @@ module _ (s : List ℕ) (used : ℕ) (bytes : AreBytes s) (b : Sound s used) whe
 
   -- ---- its parts can be encoded again, and are accepted
 
-  pub sound-encodable : Encodable (account s) (curveBlocks s) (records s)
+  pub sound-encodable : Encodable (headerOf s) (curveBlocks s) (records s)
   sound-encodable =
       let c = length-curveBlocks s in
       let n = length-records s in
@@ -80,12 +79,12 @@ module _ (s : List ℕ) (used : ℕ) (bytes : AreBytes s) (b : Sound s used) whe
       let e = b .blocks in
       let m = b .limit in
       record {
-        account = field-bound 4 s 4 bytes;
+        fits = header-fits s bytes;
         least = rw c (b .least);
         most = rw c (b .most);
-        blocks = rw (c, n, t) (omega arith);
-        curves = λ k l. let i : k < curveCount s = rw c at l in rw (curve-block s k i) (length-blockAt s used b (1 + k) (omega arith));
-        trades = λ i l. let j : i < tradeCount s = rw n at l in rw (record-of s i j) (length-record s used b i j);
+        within = rw (c, n, t) (omega arith);
+        each-curve = λ k l. let i : k < curveCount s = rw c at l in rw (curve-block s k i) (length-blockAt s used b (1 + k) (omega arith));
+        each-record = λ i l. let j : i < tradeCount s = rw n at l in rw (record-of s i j) (length-recordAt s used b i j);
       }
 
   pub sound-acceptable : Acceptable (curveBlocks s) (records s)
@@ -93,19 +92,19 @@ module _ (s : List ℕ) (used : ℕ) (bytes : AreBytes s) (b : Sound s used) whe
       let c = length-curveBlocks s in
       let n = length-records s in
       record {
-        curves = λ k l. let i : k < curveCount s = rw c at l in rw (curve-block s k i) (b .curve k i);
-        trades = λ i l k. let j : i < tradeCount s = rw n at l in
+        curve = λ k l. let i : k < curveCount s = rw c at l in rw (curve-block s k i) (b .curve k i);
+        trade = λ i l k. let j : i < tradeCount s = rw n at l in
             rw (record-of s i j) (any-block (curvesOf s) (recordAt s i) (1 + curveCount s + i / 9) k (accepted-record s used b i j));
       }
 
--- every byte of an accepted book is settled by its account, its curve blocks and its records
+-- every byte of an accepted book is settled by its header, its curve blocks and its records
 module _ (s : List ℕ) (used : ℕ) (bytes : AreBytes s) (h : verdict s used ≡ Accepted) where
-  pub accepted-encoded : take used s ≡ encode (account s) (curveBlocks s) (records s)
+  pub accepted-encoded : take used s ≡ encode (headerOf s) (curveBlocks s) (records s)
   accepted-encoded = sound-encoded s used bytes (sound s used h)
 
-  pub length-accepted : length (encode (account s) (curveBlocks s) (records s)) ≡ used
+  pub length-accepted : length (encode (headerOf s) (curveBlocks s) (records s)) ≡ used
   length-accepted = ap length (sym accepted-encoded) ∙ simp length-take (omega (arith, sound s used h .lent))
 
   -- and what is lent is that, with what stands behind it
-  pub accepted-lent : s ≡ encode (account s) (curveBlocks s) (records s) ++ drop used s
+  pub accepted-lent : s ≡ encode (headerOf s) (curveBlocks s) (records s) ++ drop used s
   accepted-lent = sym (take-append-drop used s) ∙ rw accepted-encoded

@@ -1,4 +1,4 @@
--- The parts of an encoding are those that went in, and it is accepted where they are. Assumes nothing.
+-- The parts of an encoding are those that went in, and it is accepted where they are.
 use mathlib.Core.Path.{_≡_, refl, sym, ap, _∙_}
 use mathlib.Core.List.{List, [], _∷_, _++_}
 use Prim.Native.Nat.{ℕ, zero, suc, _+_, _-_, _*_, _/_, _%_, _≤_, _<_, min}
@@ -14,29 +14,29 @@ use Rattle.laws.proofs.Walk.{length-table, getD-table}
 use Rattle.laws.proofs.Tables.{Each, length-flatten, part-flatten, table-same, table-of}
 use Rattle.ground.specs.declared.Verdict.the-variants.{Accepted}
 use Rattle.curve_block.specs.Verdict.{curveVerdict}
-use Rattle.book.specs.Parts.{blockAt, account, curveCount, tradeBlocks, curveBlocks, curvesIn, curvesOf, tradeCount, recordAt, records}
+use Rattle.book.specs.Parts.{Header, blockAt, headerOf, curveCount, tradeBlocks, curveBlocks, curvesIn, curvesOf, tradeCount, recordAt, records}
 use Rattle.book.specs.Verdict.{bytesVerdict, blockVerdict, verdict}
-use Rattle.book.specs.Encode.{headerBlock, tradeBlock, blocksFor, recordsOfBlock, tradeBlocksOf, blocks, encode}
+use Rattle.book.specs.Encode.{headerBlock, tradeBlock, blocksFor, recordsOfBlock, tradeBlocksOf, bookBlocks, encode}
 use Rattle.book.proofs.First.{first-of}
 use Rattle.book.proofs.Sound.{length-sound}
-use Rattle.book.proofs.Places.{head-account, head-curves, head-trades, no-trades, last-trades}
+use Rattle.book.proofs.Places.{head-fields, head-curves, head-trades, no-trades, last-trades}
 use Rattle.book.proofs.Verdicts.{TradesSound, accepted-header, accepted-trades, first-block, curve-place, trade-place, verdict-blocks}
-use Rattle.book.proofs.HeaderBlock.{length-header, header-account, header-curves, header-trades, header-breaks-nothing}
+use Rattle.book.proofs.HeaderBlock.{HeaderFits, length-header, header-read, header-curves, header-trades, header-breaks-nothing}
 use Rattle.book.proofs.TradeBlock.{length-trades, count-trades, record-trades, trades-break-nothing}
 
 -- what a book can be made of: a curve block is 512 bytes, a record 56, and a book at most 128 blocks
-pub record Encodable (a : ℕ) (cs rs : List (List ℕ)) : Type 0 where
-  pub account : a < 4294967296
+pub record Encodable (header : Header) (cs rs : List (List ℕ)) : Type 0 where
+  pub fits : HeaderFits header
   pub least : 1 ≤ length cs
   pub most : length cs ≤ 8
-  pub blocks : 1 + length cs + blocksFor (length rs) ≤ 128
-  pub curves : Each 512 cs
-  pub trades : Each 56 rs
+  pub within : 1 + length cs + blocksFor (length rs) ≤ 128
+  pub each-curve : Each 512 cs
+  pub each-record : Each 56 rs
 
 -- and what it must be made of: curve blocks and records that are accepted, a record in whatever block
 pub record Acceptable (cs rs : List (List ℕ)) : Type 0 where
-  pub curves : (k : ℕ) → k < length cs → curveVerdict (getD cs k []) (1 + k) ≡ Accepted
-  pub trades : (i : ℕ) → i < length rs → (block : ℕ) → bytesVerdict (curvesIn cs) (getD rs i []) block ≡ Accepted
+  pub curve : (k : ℕ) → k < length cs → curveVerdict (getD cs k []) (1 + k) ≡ Accepted
+  pub trade : (i : ℕ) → i < length rs → (block : ℕ) → bytesVerdict (curvesIn cs) (getD rs i []) block ≡ Accepted
 
 -- ---- nine records to a block
 
@@ -52,9 +52,9 @@ module _ (rs : List (List ℕ)) (j : ℕ) where
 
 -- ---- the blocks
 
-module _ (a : ℕ) (cs rs : List (List ℕ)) where
+module _ (header : Header) (cs rs : List (List ℕ)) where
   abbrev head : List ℕ
-  head = headerBlock a (length cs) (blocksFor (length rs))
+  head = headerBlock header (length cs) (blocksFor (length rs))
 
   abbrev trade : ℕ → List ℕ
   trade j = tradeBlock (1 + length cs + j) (recordsOfBlock rs j)
@@ -63,76 +63,76 @@ module _ (a : ℕ) (cs rs : List (List ℕ)) where
   unfolding tradeBlocksOf
   length-tail = length-table trade 0 (blocksFor (length rs))
 
-  pub length-blocks : length (blocks a cs rs) ≡ 1 + length cs + blocksFor (length rs)
-  unfolding blocks
+  pub length-blocks : length (bookBlocks header cs rs) ≡ 1 + length cs + blocksFor (length rs)
+  unfolding bookBlocks
   length-blocks = omega (arith, length-append (head ∷ cs) (tradeBlocksOf (1 + length cs) rs), length-tail)
 
-  pub block-header : getD (blocks a cs rs) 0 [] ≡ head
-  unfolding blocks
+  pub block-header : getD (bookBlocks header cs rs) 0 [] ≡ head
+  unfolding bookBlocks
   block-header = refl
 
-  pub block-curve : (k : ℕ) → k < length cs → getD (blocks a cs rs) (1 + k) [] ≡ getD cs k []
-  unfolding blocks
+  pub block-curve : (k : ℕ) → k < length cs → getD (bookBlocks header cs rs) (1 + k) [] ≡ getD cs k []
+  unfolding bookBlocks
   block-curve k l =
       let e : 1 + k ≡ suc k = omega arith in
       rw e (List·getD-append (head ∷ cs) (tradeBlocksOf (1 + length cs) rs) [] (suc k) (omega arith))
 
-  pub block-trade : (j : ℕ) → j < blocksFor (length rs) → getD (blocks a cs rs) (1 + length cs + j) [] ≡ trade j
-  unfolding blocks tradeBlocksOf
+  pub block-trade : (j : ℕ) → j < blocksFor (length rs) → getD (bookBlocks header cs rs) (1 + length cs + j) [] ≡ trade j
+  unfolding bookBlocks tradeBlocksOf
   block-trade j l =
       let e : 1 + length cs + j ≡ length (head ∷ cs) + j = omega arith in
-      ap (λ (n : ℕ). getD (blocks a cs rs) n []) e
+      ap (λ (n : ℕ). getD (bookBlocks header cs rs) n []) e
       ∙ (getD-append-add (head ∷ cs) (table trade 0 (blocksFor (length rs))) j [] ∙ getD-table trade 0 (blocksFor (length rs)) j [] l ∙ ap trade (zero-add j))
 
-module _ (a : ℕ) (cs rs : List (List ℕ)) (fine : Encodable a cs rs) where
+module _ (header : Header) (cs rs : List (List ℕ)) (fine : Encodable header cs rs) where
   few : (j : ℕ) → length (recordsOfBlock rs j) ≤ 9
   few j = omega (arith, length-nine rs j)
 
-  pub blocks-each : Each 512 (blocks a cs rs)
-  blocks-each zero l = rw (block-header a cs rs) (length-header a (length cs) (blocksFor (length rs)))
+  pub blocks-each : Each 512 (bookBlocks header cs rs)
+  blocks-each zero l = rw (block-header header cs rs) (length-header header (length cs) (blocksFor (length rs)))
   blocks-each (suc k) l = go (decLe (length cs) k)
     where
-      go : Dec (length cs ≤ k) → length (getD (blocks a cs rs) (suc k) []) ≡ 512
+      go : Dec (length cs ≤ k) → length (getD (bookBlocks header cs rs) (suc k) []) ≡ 512
       go (yes h) =
-          let n = length-blocks a cs rs in
+          let n = length-blocks header cs rs in
           let e : suc k ≡ 1 + length cs + (k - length cs) = omega arith in
-          rw (e, block-trade a cs rs (k - length cs) (omega arith))
-          (length-trades (1 + length cs + (k - length cs)) (recordsOfBlock rs (k - length cs)) (few (k - length cs)) (nine-each rs (k - length cs) (fine .trades)))
+          rw (e, block-trade header cs rs (k - length cs) (omega arith))
+          (length-trades (1 + length cs + (k - length cs)) (recordsOfBlock rs (k - length cs)) (few (k - length cs)) (nine-each rs (k - length cs) (fine .each-record)))
       go (no h) =
           let e : suc k ≡ 1 + k = omega arith in
-          rw (e, block-curve a cs rs k (omega arith)) (fine .curves k (omega arith))
+          rw (e, block-curve header cs rs k (omega arith)) (fine .each-curve k (omega arith))
 
-  pub length-encode : length (encode a cs rs) ≡ (1 + length cs + blocksFor (length rs)) * 512
+  pub length-encode : length (encode header cs rs) ≡ (1 + length cs + blocksFor (length rs)) * 512
   unfolding encode
-  length-encode = length-flatten 512 (blocks a cs rs) blocks-each ∙ rw (length-blocks a cs rs)
+  length-encode = length-flatten 512 (bookBlocks header cs rs) blocks-each ∙ rw (length-blocks header cs rs)
 
   -- ---- the parts, whatever stands behind the book
 
   module _ (rest : List ℕ) where
     abbrev s : List ℕ
-    s = encode a cs rs ++ rest
+    s = encode header cs rs ++ rest
 
-    block-at : (k : ℕ) → k < 1 + length cs + blocksFor (length rs) → blockAt s k ≡ getD (blocks a cs rs) k []
+    block-at : (k : ℕ) → k < 1 + length cs + blocksFor (length rs) → blockAt s k ≡ getD (bookBlocks header cs rs) k []
     unfolding encode
-    block-at k l = part-flatten 512 (blocks a cs rs) rest blocks-each k (rw (length-blocks a cs rs) l)
+    block-at k l = part-flatten 512 (bookBlocks header cs rs) rest blocks-each k (rw (length-blocks header cs rs) l)
 
-    at-header : blockAt s 0 ≡ head a cs rs
-    at-header = block-at 0 (omega arith) ∙ block-header a cs rs
+    at-header : blockAt s 0 ≡ head header cs rs
+    at-header = block-at 0 (omega arith) ∙ block-header header cs rs
 
     at-curve : (k : ℕ) → k < length cs → blockAt s (1 + k) ≡ getD cs k []
-    at-curve k l = block-at (1 + k) (omega arith) ∙ block-curve a cs rs k l
+    at-curve k l = block-at (1 + k) (omega arith) ∙ block-curve header cs rs k l
 
-    at-trade : (j : ℕ) → j < blocksFor (length rs) → blockAt s (1 + length cs + j) ≡ trade a cs rs j
-    at-trade j l = block-at (1 + length cs + j) (omega arith) ∙ block-trade a cs rs j l
+    at-trade : (j : ℕ) → j < blocksFor (length rs) → blockAt s (1 + length cs + j) ≡ trade header cs rs j
+    at-trade j l = block-at (1 + length cs + j) (omega arith) ∙ block-trade header cs rs j l
 
-    pub account-encoded : account s ≡ a
-    account-encoded = sym (head-account s) ∙ rw at-header (header-account a (length cs) (blocksFor (length rs)) (fine .account))
+    pub header-encoded : headerOf s ≡ header
+    header-encoded = sym (head-fields s) ∙ rw at-header (header-read header (length cs) (blocksFor (length rs)) (fine .fits))
 
     pub curve-count-encoded : curveCount s ≡ length cs
-    curve-count-encoded = sym (head-curves s) ∙ rw at-header (header-curves a (length cs) (blocksFor (length rs)) (omega (arith, fine .most)))
+    curve-count-encoded = sym (head-curves s) ∙ rw at-header (header-curves header (length cs) (blocksFor (length rs)) (omega (arith, fine .most)))
 
     pub trade-blocks-encoded : tradeBlocks s ≡ blocksFor (length rs)
-    trade-blocks-encoded = sym (head-trades s) ∙ rw at-header (header-trades a (length cs) (blocksFor (length rs)) (omega (arith, fine .blocks)))
+    trade-blocks-encoded = sym (head-trades s) ∙ rw at-header (header-trades header (length cs) (blocksFor (length rs)) (omega (arith, fine .within)))
 
     pub curves-encoded : curveBlocks s ≡ cs
     unfolding curveBlocks
@@ -158,7 +158,7 @@ module _ (a : ℕ) (cs rs : List (List ℕ)) (fine : Encodable a cs rs) where
               trade-blocks-encoded,
               curve-count-encoded,
               at-trade t (omega arith),
-              count-trades (1 + length cs + t) (recordsOfBlock rs t) (few t) (nine-each rs t (fine .trades)),
+              count-trades (1 + length cs + t) (recordsOfBlock rs t) (few t) (nine-each rs t (fine .each-record)),
             )
             (omega arith)
 
@@ -168,7 +168,7 @@ module _ (a : ℕ) (cs rs : List (List ℕ)) (fine : Encodable a cs rs) where
         let n = length-nine rs (i / 9) in
         let e : i / 9 * 9 + i % 9 ≡ i = omega arith in
         rw (curve-count-encoded, at-trade (i / 9) (omega arith))
-        (record-trades (1 + length cs + i / 9) (recordsOfBlock rs (i / 9)) (few (i / 9)) (nine-each rs (i / 9) (fine .trades)) (i % 9) (omega arith)
+        (record-trades (1 + length cs + i / 9) (recordsOfBlock rs (i / 9)) (few (i / 9)) (nine-each rs (i / 9) (fine .each-record)) (i % 9) (omega arith)
         ∙ nine-at rs (i / 9) (i % 9) (omega arith)
         ∙ rw e)
 
@@ -187,23 +187,23 @@ module _ (a : ℕ) (cs rs : List (List ℕ)) (fine : Encodable a cs rs) where
       total = 1 + length cs + blocksFor (length rs)
 
       trade-sound : (j : ℕ) → j < blocksFor (length rs)
-          → TradesSound (curvesIn cs) (trade a cs rs j) (1 + length cs + j) (eqb (1 + length cs + j + 1) total)
+          → TradesSound (curvesIn cs) (trade header cs rs j) (1 + length cs + j) (eqb (1 + length cs + j + 1) total)
       trade-sound j l =
           let n = length-nine rs j in
-          trades-break-nothing (1 + length cs + j) (recordsOfBlock rs j) (few j) (nine-each rs j (fine .trades)) (curvesIn cs) (eqb (1 + length cs + j + 1) total)
-          (omega (arith, fine .blocks))
+          trades-break-nothing (1 + length cs + j) (recordsOfBlock rs j) (few j) (nine-each rs j (fine .each-record)) (curvesIn cs) (eqb (1 + length cs + j + 1) total)
+          (omega (arith, fine .within))
           (record {
             some = omega arith;
             most = few j;
             full = λ e. let m : 1 + length cs + j + 1 ≡ total → ⊥ = eqb-false (1 + length cs + j + 1) total e in omega arith;
           })
-          (λ i b. rw (nine-at rs j i (omega arith)) (good .trades (j * 9 + i) (omega arith) (1 + length cs + j)))
+          (λ i b. rw (nine-at rs j i (omega arith)) (good .trade (j * 9 + i) (omega arith) (1 + length cs + j)))
 
       block-accepted : (k : ℕ) → k < total → blockVerdict s total k ≡ Accepted
       block-accepted zero l =
           first-block s total
           ∙ rw at-header
-          (accepted-header _ _ (header-breaks-nothing a (length cs) (blocksFor (length rs)) (fine .least) (fine .most) (omega (arith, fine .blocks))))
+          (accepted-header _ _ (header-breaks-nothing header (length cs) (blocksFor (length rs)) (fine .least) (fine .most) (omega (arith, fine .within))))
       block-accepted (suc k) l = go (decLe (length cs) k)
         where
           go : Dec (length cs ≤ k) → blockVerdict s total (suc k) ≡ Accepted
@@ -219,16 +219,16 @@ module _ (a : ℕ) (cs rs : List (List ℕ)) (fine : Encodable a cs rs) where
               let c = curve-count-encoded in
               ap (blockVerdict s total) e
               ∙ curve-place s total (1 + k) (omega arith) (omega arith)
-              ∙ rw (at-curve k (omega arith)) (good .curves k (omega arith))
+              ∙ rw (at-curve k (omega arith)) (good .curve k (omega arith))
 
       -- an encoding of curve blocks and records that are accepted is accepted
-      pub encoded-accepted : verdict s (length (encode a cs rs)) ≡ Accepted
+      pub encoded-accepted : verdict s (length (encode header cs rs)) ≡ Accepted
       encoded-accepted =
           let n = length-encode in
-          let m = length-append (encode a cs rs) rest in
-          let e : length (encode a cs rs) / 512 ≡ total = omega arith in
-          let b = fine .blocks in
-          verdict-blocks s (length (encode a cs rs)) (length-sound (length (encode a cs rs)) (length s) (record {
+          let m = length-append (encode header cs rs) rest in
+          let e : length (encode header cs rs) / 512 ≡ total = omega arith in
+          let b = fine .within in
+          verdict-blocks s (length (encode header cs rs)) (length-sound (length (encode header cs rs)) (length s) (record {
             some = omega arith;
             whole = omega arith;
             most = omega arith;

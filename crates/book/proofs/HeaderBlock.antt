@@ -1,4 +1,4 @@
--- The header that `headerBlock` lays out, and the bytes of a header that breaks nothing. Assumes nothing.
+-- The header that `headerBlock` lays out, and the bytes of a header that breaks nothing.
 use mathlib.Core.Path.{_≡_, refl, sym, _∙_}
 use mathlib.Core.List.{List, [], _++_, append-assoc, append-nil}
 use Prim.Native.Nat.{ℕ, _+_, _^_, _≤_, _<_}
@@ -8,10 +8,10 @@ use lib.ListN.{length, length-append, length-take, List·getD-eq-default}
 use Rattle.layout.specs.Bytes.{byteAt, part, AreBytes}
 use Rattle.layout.specs.Field.{numberAt, u16At, bytesOf}
 use Rattle.layout.proofs.Bytes.{byte-part, part-add}
-use Rattle.layout.proofs.Field.{field-front, field-behind, field-part, length-bytes, number-bytes, bytes-number}
+use Rattle.layout.proofs.Field.{field-bound, field-front, field-behind, field-part, length-bytes, number-bytes, bytes-number}
 use Rattle.layout.proofs.Sealed.{sound-sealed, place-kept}
-use Rattle.book.specs.Parts.{account, curveCount, tradeBlocks}
-use Rattle.book.specs.Encode.{block, headerBlock}
+use Rattle.book.specs.Parts.{Header, headerOf, curveCount, tradeBlocks}
+use Rattle.book.specs.Encode.{block, headerBytes, headerBlock}
 use Rattle.book.proofs.Laid.{length-block, block-count, block-named, block-zeros, block-checked, block-placed, block-of}
 use Rattle.book.proofs.Verdicts.{HeaderSound}
 
@@ -40,67 +40,81 @@ field-among n v before behind k e h =
 
 -- ---- the header
 
-module _ (a c t : ℕ) where
-  abbrev fields : List ℕ
-  fields = bytesOf 4 a ++ bytesOf 2 c ++ bytesOf 2 t
+-- each field of a header keeps the width of its place
+pub record HeaderFits (header : Header) : Type 0 where
+  pub account-fits : header .account < 256 ^ 4
 
-  is-header : headerBlock a c t ≡ block 1 0 0 fields
+pub header-fits : (s : List ℕ) → AreBytes s → HeaderFits (headerOf s)
+header-fits s bytes = record { account-fits = field-bound 4 s 4 bytes }
+
+module _ (header : Header) (c t : ℕ) where
+  abbrev named : List ℕ
+  named = headerBytes header c t
+
+  is-header : headerBlock header c t ≡ block 1 0 0 named
   unfolding headerBlock
   is-header = refl
 
-  length-fields : length fields ≡ 8
-  length-fields =
-      simp length-append (omega (arith, length-bytes 4 a, length-bytes 2 c, length-bytes 2 t))
+  pub length-headerBytes : length named ≡ 8
+  length-headerBytes =
+      simp length-append (omega (arith, length-bytes 4 (header .account), length-bytes 2 c, length-bytes 2 t))
 
-  short : length fields ≤ 504
-  short = omega (arith, length-fields)
+  short : length named ≤ 504
+  short = omega (arith, length-headerBytes)
 
-  pub length-header : length (headerBlock a c t) ≡ 512
-  length-header = rw is-header (length-block 1 0 0 fields short)
+  pub length-header : length (headerBlock header c t) ≡ 512
+  length-header = rw is-header (length-block 1 0 0 named short)
 
-  fields-part : part (headerBlock a c t) 4 8 ≡ fields
-  fields-part = rw is-header (rw length-fields at (block-named 1 0 0 fields short))
+  named-part : part (headerBlock header c t) 4 8 ≡ named
+  named-part = rw is-header (rw length-headerBytes at (block-named 1 0 0 named short))
 
-  -- a field of the header is the field of its fields
-  field-in : (n k : ℕ) → k + n ≤ 8 → numberAt n (headerBlock a c t) (4 + k) ≡ numberAt n fields k
-  field-in n k h = sym (field-part n (headerBlock a c t) 4 8 k h) ∙ rw fields-part
+  -- a field of the header is the field of its named bytes
+  field-in : (n k : ℕ) → k + n ≤ 8 → numberAt n (headerBlock header c t) (4 + k) ≡ numberAt n named k
+  field-in n k h = sym (field-part n (headerBlock header c t) 4 8 k h) ∙ rw named-part
 
-  pub header-account : a < 4294967296 → account (headerBlock a c t) ≡ a
-  header-account h =
-      field-in 4 0 (omega arith) ∙ rw (append-assoc (bytesOf 4 a) (bytesOf 2 c) (bytesOf 2 t)) (field-among 4 a [] (bytesOf 2 c ++ bytesOf 2 t) 0 refl h)
+  pub header-read : HeaderFits header → headerOf (headerBlock header c t) ≡ header
+  header-read fits =
+      let a = bytesOf 4 (header .account) in
+      let e : numberAt 4 (headerBlock header c t) 4 ≡ header .account =
+      field-in 4 0 (omega arith)
+      ∙ rw (append-assoc a (bytesOf 2 c) (bytesOf 2 t)) (field-among 4 (header .account) [] (bytesOf 2 c ++ bytesOf 2 t) 0 refl (fits .account-fits)) in
+      rw e
 
-  pub header-curves : c < 65536 → curveCount (headerBlock a c t) ≡ c
-  header-curves h = field-in 2 4 (omega arith) ∙ field-among 2 c (bytesOf 4 a) (bytesOf 2 t) 4 (sym (length-bytes 4 a)) h
+  pub header-curves : c < 65536 → curveCount (headerBlock header c t) ≡ c
+  header-curves h =
+      let a = bytesOf 4 (header .account) in
+      field-in 2 4 (omega arith) ∙ field-among 2 c a (bytesOf 2 t) 4 (sym (length-bytes 4 (header .account))) h
 
-  pub header-trades : t < 65536 → tradeBlocks (headerBlock a c t) ≡ t
+  pub header-trades : t < 65536 → tradeBlocks (headerBlock header c t) ≡ t
   header-trades h =
-      let l : 6 ≡ length (bytesOf 4 a ++ bytesOf 2 c) = omega (arith, length-append (bytesOf 4 a) (bytesOf 2 c), length-bytes 4 a, length-bytes 2 c) in
-      field-in 2 6 (omega arith) ∙ rw append-nil at (field-among 2 t (bytesOf 4 a ++ bytesOf 2 c) [] 6 l h)
+      let a = bytesOf 4 (header .account) in
+      let l : 6 ≡ length (a ++ bytesOf 2 c) = omega (arith, length-append a (bytesOf 2 c), length-bytes 4 (header .account), length-bytes 2 c) in
+      field-in 2 6 (omega arith) ∙ rw append-nil at (field-among 2 t (a ++ bytesOf 2 c) [] 6 l h)
 
-  pub header-breaks-nothing : 1 ≤ c → c ≤ 8 → t < 65536 → HeaderSound (headerBlock a c t) (1 + c + t)
+  pub header-breaks-nothing : 1 ≤ c → c ≤ 8 → t < 65536 → HeaderSound (headerBlock header c t) (1 + c + t)
   header-breaks-nothing some most few =
       let ec = header-curves (omega arith) in
       let et = header-trades few in
       record {
-        checked = rw is-header (block-checked 1 0 0 fields short);
-        placed = rw is-header (block-placed 1 0 0 fields short (omega arith));
+        checked = rw is-header (block-checked 1 0 0 named short);
+        placed = rw is-header (block-placed 1 0 0 named short (omega arith));
         counts = record {
           some = rw ec some;
           most = rw ec most;
           counts = rw (ec, et);
-          second = rw is-header (block-count 1 0 0 fields short);
-          behind = rw is-header (rw length-fields at (block-zeros 1 0 0 fields short));
+          second = rw is-header (block-count 1 0 0 named short);
+          behind = rw is-header (rw length-headerBytes at (block-zeros 1 0 0 named short));
         };
       }
 
 -- and no other header has its fields
 pub header-of : (b : List ℕ) (blocks : ℕ) → AreBytes b → length b ≡ 512 → HeaderSound b blocks
-    → b ≡ headerBlock (account b) (curveCount b) (tradeBlocks b)
+    → b ≡ headerBlock (headerOf b) (curveCount b) (tradeBlocks b)
 header-of b n bytes h sound =
     let p = place-kept b 1 0 (sound .placed) in
-    let named = fields (account b) (curveCount b) (tradeBlocks b) in
-    let l = length-fields (account b) (curveCount b) (tradeBlocks b) in
-    let e : part b 4 8 ≡ named =
+    let fields = named (headerOf b) (curveCount b) (tradeBlocks b) in
+    let l = length-headerBytes (headerOf b) (curveCount b) (tradeBlocks b) in
+    let e : part b 4 8 ≡ fields =
     part-add b 4 6 2
     ∙ rw (
       part-add b 4 4 2,
@@ -109,5 +123,5 @@ header-of b n bytes h sound =
       bytes-number 2 b 10 bytes (omega arith),
     ) in
     sym (sound-sealed b bytes (omega arith) (sound .checked))
-    ∙ block-of 1 0 0 named (omega arith) b h (p .0) (sound .counts .second) (number-part b 0 bytes h (p .1)) (rw l e) (rw l (sound .counts .behind))
-    ∙ sym (is-header (account b) (curveCount b) (tradeBlocks b))
+    ∙ block-of 1 0 0 fields (omega arith) b h (p .0) (sound .counts .second) (number-part b 0 bytes h (p .1)) (rw l e) (rw l (sound .counts .behind))
+    ∙ sym (is-header (headerOf b) (curveCount b) (tradeBlocks b))

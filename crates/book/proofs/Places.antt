@@ -1,4 +1,4 @@
--- Where the parts of a book stand. Assumes nothing.
+-- Where the parts of a book stand.
 use mathlib.Core.Path.{_≡_, ap, _∙_}
 use mathlib.Core.List.{List, []}
 use Prim.Native.Nat.{ℕ, _+_, _-_, _*_, _≤_, _<_}
@@ -8,12 +8,12 @@ use borrow.Author.Tests.{eq-eqb, ne-eqb}
 use lib.ListN.{length, getD, List·getD-eq-default}
 use Rattle.laws.proofs.Walk.{length-table, getD-table}
 use Rattle.layout.proofs.Field.{field-part}
-use Rattle.book.specs.Parts.{blockAt, account, curveCount, tradeBlocks, curveBlocks, curvesIn, curvesOf, recordCount, tradeCount, recordAt, records}
+use Rattle.book.specs.Parts.{blockAt, headerOf, curveCount, tradeBlocks, curveBlocks, curvesIn, curvesOf, recordCount, tradeCount, recordAt, records}
 
 -- ---- the header's fields, in its block
 
-pub head-account : (s : List ℕ) → account (blockAt s 0) ≡ account s
-head-account s = field-part 4 s 0 512 4 (omega arith)
+pub head-fields : (s : List ℕ) → headerOf (blockAt s 0) ≡ headerOf s
+head-fields s = rw (field-part 4 s 0 512 4 (omega arith))
 
 pub head-curves : (s : List ℕ) → curveCount (blockAt s 0) ≡ curveCount s
 head-curves s = field-part 2 s 0 512 8 (omega arith)

@@ -1,4 +1,4 @@
--- The blocks of trades that `tradeBlock` lays out, and the bytes of one that breaks nothing. Assumes nothing.
+-- The blocks of trades that `tradeBlock` lays out, and the bytes of one that breaks nothing.
 use mathlib.Core.Path.{_≡_, refl, sym, _∙_}
 use mathlib.Core.Bool.{Bool}
 use mathlib.Core.List.{List, [], flatten, append-nil}

@@ -1,11 +1,12 @@
--- The bytes of a book, from its account, its curve blocks and its records (document 01, "Blocks of the book"): a book that is accepted
--- has no other bytes. Assumes nothing.
+-- The bytes of a book, from its header, its curve blocks and its records (document 01, "Blocks of the book"): a book that is accepted
+-- has no other bytes.
 use Prim.Native.Nat.{ℕ, _+_, _-_, _*_, _/_}
 use mathlib.Core.List.{List, _∷_, _++_, flatten}
 use lib.ListN.{length, take, drop, replicate}
 use Rattle.laws.specs.Walk.{table}
 use Rattle.layout.specs.Field.{bytesOf}
 use Rattle.layout.specs.Check.{sealed}
+use Rattle.book.specs.Parts.{Header}
 
 -- "Byte 0 is the kind, 2-3 the block number"; byte 1 is the count of a block of trades; from 4 stands what the kind names, and "Bytes that
 -- no layout names are 0" up to the check
@@ -13,9 +14,13 @@ unfoldable pub block : ℕ → ℕ → ℕ → List ℕ → List ℕ
 block kind count number named =
     sealed (kind ∷ count ∷ bytesOf 2 number ++ named ++ replicate (508 - length named) 0)
 
--- "Header (kind 1, block 0): 4-7 account, 8-9 curves C (1 to 8), 10-11 trade blocks T."
-unfoldable pub headerBlock : ℕ → ℕ → ℕ → List ℕ
-headerBlock account curves trades = block 1 0 0 (bytesOf 4 account ++ bytesOf 2 curves ++ bytesOf 2 trades)
+-- "4-7 account, 8-9 curves C (1 to 8), 10-11 trade blocks T."
+abbrev pub headerBytes : Header → ℕ → ℕ → List ℕ
+headerBytes header curves trades = bytesOf 4 (header .account) ++ bytesOf 2 curves ++ bytesOf 2 trades
+
+-- "Header (kind 1, block 0)"
+unfoldable pub headerBlock : Header → ℕ → ℕ → List ℕ
+headerBlock header curves trades = block 1 0 0 (headerBytes header curves trades)
 
 -- "Trades (kind 3): byte 1 is the count .. records of 56 bytes from 4."
 unfoldable pub tradeBlock : ℕ → List (List ℕ) → List ℕ
@@ -34,11 +39,11 @@ unfoldable pub tradeBlocksOf : ℕ → List (List ℕ) → List (List ℕ)
 tradeBlocksOf first records = table (λ (j : ℕ). tradeBlock (first + j) (recordsOfBlock records j)) 0 (blocksFor (length records))
 
 -- the header, the curve blocks, the blocks of trades
-unfoldable pub blocks : ℕ → List (List ℕ) → List (List ℕ) → List (List ℕ)
-blocks account curves records =
-    headerBlock account (length curves) (blocksFor (length records))
+unfoldable pub bookBlocks : Header → List (List ℕ) → List (List ℕ) → List (List ℕ)
+bookBlocks header curves records =
+    headerBlock header (length curves) (blocksFor (length records))
     ∷ curves ++ tradeBlocksOf (1 + length curves) records
 
 -- one behind the other
-unfoldable pub encode : ℕ → List (List ℕ) → List (List ℕ) → List ℕ
-encode account curves records = flatten (blocks account curves records)
+unfoldable pub encode : Header → List (List ℕ) → List (List ℕ) → List ℕ
+encode header curves records = flatten (bookBlocks header curves records)

@@ -1,4 +1,4 @@
--- What a book holds (document 01, "Blocks of the book"): bytes as a list, in which the book stands first. Assumes nothing.
+-- What a book holds (document 01, "Blocks of the book"): bytes as a list, in which the book stands first.
 use Prim.Native.Nat.{ℕ, _+_, _-_, _*_, _/_, _%_}
 use mathlib.Core.Bool.{cond}
 use mathlib.Core.List.{List, []}
@@ -16,8 +16,12 @@ blockAt s k = part s (k * 512) 512
 
 -- ---- the header, block 0: 4-7 account, 8-9 curves, 10-11 trade blocks
 
-abbrev pub account : List ℕ → ℕ
-account s = u32At s 4
+-- what a header holds besides its counts: it stays when trades come and go
+pub record Header : Type 0 where
+  pub account : ℕ
+
+abbrev pub headerOf : List ℕ → Header
+headerOf s = record { account = u32At s 4 }
 
 abbrev pub curveCount : List ℕ → ℕ
 curveCount s = u16At s 8

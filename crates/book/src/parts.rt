@@ -9,7 +9,7 @@ ghost use Prim.Native.Nat.{_+_, _*_, _/_, _≤_, _<_};
 ghost use mathlib.Core.List.{[]};
 ghost use lib.ListN.{length, getD};
 ghost use Rattle.curve_block.specs.Parts.{currencyOf};
-ghost use Rattle.book.specs.Parts.{blockAt, recordCount, recordPlace, recordIn, account, curveCount, tradeBlocks, curveBlocks, curvesOf, tradeCount, recordAt};
+ghost use Rattle.book.specs.Parts.{blockAt, recordCount, recordPlace, recordIn, headerOf, curveCount, tradeBlocks, curveBlocks, curvesOf, tradeCount, recordAt};
 
 // Block k of the book.
 pub fn block_at(book: &[u8], k: usize) -> &[u8]
@@ -50,7 +50,7 @@ pub fn record_in(b: &[u8], i: usize) -> &[u8]
 
 pub fn account(book: &[u8]) -> u64
     requires { ⌜ 512 ≤ length (now book) ⌝ }
-    ensures { λ r. ⌜ r ≡ account (now (book .entry)) ⌝ }
+    ensures { λ r. ⌜ r ≡ headerOf (now (book .entry)) .account ⌝ }
     ensures { λ r. ⌜ r < 4294967296 ⌝ }
 {
     u32_at(book, 4)

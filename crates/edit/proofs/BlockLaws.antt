@@ -1,4 +1,4 @@
--- A record added to a block of trades, a gap in it closed, and the header's count changed, by what the blocks hold. Assumes nothing.
+-- A record added to a block of trades, a gap in it closed, and the header's count changed, by what the blocks hold.
 use mathlib.Core.Path.{_≡_, refl, sym, _∙_, ap}
 use mathlib.Core.List.{List, [], _∷_, _++_, append-assoc, append-nil, flatten}
 use Prim.Native.Nat.{ℕ, suc, _+_, _-_, _*_, _≤_, _<_}
@@ -13,11 +13,12 @@ use Rattle.layout.specs.Check.{sealed}
 use Rattle.layout.proofs.Bytes.{length-put, put-put, put-whole, put-behind, put-over, part-behind, part-front}
 use Rattle.layout.proofs.Field.{length-bytes}
 use Rattle.layout.proofs.Sealed.{length-sealed, part-sealed}
-use Rattle.book.specs.Parts.{recordPlace}
+use Rattle.book.specs.Parts.{Header, recordPlace}
 use Rattle.book.specs.Encode.{block, headerBlock, tradeBlock}
+use Rattle.book.proofs.HeaderBlock.{length-headerBytes}
 use Rattle.edit.specs.Blocks.{withRecord, bareBlock, withTradeBlocks, closedUp}
 use Rattle.edit.proofs.Joined.{flatten-none, flatten-cons, flatten-append}
-use Rattle.edit.proofs.Alike.{alike-sym, alike-sealed, alike-set, alike-put, sealed-alike}
+use Rattle.edit.proofs.Resealed.{take-set, take-put, resealed}
 
 -- ---- by way of a spare block: what the copies of `close_up` leave
 
@@ -93,13 +94,10 @@ module _ (number : ℕ) (rs : List (List ℕ)) (r : List ℕ) (each : Each 56 rs
   unfolding withRecord
   added =
       let n = length rs in
-      let bytes = tradeBytes number n rs in
       let one : length (rs ++ r ∷ []) ≡ n + 1 = length-append rs (r ∷ []) in
-      let long₂ : length (set (put (sealed bytes) (recordPlace n) r) 1 (n + 1)) ≡ 512 =
-      simp (length-set, length-put, length-sealed) (length-bare number rs each (omega arith) n) in
       rw (is-sealed number rs)
-      (sealed-alike (set (put (sealed bytes) (recordPlace n) r) 1 (n + 1)) (set (put bytes (recordPlace n) r) 1 (n + 1))
-      (alike-set _ _ 1 (n + 1) (alike-put _ _ (recordPlace n) r (alike-sealed bytes))) long₂
+      (resealed (tradeBytes number n rs) (λ (b : List ℕ). set (put b (recordPlace n) r) 1 (n + 1)) (length-bare number rs each (omega arith) n)
+      (λ c. simp (length-set, length-put)) (λ c. simp (take-set, take-put))
       ∙ rw (filled n, recounted number (rs ++ r ∷ []) n (n + 1), is-sealed number (rs ++ r ∷ []), one) refl)
 
 -- ---- a new block
@@ -116,61 +114,47 @@ bare-bytes number =
 pub opened : (number : ℕ) (r : List ℕ) → length r ≡ 56 → withRecord (bareBlock number) 0 r ≡ tradeBlock number (r ∷ [])
 unfolding withRecord
 opened number r long =
-    let bytes = tradeBytes number 0 [] in
     let none : Each {A = ℕ} 56 [] = λ k h. absurd (omega arith) in
-    let long₂ : length (set (put bytes 4 r) 1 1) ≡ 512 = simp (length-set, length-put) (length-bare number [] none (omega arith) 0) in
     rw (bare-bytes number)
-    (sealed-alike (set (put bytes 4 r) 1 1) (set (put (sealed bytes) 4 r) 1 1)
-    (alike-sym (alike-set _ _ 1 1 (alike-put _ _ 4 r (alike-sealed bytes)))) long₂
+    (sym
+    (resealed (tradeBytes number 0 []) (λ (b : List ℕ). set (put b 4 r) 1 1) (length-bare number [] none (omega arith) 0)
+    (λ c. simp (length-set, length-put)) (λ c. simp (take-set, take-put)))
     ∙ rw (← is-sealed number []) (added number [] r none long (omega arith)))
 
 -- ---- the header's count
 
-headerFront : ℕ → ℕ → List ℕ
-headerFront a curves = 1 ∷ 0 ∷ bytesOf 2 0 ++ (bytesOf 4 a ++ bytesOf 2 curves)
-
-length-headerFront : (a curves : ℕ) → length (headerFront a curves) ≡ 10
-unfolding headerFront
-length-headerFront a curves =
-    omega (arith, length-append (1 ∷ 0 ∷ bytesOf 2 0) (bytesOf 4 a ++ bytesOf 2 curves), length-append (bytesOf 4 a) (bytesOf 2 curves), length-bytes 2 0, length-bytes 4 a, length-bytes 2 curves)
-
-headerBytes : ℕ → ℕ → ℕ → List ℕ
-headerBytes a curves trades = headerFront a curves ++ (bytesOf 2 trades ++ replicate 500 0)
-
-length-headerBytes : (a curves trades : ℕ) → length (headerBytes a curves trades) ≡ 512
-unfolding headerBytes
-length-headerBytes a curves trades =
-    simp (length-append, length-headerFront, length-bytes, length-replicate)
-
-is-header : (a curves trades : ℕ) → headerBlock a curves trades ≡ sealed (headerBytes a curves trades)
-unfolding headerBlock block headerBytes headerFront
-is-header a curves trades =
-    let named : List ℕ = bytesOf 4 a ++ bytesOf 2 curves in
-    let left : 508 - length (named ++ bytesOf 2 trades) ≡ 500 =
-    omega (arith, length-append named (bytesOf 2 trades), length-append (bytesOf 4 a) (bytesOf 2 curves), length-bytes 4 a, length-bytes 2 curves, length-bytes 2 trades) in
-    ap sealed
-    (ap (λ (n : ℕ). 1 ∷ 0 ∷ bytesOf 2 0 ++ (named ++ bytesOf 2 trades) ++ replicate n 0) left
-    ∙ regrouped (1 ∷ 0 ∷ bytesOf 2 0) named (bytesOf 2 trades) (replicate 500 0))
+-- one of the fields that a block names, written over
+named-written : (kind count number : ℕ) (before old behind new : List ℕ) → length old ≡ length new → length (before ++ old ++ behind) ≤ 504
+    → sealed (put (block kind count number (before ++ old ++ behind)) (4 + length before) new) ≡ block kind count number (before ++ new ++ behind)
+unfolding block
+named-written kind count number before old behind new same short =
+    let first : List ℕ = kind ∷ count ∷ bytesOf 2 number in
+    let wide = length-bytes 2 number in
+    let left : 508 - length (before ++ old ++ behind) ≡ 508 - length (before ++ new ++ behind) = simp length-append (omega arith) in
+    let blank : List ℕ = replicate (508 - length (before ++ old ++ behind)) 0 in
+    let place : 4 + length before ≡ length (first ++ before) + 0 = omega (arith, length-append first before) in
+    let named = before ++ old ++ behind in
+    let whole : length (first ++ named ++ blank) ≡ 512 = omega (arith, length-append (first ++ named) blank, length-append first named, length-replicate {A = ℕ} (508 - length named) 0) in
+    resealed (first ++ named ++ blank) (λ (b : List ℕ). put b (4 + length before) new) whole
+    (λ c. length-put c (4 + length before) new) (λ c. take-put 508 c (4 + length before) new)
+    ∙ ap sealed
+    (ap (λ (l : List ℕ). put l (4 + length before) new) (regrouped first before old behind blank)
+    ∙ ap (λ (n : ℕ). put (first ++ before ++ (old ++ (behind ++ blank))) n new) place
+    ∙ put-behind (first ++ before) (old ++ (behind ++ blank)) 0 new
+    ∙ ap (λ (l : List ℕ). first ++ before ++ l) (put-over old new (behind ++ blank) same)
+    ∙ sym (regrouped first before new behind blank)
+    ∙ ap (λ (n : ℕ). first ++ (before ++ new ++ behind) ++ replicate n 0) left)
   where
-    regrouped : (w x y z : List ℕ) → w ++ (x ++ y) ++ z ≡ w ++ x ++ (y ++ z)
-    regrouped w x y z = simp append-assoc
+    regrouped : (v w x y z : List ℕ) → v ++ (w ++ x ++ y) ++ z ≡ v ++ w ++ (x ++ (y ++ z))
+    regrouped v w x y z = simp append-assoc
 
-pub recount : (a curves trades other : ℕ) → withTradeBlocks (headerBlock a curves trades) other ≡ headerBlock a curves other
-unfolding withTradeBlocks headerBytes
-recount a curves trades other =
-    let bytes = headerBytes a curves trades in
-    let long : length (put (sealed bytes) 10 (bytesOf 2 other)) ≡ 512 =
-    length-put (sealed bytes) 10 (bytesOf 2 other) ∙ length-sealed bytes ∙ length-headerBytes a curves trades in
-    rw (is-header a curves trades, is-header a curves other)
-    (sealed-alike (put (sealed bytes) 10 (bytesOf 2 other)) (put bytes 10 (bytesOf 2 other)) (alike-put _ _ 10 (bytesOf 2 other) (alike-sealed bytes)) long
-    ∙ ap sealed written)
-  where
-    written : put (headerBytes a curves trades) 10 (bytesOf 2 other) ≡ headerBytes a curves other
-    written =
-        let place : 10 ≡ length (headerFront a curves) + 0 = omega (arith, length-headerFront a curves) in
-        ap (λ (n : ℕ). put (headerBytes a curves trades) n (bytesOf 2 other)) place
-        ∙ put-behind (headerFront a curves) (bytesOf 2 trades ++ replicate 500 0) 0 (bytesOf 2 other)
-        ∙ ap (λ (l : List ℕ). headerFront a curves ++ l) (put-over (bytesOf 2 trades) (bytesOf 2 other) (replicate 500 0) (length-bytes 2 trades ∙ sym (length-bytes 2 other)))
+pub recount : (header : Header) (curves trades other : ℕ) → withTradeBlocks (headerBlock header curves trades) other ≡ headerBlock header curves other
+unfolding withTradeBlocks headerBlock
+recount header curves trades other =
+    let before = bytesOf 4 (header .account) ++ bytesOf 2 curves in
+    let place : 4 + length before ≡ 10 = omega (arith, length-append (bytesOf 4 (header .account)) (bytesOf 2 curves), length-bytes 4 (header .account), length-bytes 2 curves) in
+    let short : length (before ++ bytesOf 2 trades ++ []) ≤ 504 = rw append-nil (omega (arith, length-headerBytes header curves trades)) in
+    rw place at (simp append-nil at (named-written 1 0 0 before (bytesOf 2 trades) [] (bytesOf 2 other) (length-bytes 2 trades ∙ sym (length-bytes 2 other)) short))
 
 -- ---- a gap closed
 
@@ -282,15 +266,12 @@ module _ (number : ℕ) (rs : List (List ℕ)) (place : ℕ) (next : List ℕ) (
       let n = length rs in
       let bytes = tradeBytes number n rs in
       let from = recordPlace place + 56 in
-      let same : part (sealed bytes) from (508 - from) ≡ part bytes from (508 - from) =
-      part-sealed bytes from (508 - from) (omega (arith, length-bare number rs each few n)) (omega arith) in
-      let whole : length (set (put (put (sealed bytes) (recordPlace place) (part bytes from (508 - from))) 452 next) 1 count) ≡ 512 =
-      simp (length-set, length-put, length-sealed) (length-bare number rs each few n) in
+      let tail = part bytes from (508 - from) in
+      let whole = length-bare number rs each few n in
+      let same : part (sealed bytes) from (508 - from) ≡ tail = part-sealed bytes from (508 - from) (omega arith) (omega arith) in
       rw (is-sealed number rs, same)
-      (sealed-alike
-      (set (put (put (sealed bytes) (recordPlace place) (part bytes from (508 - from))) 452 next) 1 count)
-      (set (put (put bytes (recordPlace place) (part bytes from (508 - from))) 452 next) 1 count)
-      (alike-set _ _ 1 count (alike-put _ _ 452 next (alike-put _ _ (recordPlace place) (part bytes from (508 - from)) (alike-sealed bytes)))) whole
+      (resealed bytes (λ (b : List ℕ). set (put (put b (recordPlace place) tail) 452 next) 1 count) whole
+      (λ c. simp (length-set, length-put)) (λ c. simp (take-set, take-put))
       ∙ rw (closed-bytes n, laid-as, recounted number qs n count, is-sealed number qs, e) refl)
 
 -- a full block: the next record comes last

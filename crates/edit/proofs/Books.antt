@@ -1,4 +1,4 @@
--- A book as a list of blocks, of 512 bytes each: a block read, and one changed. Assumes nothing.
+-- A book as a list of blocks, of 512 bytes each: a block read, and one changed.
 use mathlib.Core.Path.{_≡_, refl, sym, _∙_, ap}
 use mathlib.Core.List.{List, [], _∷_, _++_, append-assoc, flatten}
 use Prim.Native.Nat.{ℕ, zero, suc, _+_, _-_, _*_, _≤_, _<_}
@@ -11,10 +11,11 @@ use Rattle.laws.specs.Walk.{table}
 use Rattle.laws.proofs.Walk.{length-table, getD-table}
 use Rattle.laws.proofs.Tables.{Each, part-flatten, table-add, table-same}
 use Rattle.layout.specs.Bytes.{part, put, onBlock}
-use Rattle.book.specs.Encode.{headerBlock, tradeBlock, blocksFor, recordsOfBlock, tradeBlocksOf, blocks, encode}
+use Rattle.book.specs.Parts.{Header}
+use Rattle.book.specs.Encode.{headerBlock, tradeBlock, blocksFor, recordsOfBlock, tradeBlocksOf, bookBlocks, encode}
 use Rattle.book.proofs.Encoded.{length-nine, nine-each}
 use Rattle.book.proofs.TradeBlock.{length-trades}
-use Rattle.edit.proofs.Joined.{put-flatten, put-next}
+use Rattle.edit.proofs.Joined.{put-flatten, put-at-end}
 
 -- ---- lists
 
@@ -115,7 +116,7 @@ module _ (h : List ℕ) (cs : List (List ℕ)) (f : ℕ → List ℕ) (n : ℕ) 
           → put (flatten (laidOut h cs f n) ++ rest) ((1 + length cs + n) * 512) (f n) ≡ flatten (laidOut h cs f (n + 1)) ++ drop 512 rest
       trade-added m l =
           ap (λ (k : ℕ). put (flatten (laidOut h cs f n) ++ rest) (k * 512) (f n)) (sym length-laid)
-          ∙ put-next 512 (laidOut h cs f n) laid-each rest (f n) m l
+          ∙ put-at-end 512 (laidOut h cs f n) laid-each rest (f n) m l
           ∙ ap (λ (t : List (List ℕ)). flatten t ++ drop 512 rest) laid-more
 
 pub laid-same : (h : List ℕ) (cs : List (List ℕ)) (f g : ℕ → List ℕ) (n : ℕ) → ((i : ℕ) → i < n → f i ≡ g i) → laidOut h cs f n ≡ laidOut h cs g n
@@ -127,10 +128,10 @@ laid-same h cs f g n same =
 abbrev pub tradesAt : ℕ → List (List ℕ) → ℕ → List ℕ
 tradesAt first rs j = tradeBlock (first + j) (recordsOfBlock rs j)
 
-pub encode-laid : (a : ℕ) (cs rs : List (List ℕ))
-    → encode a cs rs ≡ flatten (laidOut (headerBlock a (length cs) (blocksFor (length rs))) cs (tradesAt (1 + length cs) rs) (blocksFor (length rs)))
-unfolding encode blocks tradeBlocksOf
-encode-laid a cs rs = refl
+pub encode-laid : (header : Header) (cs rs : List (List ℕ))
+    → encode header cs rs ≡ flatten (laidOut (headerBlock header (length cs) (blocksFor (length rs))) cs (tradesAt (1 + length cs) rs) (blocksFor (length rs)))
+unfolding encode bookBlocks tradeBlocksOf
+encode-laid header cs rs = refl
 
 pub length-tradesAt : (first : ℕ) (rs : List (List ℕ)) (j : ℕ) → Each 56 rs → length (tradesAt first rs j) ≡ 512
 length-tradesAt first rs j each =

@@ -1,4 +1,4 @@
--- The encoding of a book's parts with a record fewer, block by block. Assumes nothing.
+-- The encoding of a book's parts with a record fewer, block by block.
 use mathlib.Core.Path.{_≡_, sym, _∙_, ap}
 use mathlib.Core.Bool.{cond}
 use mathlib.Core.List.{List, [], _∷_, _++_, append-nil, flatten}
@@ -14,7 +14,7 @@ use lib.Seq.{ext-getD, length-take-le, getD-take, getD-drop, getD-append-add, ge
 use Rattle.laws.specs.Walk.{run}
 use Rattle.laws.proofs.Tables.{Each}
 use Rattle.layout.specs.Bytes.{put, onBlock}
-use Rattle.book.specs.Parts.{curveCount, recordAt}
+use Rattle.book.specs.Parts.{Header, curveCount, recordAt}
 use Rattle.book.specs.Encode.{headerBlock, tradeBlock, blocksFor, recordsOfBlock, encode}
 use Rattle.book.proofs.HeaderBlock.{length-header}
 use Rattle.book.proofs.TradeBlock.{record-trades}
@@ -146,7 +146,7 @@ module _ (rs : List (List ℕ)) (p : ℕ) (in-list : p < length rs) where
 
 -- ---- the blocks, closed one after the other
 
-module _ (a : ℕ) (cs rs : List (List ℕ)) (p : ℕ) (rest : List ℕ) (fine : Encodable a cs rs) (in-list : p < length rs) where
+module _ (header : Header) (cs rs : List (List ℕ)) (p : ℕ) (rest : List ℕ) (fine : Encodable header cs rs) (in-list : p < length rs) where
   abbrev first : ℕ
   first = 1 + length cs
 
@@ -159,8 +159,8 @@ module _ (a : ℕ) (cs rs : List (List ℕ)) (p : ℕ) (rest : List ℕ) (fine :
   abbrev t : ℕ
   t = blocksFor (length rs)
 
-  abbrev header : List ℕ
-  header = headerBlock a (length cs) t
+  abbrev head : List ℕ
+  head = headerBlock header (length cs) t
 
   -- the blocks before j as they are to be, the others as they were
   abbrev mixed : ℕ → ℕ → List ℕ
@@ -176,14 +176,14 @@ module _ (a : ℕ) (cs rs : List (List ℕ)) (p : ℕ) (rest : List ℕ) (fine :
   each-mixed j i = go (decLt i j)
     where
       go : Dec (i < j) → length (mixed j i) ≡ 512
-      go (yes l) = rw (mixed-new j i l) (length-tradesAt first fewer i (each-without rs p in-list (fine .trades)))
-      go (no l) = rw (mixed-old j i (omega arith)) (length-tradesAt first rs i (fine .trades))
+      go (yes l) = rw (mixed-new j i l) (length-tradesAt first fewer i (each-without rs p in-list (fine .each-record)))
+      go (no l) = rw (mixed-old j i (omega arith)) (length-tradesAt first rs i (fine .each-record))
 
-  whole : (j : ℕ) → Whole header cs (mixed j) t
-  whole j = record { head = length-header a (length cs) t; rates = fine .curves; each = λ i l. each-mixed j i }
+  whole : (j : ℕ) → Whole head cs (mixed j) t
+  whole j = record { head = length-header header (length cs) t; rates = fine .each-curve; each = λ i l. each-mixed j i }
 
   pub during : ℕ → List ℕ
-  during j = flatten (laidOut header cs (mixed j) t) ++ rest
+  during j = flatten (laidOut head cs (mixed j) t) ++ rest
 
   -- the record that moves up
   moves : (j : ℕ) → j * 9 + 9 ≤ left → curveCount (during j) ≡ length cs → movedUp (during j) left j ≡ getD rs (j * 9 + 9) []
@@ -193,8 +193,8 @@ module _ (a : ℕ) (cs rs : List (List ℕ)) (p : ℕ) (rest : List ℕ) (fine :
       let m : (j * 9 + 9) % 9 ≡ 0 = omega arith in
       let k : (j + 1) * 9 + 0 ≡ j * 9 + 9 = omega arith in
       let n = length-nine rs (j + 1) in
-      rw (le-leb (j * 9 + 9) left h, q, m, e, trade-read header cs (mixed j) t (whole j) rest (j + 1) (omega arith), mixed-old j (j + 1) (omega arith))
-      (record-trades (first + (j + 1)) (recordsOfBlock rs (j + 1)) (omega arith) (nine-each rs (j + 1) (fine .trades)) 0 (omega arith)
+      rw (le-leb (j * 9 + 9) left h, q, m, e, trade-read head cs (mixed j) t (whole j) rest (j + 1) (omega arith), mixed-old j (j + 1) (omega arith))
+      (record-trades (first + (j + 1)) (recordsOfBlock rs (j + 1)) (omega arith) (nine-each rs (j + 1) (fine .each-record)) 0 (omega arith)
       ∙ nine-at rs (j + 1) 0 (omega arith)
       ∙ rw k)
 
@@ -206,15 +206,15 @@ module _ (a : ℕ) (cs rs : List (List ℕ)) (p : ℕ) (rest : List ℕ) (fine :
   unfolding closedBlock during
   turn j from to e =
       rw e
-      (trade-changed header cs (mixed j) t (whole j) rest
+      (trade-changed head cs (mixed j) t (whole j) rest
       (λ (b : List ℕ). closedUp b (p - j * 9) (movedUp (during j) left j) (min 9 (left - j * 9))) (mixed (j + 1)) j (omega arith)
       (rw (mixed-old j j (omega arith), mixed-new (j + 1) j (omega arith)) (closed (decLe (j * 9 + 9) left)))
       (each-mixed (j + 1) j)
       (λ i l n. others i n (decLt i j)))
     where
       closed : Dec (j * 9 + 9 ≤ left) → closedUp (tradesAt first rs j) (p - j * 9) (movedUp (during j) left j) (min 9 (left - j * 9)) ≡ tradesAt first fewer j
-      closed (yes h) = rw (moves j h e) (closed-within rs p in-list j (omega arith) (omega arith) (first + j) (fine .trades) h)
-      closed (no h) = rw (moves-none j (omega arith)) (closed-at-end rs p in-list j (omega arith) (omega arith) (first + j) (fine .trades) (omega arith))
+      closed (yes h) = rw (moves j h e) (closed-within rs p in-list j (omega arith) (omega arith) (first + j) (fine .each-record) h)
+      closed (no h) = rw (moves-none j (omega arith)) (closed-at-end rs p in-list j (omega arith) (omega arith) (first + j) (fine .each-record) (omega arith))
 
       others : (i : ℕ) → (i ≡ j → ⊥) → Dec (i < j) → mixed j i ≡ mixed (j + 1) i
       others i n (yes l) = mixed-new j i l ∙ sym (mixed-new (j + 1) i (omega arith))
@@ -231,17 +231,17 @@ module _ (a : ℕ) (cs rs : List (List ℕ)) (p : ℕ) (rest : List ℕ) (fine :
       rw (next, k) (turns m (j + 1) (omega arith) (omega arith) kept ∙ ap during q)
 
   -- as the book was
-  start : encode a cs rs ++ rest ≡ during (p / 9)
+  start : encode header cs rs ++ rest ≡ during (p / 9)
   unfolding during
   start =
-      rw (encode-laid a cs rs)
-      (ap (λ (l : List (List ℕ)). flatten l ++ rest) (laid-same header cs (tradesAt first rs) (mixed (p / 9)) t (λ i l. same i (decLt i (p / 9)))))
+      rw (encode-laid header cs rs)
+      (ap (λ (l : List (List ℕ)). flatten l ++ rest) (laid-same head cs (tradesAt first rs) (mixed (p / 9)) t (λ i l. same i (decLt i (p / 9)))))
     where
       same : (i : ℕ) → Dec (i < p / 9) → tradesAt first rs i ≡ mixed (p / 9) i
       same i (yes l) = sym (mixed-new (p / 9) i l ∙ ap (tradeBlock (first + i)) (nine-before rs p in-list i (omega arith)))
       same i (no l) = sym (mixed-old (p / 9) i (omega arith))
 
-  pub closed-gap : (s : List ℕ) → s ≡ encode a cs rs ++ rest → curveCount s ≡ length cs → closedGap s p left ≡ during (blocksFor left)
+  pub closed-gap : (s : List ℕ) → s ≡ encode header cs rs ++ rest → curveCount s ≡ length cs → closedGap s p left ≡ during (blocksFor left)
   unfolding closedGap
   closed-gap s is e =
       let begun : s ≡ during (p / 9) = is ∙ start in
@@ -249,32 +249,32 @@ module _ (a : ℕ) (cs rs : List (List ℕ)) (p : ℕ) (rest : List ℕ) (fine :
       rw begun (turns (blocksFor left - p / 9) (p / 9) (omega arith) (omega arith) (ap curveCount (sym begun) ∙ e) ∙ ap during q)
 
   -- no block is left empty
-  pub kept-blocks : (left % 9 ≡ 0 → ⊥) → during (blocksFor left) ≡ encode a cs fewer ++ rest
+  pub kept-blocks : (left % 9 ≡ 0 → ⊥) → during (blocksFor left) ≡ encode header cs fewer ++ rest
   unfolding during
   kept-blocks some =
       let n : length fewer ≡ left = length-without rs p in-list in
       let same : blocksFor left ≡ t = omega arith in
-      rw (encode-laid a cs fewer, n, same)
-      (ap (λ (l : List (List ℕ)). flatten l ++ rest) (laid-same header cs (mixed t) (tradesAt first fewer) t (λ i l. mixed-new t i l)))
+      rw (encode-laid header cs fewer, n, same)
+      (ap (λ (l : List (List ℕ)). flatten l ++ rest) (laid-same head cs (mixed t) (tradesAt first fewer) t (λ i l. mixed-new t i l)))
 
   -- the last is
   pub emptied : left % 9 ≡ 0
       → onBlock (λ (b : List ℕ). withTradeBlocks b (t - 1)) (put (during (blocksFor left)) ((first + blocksFor left) * 512) (replicate 512 0)) 0
-      ≡ encode a cs fewer ++ replicate 512 0 ++ rest
+      ≡ encode header cs fewer ++ replicate 512 0 ++ rest
   unfolding during
   emptied full =
       let u = blocksFor left in
       let n : length fewer ≡ left = length-without rs p in-list in
       let one : t ≡ u + 1 = omega arith in
       let less : t - 1 ≡ u = omega arith in
-      let written = trade-put header cs (mixed u) t (whole u) rest new u (omega arith) (ap length new-last ∙ length-replicate {A = ℕ} 512 0) (λ i l e. others i e (omega arith)) in
-      let headed : withTradeBlocks header u ≡ headerBlock a (length cs) u = recount a (length cs) t u in
+      let written = trade-put head cs (mixed u) t (whole u) rest new u (omega arith) (ap length new-last ∙ length-replicate {A = ℕ} 512 0) (λ i l e. others i e (omega arith)) in
+      let headed : withTradeBlocks head u ≡ headerBlock header (length cs) u = recount header (length cs) t u in
       rw less
       (ap (λ (l : List ℕ). onBlock (λ (b : List ℕ). withTradeBlocks b u) l 0) (rw new-last at written)
-      ∙ header-changed header cs new t whole-new rest (λ (b : List ℕ). withTradeBlocks b u) (rw headed (length-header a (length cs) u))
-      ∙ rw (headed, one, encode-laid a cs fewer, n)
-      (ap (λ (l : List (List ℕ)). flatten l ++ rest) (sym (laid-more (headerBlock a (length cs) u) cs new u))
-      ∙ rw (flatten-append (laidOut (headerBlock a (length cs) u) cs new u) (new u ∷ []), flatten-cons (new u) [], flatten-none, append-nil, new-last, laid-same (headerBlock a (length cs) u) cs new (tradesAt first fewer) u (λ i l. new-before i l))))
+      ∙ header-changed head cs new t whole-new rest (λ (b : List ℕ). withTradeBlocks b u) (rw headed (length-header header (length cs) u))
+      ∙ rw (headed, one, encode-laid header cs fewer, n)
+      (ap (λ (l : List (List ℕ)). flatten l ++ rest) (sym (laid-more (headerBlock header (length cs) u) cs new u))
+      ∙ rw (flatten-append (laidOut (headerBlock header (length cs) u) cs new u) (new u ∷ []), flatten-cons (new u) [], flatten-none, append-nil, new-last, laid-same (headerBlock header (length cs) u) cs new (tradesAt first fewer) u (λ i l. new-before i l))))
     where
       new : ℕ → List ℕ
       new i = cond (ltb i (blocksFor left)) (tradesAt first fewer i) (replicate 512 0)
@@ -289,8 +289,8 @@ module _ (a : ℕ) (cs rs : List (List ℕ)) (p : ℕ) (rest : List ℕ) (fine :
       others i e l = mixed-new (blocksFor left) i (omega arith) ∙ sym (new-before i (omega arith))
 
       each-new : (i : ℕ) → Dec (i < blocksFor left) → length (new i) ≡ 512
-      each-new i (yes l) = rw (new-before i l) (length-tradesAt first fewer i (each-without rs p in-list (fine .trades)))
+      each-new i (yes l) = rw (new-before i l) (length-tradesAt first fewer i (each-without rs p in-list (fine .each-record)))
       each-new i (no l) = rw (le-ltb i (blocksFor left) (omega arith)) (length-replicate {A = ℕ} 512 0)
 
-      whole-new : Whole header cs new t
-      whole-new = record { head = length-header a (length cs) t; rates = fine .curves; each = λ i l. each-new i (decLt i (blocksFor left)) }
+      whole-new : Whole head cs new t
+      whole-new = record { head = length-header header (length cs) t; rates = fine .each-curve; each = λ i l. each-new i (decLt i (blocksFor left)) }

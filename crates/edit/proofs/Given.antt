@@ -1,4 +1,4 @@
--- What a verdict that refuses nothing says, of an append and of a position. Assumes nothing.
+-- What a verdict that refuses nothing says, of an append and of a position.
 use mathlib.Core.Path.{_≡_}
 use mathlib.Core.Logic.{_⊎_, inl, inr}
 use mathlib.Core.Bool.{true, false, _||_}
@@ -15,13 +15,13 @@ use Rattle.book.specs.Verdict.{bytesVerdict, verdict}
 use Rattle.ground.proofs.Verdicts.{unless-accepted, orElse-accepted}
 use Rattle.edit.specs.Refusals.{blockOf, breaksPosition, breaksBookSpace, positionVerdict, newRecordVerdict, appendVerdict}
 
-pub record Placed (s : List ℕ) (used position : ℕ) : Type 0 where
+pub record HasTrade (s : List ℕ) (used position : ℕ) : Type 0 where
   pub accepted : verdict s used ≡ Accepted
   pub in-book : position < tradeCount s
 
-pub placed : (s : List ℕ) (used position : ℕ) → positionVerdict s used position ≡ Accepted → Placed s used position
+pub has-trade : (s : List ℕ) (used position : ℕ) → positionVerdict s used position ≡ Accepted → HasTrade s used position
 unfolding positionVerdict breaksPosition
-placed s used position h =
+has-trade s used position h =
     let p = orElse-accepted (verdict s used) _ h in
     let q = unless-accepted (breaksPosition s position) Position 0 Accepted (p .1) in
     record { accepted = p .0; in-book = ltb-true position (tradeCount s) (not-false _ (q .0)) }
@@ -38,6 +38,10 @@ admitted s used r h =
     let q = orElse-accepted (bytesVerdict (curvesOf s) r (blockOf s (tradeCount s))) _ (p .1) in
     let t = unless-accepted (breaksBookSpace (tradeCount s) used (length s)) BookSpace 0 Accepted (q .1) in
     record { accepted = p .0; judged = q .0; roomy = t .0 }
+
+pub admits : (s : List ℕ) (used : ℕ) (r : List ℕ) → Admitted s used r → appendVerdict s used r ≡ Accepted
+unfolding appendVerdict newRecordVerdict
+admits s used r a = rw (a .accepted, a .judged, a .roomy)
 
 -- where a new block is needed, there is one to be had
 pub record Room (used lent : ℕ) : Type 0 where

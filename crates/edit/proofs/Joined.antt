@@ -1,4 +1,4 @@
--- Bytes written into the joined list of lists that are all of one length: records in a block, blocks in a book. Assumes nothing.
+-- Bytes written into the joined list of lists that are all of one length: records in a block, blocks in a book.
 use mathlib.Core.Path.{_≡_, refl, sym, _∙_, ap}
 use mathlib.Core.List.{List, [], _∷_, _++_, append-assoc, flatten}
 use Prim.Native.Nat.{ℕ, zero, suc, _+_, _*_, _≤_, _<_}
@@ -42,13 +42,13 @@ module _ (n : ℕ) where
       ∙ sym (append-assoc x (flatten (set ls k l)) rest)
 
   -- one more behind them
-  pub put-next : (ls : List (List ℕ)) → Each n ls → (rest l : List ℕ) → length l ≡ n → n ≤ length rest → put (flatten ls ++ rest) (length ls * n) l ≡ flatten (ls ++ l ∷ []) ++ drop n rest
+  pub put-at-end : (ls : List (List ℕ)) → Each n ls → (rest l : List ℕ) → length l ≡ n → n ≤ length rest → put (flatten ls ++ rest) (length ls * n) l ≡ flatten (ls ++ l ∷ []) ++ drop n rest
   unfolding flatten
-  put-next [] each rest l e h =
+  put-at-end [] each rest l e h =
       rw (zero-mul, append-assoc)
       (ap (λ (t : List ℕ). put t 0 l) (sym (take-append-drop n rest)) ∙ put-over (take n rest) l (drop n rest) (length-take-le n rest h ∙ sym e))
-  put-next (x ∷ ls) each rest l e h =
+  put-at-end (x ∷ ls) each rest l e h =
       let w : suc (length ls) * n ≡ length x + length ls * n = omega (arith, suc-mul (length ls) n, each 0 (omega arith)) in
       rw (append-assoc, w) (put-behind x (flatten ls ++ rest) (length ls * n) l)
-      ∙ ap (λ (t : List ℕ). x ++ t) (put-next ls (λ j m. each (suc j) (omega arith)) rest l e h)
+      ∙ ap (λ (t : List ℕ). x ++ t) (put-at-end ls (λ j m. each (suc j) (omega arith)) rest l e h)
       ∙ sym (append-assoc x (flatten (ls ++ l ∷ [])) (drop n rest))

@@ -1,5 +1,5 @@
 pub mod Joined
-pub mod Alike
+pub mod Resealed
 pub mod BlockLaws
 pub mod StepLaws
 pub mod Books
@@ -9,3 +9,4 @@ pub mod Given
 pub mod Lent
 pub mod Theorems
 pub mod Space
+pub mod ReadBack

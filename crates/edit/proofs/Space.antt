@@ -1,5 +1,4 @@
 -- Ground 15 is given only where a new block is needed and none is to be had: the book's own grounds, and a record's, are 1 to 12.
--- Assumes nothing.
 use mathlib.Core.Path.{_≡_, refl}
 use mathlib.Core.Logic.{_⊎_}
 use mathlib.Core.Bool.{Bool, true, false, cond}

@@ -1,4 +1,4 @@
--- What the calls of a step leave, and what a step keeps. Assumes nothing.
+-- What the calls of a step leave, and what a step keeps.
 use mathlib.Core.Path.{_≡_, refl, _∙_}
 use mathlib.Core.Logic.{inl}
 use mathlib.Core.List.{List, _++_}
@@ -13,7 +13,7 @@ use Rattle.layout.proofs.Field.{field-apart}
 use Rattle.layout.proofs.Sealed.{length-sealed}
 use Rattle.book.specs.Parts.{curveCount, tradeBlocks}
 use Rattle.book.specs.Encode.{blocksFor}
-use Rattle.edit.specs.Blocks.{withRecord, bareBlock, withTradeBlocks, closedUp, grown, shrunk, movedUp, closedBlock, closedGap}
+use Rattle.edit.specs.Blocks.{withRecord, bareBlock, withTradeBlocks, closedUp, lengthened, shrunk, movedUp, closedBlock, closedGap}
 
 -- ---- lengths
 
@@ -51,8 +51,8 @@ header-left t n h e =
 
 pub grow-left : (s : List ℕ) (used : ℕ) (r : List ℕ) {blocks : ℕ} {bare b t u : List ℕ} → 512 ≤ length s
     → blocks ≡ tradeBlocks s → bare ≡ bareBlock (used / 512) → b ≡ withRecord bare 0 r → t ≡ put s used b → u ≡ withTradeBlocks (part t 0 512) (blocks + 1)
-    → take 0 t ++ (u ++ drop 512 (drop 0 t)) ≡ grown s used r
-unfolding grown
+    → take 0 t ++ (u ++ drop 512 (drop 0 t)) ≡ lengthened s used r
+unfolding lengthened
 grow-left s used r {blocks} {bare} {b} {t} h en ea eb et eu =
     let all : t ≡ put s used (withRecord (bareBlock (used / 512)) 0 r) = et ∙ rw (eb, ea) in
     let long : 512 ≤ length t = rw all (rw length-put h) in

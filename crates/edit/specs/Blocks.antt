@@ -1,5 +1,5 @@
 -- The bytes of one block changed, and the steps of an edit on the lent bytes: what the code does, as the way to what specs/Edits.antt
--- promises. Assumes nothing.
+-- promises.
 use Prim.Native.Nat.{ℕ, _+_, _-_, _*_, _/_, min}
 use mathlib.Core.Bool.{cond}
 use mathlib.Core.List.{List}
@@ -32,8 +32,8 @@ closedUp b place next count =
 -- ---- steps
 
 -- a new block behind the book, with the record, and the header's count
-unfoldable pub grown : List ℕ → ℕ → List ℕ → List ℕ
-grown s used r =
+unfoldable pub lengthened : List ℕ → ℕ → List ℕ → List ℕ
+lengthened s used r =
     onBlock (λ (b : List ℕ). withTradeBlocks b (tradeBlocks s + 1)) (put s used (withRecord (bareBlock (used / 512)) 0 r)) 0
 
 -- the last block made zeros, and the header's count

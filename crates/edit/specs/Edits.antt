@@ -1,11 +1,10 @@
 -- What a read, an append and a strike answer, and every lent byte afterwards (document 01, "Editing and smaller entries").
--- Assumes nothing.
 use Prim.Native.Nat.{ℕ, _+_, _-_}
 use mathlib.Core.List.{List, [], _∷_, _++_}
 use lib.ListN.{length, take, drop, replicate}
 use Rattle.ground.specs.declared.Verdict.{Verdict}
 use Rattle.ground.specs.declared.Verdict.the-variants as verdict
-use Rattle.book.specs.Parts.{account, curveBlocks, recordAt, records}
+use Rattle.book.specs.Parts.{headerOf, curveBlocks, recordAt, records}
 use Rattle.book.specs.Encode.{encode}
 use Rattle.edit.specs.declared.Edited.{Edited}
 use Rattle.edit.specs.declared.Edited.the-variants.{Used, Refused}
@@ -29,7 +28,7 @@ bytesAfter (verdict.Refused g k) before after = before
 
 -- the book with other records
 abbrev pub bookOf : List ℕ → List (List ℕ) → List ℕ
-bookOf s records = encode (account s) (curveBlocks s) records
+bookOf s records = encode (headerOf s) (curveBlocks s) records
 
 -- ---- read
 

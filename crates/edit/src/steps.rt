@@ -11,12 +11,12 @@ ghost use mathlib.Core.Path.{_≡_};
 ghost use Prim.Native.Nat.{_+_, _-_, _*_, _/_, _≤_, _<_, min};
 ghost use lib.ListN.{length};
 ghost use Rattle.book.specs.Parts.{curveCount, tradeBlocks};
-ghost use Rattle.edit.specs.Blocks.{grown, shrunk, movedUp, closedBlock, closedGap};
+ghost use Rattle.edit.specs.Blocks.{lengthened, shrunk, movedUp, closedBlock, closedGap};
 
 // A new block behind the book, with the record, and the header's count.
 pub fn grow(book: &mut [u8], used: usize, r: [u8; 56])
     requires { ⌜ (512 ≤ used) × (used + 512 ≤ length (now book)) ⌝ }
-    ensures { λ _. ⌜ now (book .exit) ≡ grown (now (book .entry)) used r ⌝ }
+    ensures { λ _. ⌜ now (book .exit) ≡ lengthened (now (book .entry)) used r ⌝ }
 {
     let blocks = trade_blocks(&book[..]);
     let mut b = bare_block(used / 512);

@@ -1,4 +1,5 @@
 pub mod Limits
 pub mod Facts
 pub mod RoundTrip
+pub mod Widths
 mod Written

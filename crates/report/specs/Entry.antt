@@ -8,7 +8,7 @@ use Rattle.ground.specs.declared.Ground.the-variants.{ReportSpace}
 use Rattle.ground.specs.declared.Verdict.{Verdict}
 use Rattle.ground.specs.declared.Verdict.the-variants.{Accepted, Refused}
 use Rattle.ground.specs.Verdicts.{orElse, unless}
-use Rattle.book.specs.Parts.{account}
+use Rattle.book.specs.Parts.{headerOf}
 use Rattle.book.specs.Verdict.{verdict}
 use Rattle.margin.specs.declared.Margin.{Margin}
 use Rattle.margin.specs.Margins.{marginOf}
@@ -17,7 +17,7 @@ use Rattle.exposure.specs.Exposures.{exposures}
 
 -- the margin of a book: of its account, with what it has on its curves
 unfoldable pub marginIn : List ℕ → Margin
-marginIn s = marginOf (account s) (exposures s)
+marginIn s = marginOf (headerOf s .account) (exposures s)
 
 -- 13. "The report space is under 512 bytes."
 unfoldable pub breaksReportSpace : ℕ → Bool

@@ -1,4 +1,4 @@
--- A trade that is written reads back as the same trade, and an accepted record that is read and written again is the same record. Assumes nothing.
+-- A trade that is written reads back as the same trade, and an accepted record that is read and written again is the same record.
 use mathlib.Core.Path.{_≡_, refl, sym, ap, _∙_}
 use mathlib.Core.Bool.{false}
 use mathlib.Core.List.{List}

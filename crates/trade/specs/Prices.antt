@@ -1,4 +1,4 @@
--- Clean and dirty prices (document 01, "Flows"). Assumes nothing.
+-- Clean and dirty prices (document 01, "Flows").
 use Prim.Native.Nat.{ℕ, _+_}
 use Rattle.trade.specs.declared.price.Clean.{Clean}
 use Rattle.trade.specs.declared.price.Dirty.{Dirty}

@@ -1,4 +1,4 @@
--- A trade from a record's fields (document 01, "Record"). Assumes nothing.
+-- A trade from a record's fields (document 01, "Record").
 use Prim.Native.Nat.{ℕ}
 use mathlib.Core.Bool.{cond}
 use lib.Dec.{eqb}

@@ -1,4 +1,4 @@
--- A record's fields from a trade: those that it does not use are 0 (document 01, "Fields a record doesn't use are 0"). Assumes nothing.
+-- A record's fields from a trade: those that it does not use are 0 (document 01, "Fields a record doesn't use are 0").
 use Prim.Native.Nat.{ℕ}
 use Rattle.record.specs.declared.Fields.{Fields}
 use Rattle.trade.specs.declared.CouponBond.{CouponBond}

@@ -1,4 +1,4 @@
--- `edit::add` meets its contract. Assumes nothing.
+-- `edit::add` meets its contract.
 use mathlib.Core.Path.{_≡_, sym, _∙_, ap}
 use mathlib.Core.List.{_++_}
 use Prim.Native.Nat.{ℕ, _-_, _%_}
@@ -10,7 +10,7 @@ use Rattle.book.proofs.Accepted.{sound}
 use Rattle.edit.specs.Edits.{appendedBook}
 use Rattle.edit.proofs.Given.{admitted, room}
 use Rattle.edit.proofs.StepLaws.{fill-left}
-use Rattle.edit.proofs.Lent.{length-filled, filled-lent, length-grown, grown-lent}
+use Rattle.edit.proofs.Lent.{length-filled, filled-lent, length-lengthened, lengthened-lent}
 use borrow.Author.Needs.{needs}
 use Rattle.edit.proofs.add.Statement.{statement}
 use Rattle.edit.proofs.add.Tie as tie
@@ -20,49 +20,54 @@ trade-count-requires c κs = let b = sound _ _ (admitted _ _ _ (c .before .befor
 
 grow-requires : tie.Need-grow-requires
 grow-requires c κs =
-    let w = admitted _ _ _ (c .before .before .before .before .before .pre) in
+    let counted = c .before .before in
+    let w = admitted _ _ _ (counted .before .before .before .pre) in
     let b = sound _ _ (w .accepted) in
-    let r = room _ _ _ (w .roomy) (ap (λ (n : ℕ). n % 9) (sym (c .before .before .trade-count .ensures)) ∙ c .before .if1 .taken) in
+    let r = room _ _ _ (w .roomy) (ap (λ (n : ℕ). n % 9) (sym (counted .trade-count .ensures)) ∙ c .before .if1 .taken) in
     omega arith
 
 add-result : tie.Need-add-result
-add-result c = let b = sound _ _ (admitted _ _ _ (c .before .before .before .before .before .before .before .before .pre) .accepted) in omega arith
+add-result c = let start = c .before .before .before .before .before .before .before .before in let b = sound _ _ (admitted _ _ _ (start .pre) .accepted) in omega arith
 
 returns : tie.Need-returns
 returns c =
-    let start = c .before .before .before .before .before .before .before .before in
+    let tested = c .before .before .before .before in
+    let counted = tested .before in
+    let start = counted .before .before .before in
     let s = start .args .book .now in
     let used = start .args .used in
     let r = start .args .r in
     let long : length r ≡ 56 = search needs in
     let w = admitted s used r (start .pre) in
-    let bytes : AreBytes s = λ k. omega (arith, c .before .before .before .before .before .before .before .slice-known .given k) in
-    let full = ap (λ (n : ℕ). n % 9) (sym (c .before .before .before .before .before .trade-count .ensures)) ∙ c .before .before .before .before .if1 .taken in
+    let bytes : AreBytes s = λ k. omega (arith, counted .before .before .slice-known .given k) in
+    let full = ap (λ (n : ℕ). n % 9) (sym (counted .trade-count .ensures)) ∙ tested .if1 .taken in
     let space = room (tradeCount s) used (length s) (w .roomy) full in
-    let n = length-grown s used bytes (w .accepted) r long full space in
-    (sym n, c .before .before .grow .ensures ∙ grown-lent s used bytes (w .accepted) r long full space ∙ ap (λ (k : ℕ). appendedBook s r ++ drop k s) (sym n))
+    let n = length-lengthened s used bytes (w .accepted) r long full space in
+    (sym n, c .before .before .grow .ensures ∙ lengthened-lent s used bytes (w .accepted) r long full space ∙ ap (λ (k : ℕ). appendedBook s r ++ drop k s) (sym n))
 
 sub-put-record : tie.Need-sub-put-record
-sub-put-record c = let b = sound _ _ (admitted _ _ _ (c .before .before .before .before .pre) .accepted) in omega arith
+sub-put-record c = let start = c .before .before .before .before in let b = sound _ _ (admitted _ _ _ (start .pre) .accepted) in omega arith
 
 part-put-record-end : tie.Need-part-put-record-end
-part-put-record-end c = let b = sound _ _ (admitted _ _ _ (c .before .before .before .before .pre) .accepted) in omega arith
+part-put-record-end c = let start = c .before .before .before .before in let b = sound _ _ (admitted _ _ _ (start .pre) .accepted) in omega arith
 
 put-record-requires : tie.Need-put-record-requires
-put-record-requires c κs = let b = sound _ _ (admitted _ _ _ (c .before .before .before .before .before .pre) .accepted) in omega arith
+put-record-requires c κs = let start = c .before .before .before .before .before in let b = sound _ _ (admitted _ _ _ (start .pre) .accepted) in omega arith
 
 returns-2 : tie.Need-returns-2
 returns-2 c =
-    let start = c .before .before .before .before .before .before .before .before in
+    let tested = c .before .before .before .before in
+    let counted = tested .before in
+    let start = counted .before .before .before in
     let s = start .args .book .now in
     let used = start .args .used in
     let r = start .args .r in
     let long : length r ≡ 56 = search needs in
     let w = admitted s used r (start .pre) in
     let b = sound s used (w .accepted) in
-    let bytes : AreBytes s = λ k. omega (arith, c .before .before .before .before .before .before .before .slice-known .given k) in
-    let count = c .before .before .before .before .before .trade-count .ensures in
-    let some : tradeCount s % 9 ≡ 0 → ⊥ = rw count at (c .before .before .before .before .if1 .left) in
+    let bytes : AreBytes s = λ k. omega (arith, counted .before .before .slice-known .given k) in
+    let count = counted .trade-count .ensures in
+    let some : tradeCount s % 9 ≡ 0 → ⊥ = rw count at (tested .if1 .left) in
     let n = length-filled s used bytes (w .accepted) r long some in
     let span : used - (used - 512) ≡ 512 = omega arith in
     let put = rw (span, count) at (c .before .before .put-record .ensures) in

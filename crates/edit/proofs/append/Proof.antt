@@ -1,12 +1,9 @@
--- `edit::append` meets its contract. Assumes nothing.
+-- `edit::append` meets its contract.
 use mathlib.Core.Path.{sym, _∙_}
 use Rattle.edit.specs.Edits.{appendAnswer, appended}
 use borrow.Author.Needs.{needs}
 use Rattle.edit.proofs.append.Statement.{statement}
 use Rattle.edit.proofs.append.Tie as tie
-
-enum-told : tie.Need-enum-told
-enum-told c = search needs
 
 add-requires : tie.Need-add-requires
 add-requires c κs = sym (c .before .before .before .append-verdict .ensures) ∙ c .before .enum-told .given .1
@@ -20,7 +17,8 @@ returns c =
 returns-2 : tie.Need-returns-2
 unfolding appendAnswer appended
 returns-2 c =
-    let e = sym (c .before .before .before .before .before .before .append-verdict .ensures) ∙ c .before .before .before .before .enum-told .given .1 in
+    let told = c .before .before .before .before in
+    let e = sym (told .before .before .append-verdict .ensures) ∙ told .enum-told .given .1 in
     (rw (e, c .before .before .add .ensures .0), rw e (c .before .before .add .ensures .1))
 
 pub append-spec : {M : Type 1} → statement M
@@ -29,7 +27,7 @@ append-spec =
     (tie.spec
     (λ c κs. search needs)
     (λ c. search needs)
-    enum-told
+    (λ c. search needs)
     add-requires
     (λ c. search needs)
     returns

@@ -1,19 +1,16 @@
--- `edit::read` meets its contract. Assumes nothing.
+-- `edit::read` meets its contract.
 use mathlib.Core.Path.{sym, _∙_}
 use native.Mathlib.Omega.{arith}
 use Rattle.book.proofs.Accepted.{sound, blocks-for}
 use Rattle.edit.specs.Edits.{found}
-use Rattle.edit.proofs.Given.{placed}
+use Rattle.edit.proofs.Given.{has-trade}
 use borrow.Author.Needs.{needs}
 use Rattle.edit.proofs.read.Statement.{statement}
 use Rattle.edit.proofs.read.Tie as tie
 
-enum-told : tie.Need-enum-told
-enum-told c = search needs
-
 record-at-requires : tie.Need-record-at-requires
 record-at-requires c κs =
-    let p = placed _ _ _ (sym (c .before .before .position-verdict .ensures) ∙ c .enum-told .given .1) in
+    let p = has-trade _ _ _ (sym (c .before .before .position-verdict .ensures) ∙ c .enum-told .given .1) in
     let b = sound _ _ (p .accepted) in
     let t = blocks-for _ _ b in
     omega arith
@@ -32,7 +29,7 @@ read-spec =
     (tie.spec
     (λ c κs. search needs)
     (λ c. search needs)
-    enum-told
+    (λ c. search needs)
     record-at-requires
     returns
     returns-2)

@@ -1,4 +1,4 @@
--- `edit::remove` meets its contract. Assumes nothing.
+-- `edit::remove` meets its contract.
 use mathlib.Core.Path.{_≡_, sym, _∙_, ap}
 use mathlib.Core.List.{List}
 use Prim.Native.Nat.{ℕ, _-_, _%_}
@@ -7,7 +7,7 @@ use Rattle.layout.specs.Bytes.{AreBytes}
 use Rattle.book.specs.Parts.{tradeBlocks, tradeCount}
 use Rattle.book.proofs.Accepted.{sound, blocks-for, trade-count-most}
 use Rattle.edit.specs.Blocks.{shrunk}
-use Rattle.edit.proofs.Given.{placed}
+use Rattle.edit.proofs.Given.{has-trade}
 use Rattle.edit.proofs.StepLaws.{trades-kept}
 use Rattle.edit.proofs.Lent.{length-kept, kept-lent, length-emptied, emptied-lent}
 use borrow.Author.Needs.{needs}
@@ -15,14 +15,15 @@ use Rattle.edit.proofs.remove.Statement.{statement}
 use Rattle.edit.proofs.remove.Tie as tie
 
 trade-count-requires : tie.Need-trade-count-requires
-trade-count-requires c κs = let b = sound _ _ (placed _ _ _ (c .before .before .pre) .accepted) in omega arith
+trade-count-requires c κs = let b = sound _ _ (has-trade _ _ _ (c .before .before .pre) .accepted) in omega arith
 
 sub-left : tie.Need-sub-left
-sub-left c = let p = placed _ _ _ (c .before .before .before .pre) in omega arith
+sub-left c = let p = has-trade _ _ _ (c .before .before .before .pre) in omega arith
 
 close-gap-requires : tie.Need-close-gap-requires
 close-gap-requires c κs =
-    let p = placed _ _ _ (c .before .before .before .before .pre) in
+    let start = c .before .before .before .before in
+    let p = has-trade _ _ _ (start .pre) in
     let b = sound _ _ (p .accepted) in
     let t = blocks-for _ _ b in
     let m = trade-count-most _ _ b in
@@ -30,25 +31,30 @@ close-gap-requires c κs =
 
 shrink-requires : tie.Need-shrink-requires
 shrink-requires c κs =
-    let p = placed _ _ _ (c .before .before .before .before .before .before .before .before .before .pre) in
+    let closed = c .before .before .before .before in
+    let start = closed .before .before .before .before .before in
+    let p = has-trade _ _ _ (start .pre) in
     let b = sound _ _ (p .accepted) in
     let t = blocks-for _ _ b in
-    let k = ap tradeBlocks (c .before .before .before .before .close-gap .ensures) ∙ trades-kept _ _ _ in
-    omega (arith, c .before .before .before .before .close-gap .kept .0)
+    let k = ap tradeBlocks (closed .close-gap .ensures) ∙ trades-kept _ _ _ in
+    omega (arith, closed .close-gap .kept .0)
 
 sub-result : tie.Need-sub-result
-sub-result c = let b = sound _ _ (placed _ _ _ (c .before .before .before .before .before .before .before .before .before .before .before .before .pre) .accepted) in omega arith
+sub-result c = let start = c .before .before .before .before .before .before .before .before .before .before .before .before in let b = sound _ _ (has-trade _ _ _ (start .pre) .accepted) in omega arith
 
 returns : tie.Need-returns
 returns c =
-    let start = c .before .before .before .before .before .before .before .before .before .before .before .before in
+    let tested = c .before .before .before .before in
+    let gap = tested .before .before .before in
+    let counted = gap .before .before in
+    let start = counted .before .before .before in
     let s = start .args .book .now in
     let used = start .args .used in
-    let p = placed s used (start .args .position) (start .pre) in
-    let bytes : AreBytes s = λ k. omega (arith, c .before .before .before .before .before .before .before .before .before .before .before .slice-known .given k) in
-    let count = c .before .before .before .before .before .before .before .before .before .trade-count .ensures in
-    let full : (tradeCount s - 1) % 9 ≡ 0 = rw count at (c .before .before .before .before .if1 .taken) in
-    let closed = rw count at (c .before .before .before .before .before .before .before .close-gap .ensures) in (
+    let p = has-trade s used (start .args .position) (start .pre) in
+    let bytes : AreBytes s = λ k. omega (arith, counted .before .before .slice-known .given k) in
+    let count = counted .trade-count .ensures in
+    let full : (tradeCount s - 1) % 9 ≡ 0 = rw count at (tested .if1 .taken) in
+    let closed = rw count at (gap .close-gap .ensures) in (
       sym (length-emptied s used bytes (p .accepted) (start .args .position) (p .in-book) full),
       c .before .before .shrink .ensures
           ∙ ap (λ (l : List ℕ). shrunk l used) closed
@@ -57,12 +63,13 @@ returns c =
 
 returns-2 : tie.Need-returns-2
 returns-2 c =
-    let start = c .before .before .before .before .before .before .before .before in
+    let counted = c .before .before .before .before .before in
+    let start = counted .before .before .before in
     let s = start .args .book .now in
     let used = start .args .used in
-    let p = placed s used (start .args .position) (start .pre) in
-    let bytes : AreBytes s = λ k. omega (arith, c .before .before .before .before .before .before .before .slice-known .given k) in
-    let count = c .before .before .before .before .before .trade-count .ensures in
+    let p = has-trade s used (start .args .position) (start .pre) in
+    let bytes : AreBytes s = λ k. omega (arith, counted .before .before .slice-known .given k) in
+    let count = counted .trade-count .ensures in
     let some : (tradeCount s - 1) % 9 ≡ 0 → ⊥ = rw count at (c .if1 .left) in
     let closed = rw count at (c .before .before .before .close-gap .ensures) in (
       sym (length-kept s used bytes (p .accepted) (start .args .position) (p .in-book) some),

@@ -1,12 +1,9 @@
--- `edit::strike` meets its contract. Assumes nothing.
+-- `edit::strike` meets its contract.
 use mathlib.Core.Path.{sym, _∙_}
 use Rattle.edit.specs.Edits.{strikeAnswer, struck}
 use borrow.Author.Needs.{needs}
 use Rattle.edit.proofs.strike.Statement.{statement}
 use Rattle.edit.proofs.strike.Tie as tie
-
-enum-told : tie.Need-enum-told
-enum-told c = search needs
 
 remove-requires : tie.Need-remove-requires
 remove-requires c κs = sym (c .before .before .before .position-verdict .ensures) ∙ c .before .enum-told .given .1
@@ -20,7 +17,8 @@ returns c =
 returns-2 : tie.Need-returns-2
 unfolding strikeAnswer struck
 returns-2 c =
-    let e = sym (c .before .before .before .before .before .before .position-verdict .ensures) ∙ c .before .before .before .before .enum-told .given .1 in
+    let told = c .before .before .before .before in
+    let e = sym (told .before .before .position-verdict .ensures) ∙ told .enum-told .given .1 in
     (rw (e, c .before .before .remove .ensures .0), rw e (c .before .before .remove .ensures .1))
 
 pub strike-spec : {M : Type 1} → statement M
@@ -29,7 +27,7 @@ strike-spec =
     (tie.spec
     (λ c κs. search needs)
     (λ c. search needs)
-    enum-told
+    (λ c. search needs)
     remove-requires
     (λ c. search needs)
     returns

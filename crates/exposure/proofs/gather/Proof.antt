@@ -9,7 +9,7 @@ use Rattle.trade.specs.Read.{tradeOf}
 use Rattle.flows.specs.Legs.{flowsOf, breaksFlowLimit}
 use Rattle.flows.specs.Limits.{Valued}
 use Rattle.book.specs.Parts.{tradeCount}
-use Rattle.book.proofs.Accepted.{Sound, sound, place-held, length-record, trade-count-most}
+use Rattle.book.proofs.Accepted.{Sound, sound, place-held, length-recordAt, trade-count-most}
 use Rattle.exposure.specs.Exposures.{tradeAt}
 use Rattle.exposure.proofs.Collected.{Collected, collected-none, collected-next, collected-all, accepted-at}
 use Rattle.exposure.proofs.gather.Statement.{statement}
@@ -49,7 +49,7 @@ fields-of-requires : tie.Need-fields-of-requires Inv-loop μ-loop
 fields-of-requires c κs =
     let turn = c .before .before in
     let start = turn .before .before .before .before .before in
-    ap length (c .before .record-at .ensures) ∙ length-record (start .args .book .now) (start .args .used) (here start) (turn .before .loop .i) (at turn)
+    ap length (c .before .record-at .ensures) ∙ length-recordAt (start .args .book .now) (start .args .used) (here start) (turn .before .loop .i) (at turn)
 
 trade-of-requires : tie.Need-trade-of-requires Inv-loop μ-loop
 trade-of-requires c κs = search needs

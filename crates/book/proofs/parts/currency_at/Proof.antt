@@ -1,4 +1,4 @@
--- `book::parts::currency_at` meets its contract. Assumes nothing.
+-- `book::parts::currency_at` meets its contract.
 use borrow.Author.Needs.{needs}
 use Rattle.book.proofs.Places.{curve-block, no-curve-block}
 use Rattle.book.proofs.parts.currency_at.Statement.{statement}

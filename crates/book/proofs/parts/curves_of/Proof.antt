@@ -1,4 +1,4 @@
--- `book::parts::curves_of` meets its contract. Assumes nothing.
+-- `book::parts::curves_of` meets its contract.
 use mathlib.Core.Path.{_≡_, refl, sym, ap, _∙_}
 use mathlib.Core.List.{List, []}
 use Prim.Native.Nat.{ℕ, _≤_, _<_, _-_}
@@ -43,13 +43,14 @@ loop-again c =
 returns : tie.Need-returns Inv-loop μ-loop
 unfolding curvesIn
 returns c =
-    let s = c .before .before .before .before .args .book .now in
-    let inv = c .before .before .loop .inv in
-    let done : c .before .before .loop .k ≡ 8 = omega arith in
+    let at-loop = c .before .before in
+    let s = at-loop .before .before .args .book .now in
+    let inv = at-loop .loop .inv in
+    let last : at-loop .loop .k ≡ 8 = omega arith in
     rw (
       c .curve-count .ensures .0,
       length-curveBlocks s,
-      ext-getD 0 (c .before .before .loop .currency) (table (currency s) 0 8) (inv .1 ∙ sym (length-table (currency s) 0 8))
+      ext-getD 0 (at-loop .loop .currency) (table (currency s) 0 8) (inv .1 ∙ sym (length-table (currency s) 0 8))
           (λ j l. inv .2 j (omega arith) ∙ sym (getD-table (currency s) 0 8 j 0 (omega arith) ∙ ap (currency s) (omega arith))),
     )
 

@@ -1,4 +1,4 @@
--- `book::parts::record_at` meets its contract. Assumes nothing.
+-- `book::parts::record_at` meets its contract.
 use mathlib.Core.Path.{_∙_}
 use borrow.Author.Needs.{needs}
 use Rattle.book.specs.Parts.{recordAt}
@@ -9,12 +9,13 @@ use Rattle.book.proofs.parts.record_at.Tie as tie
 returns : tie.Need-returns
 unfolding recordAt
 returns c =
+    let block = c .before .before .before .before in
     c .before .copy-in .ensures
     ∙ put-whole _ _ (c .before .before .record-in .ensures .1)
     ∙ rw (
       c .before .before .record-in .ensures .0,
-      c .before .before .before .before .block-at .ensures .0,
-      c .before .before .before .before .before .curve-count .ensures .0,
+      block .block-at .ensures .0,
+      block .before .curve-count .ensures .0,
     )
 
 pub record-at-spec : {M : Type 1} → statement M

@@ -1,4 +1,4 @@
--- `book::parts::record_in` meets its contract. Assumes nothing.
+-- `book::parts::record_in` meets its contract.
 use native.Mathlib.Nat.{add-sub-cancel-left}
 use native.Mathlib.Omega.{arith}
 use borrow.Author.Needs.{needs}

@@ -1,4 +1,4 @@
--- `book::parts::trade_count` meets its contract. Assumes nothing.
+-- `book::parts::trade_count` meets its contract.
 use borrow.Author.Needs.{needs}
 use borrow.Author.Tests.{eq-eqb, ne-eqb}
 use Rattle.book.specs.Parts.{tradeCount}

@@ -1,4 +1,4 @@
--- `edit::blocks::bare_block` meets its contract. Assumes nothing.
+-- `edit::blocks::bare_block` meets its contract.
 use Rattle.edit.specs.Blocks.{bareBlock}
 use borrow.Author.Needs.{needs}
 use Rattle.edit.proofs.blocks.bare_block.Statement.{statement}

@@ -1,4 +1,4 @@
--- `edit::blocks::close_up` meets its contract. Assumes nothing.
+-- `edit::blocks::close_up` meets its contract.
 use Rattle.edit.proofs.BlockLaws.{by-spare}
 use borrow.Author.Needs.{needs}
 use Rattle.edit.proofs.blocks.close_up.Statement.{statement}
@@ -6,12 +6,16 @@ use Rattle.edit.proofs.blocks.close_up.Tie as tie
 
 returns : tie.Need-returns
 returns c =
-    let start = c .before .before .before .before .before .before .before .before .before .before .before .before .before .before .before .before .before .before .before .before .before .before in
+    let sealed = c .before .before .before .before .before .before in
+    let third = sealed .before .before .before in
+    let second = third .before .before .before .before in
+    let first = second .before .before .before .before .before in
+    let start = first .before .before .before .before in
     by-spare (start .args .b .now) (start .args .t3) (start .args .place) (start .args .count) (start .pre .0)
-    (c .before .before .before .before .before .before .before .before .before .before .before .before .before .before .before .before .before .before .copy-in .ensures)
-    (c .before .before .before .before .before .before .before .before .before .before .before .before .before .copy-in2 .ensures)
-    (c .before .before .before .before .before .before .before .before .before .copy-in3 .ensures)
-    (c .before .before .before .before .before .before .seal .ensures)
+    (first .copy-in .ensures)
+    (second .copy-in2 .ensures)
+    (third .copy-in3 .ensures)
+    (sealed .seal .ensures)
     (c .before .before .copy-in4 .ensures)
 
 pub close-up-spec : {M : Type 1} → statement M

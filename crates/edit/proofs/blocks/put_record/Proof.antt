@@ -1,4 +1,4 @@
--- `edit::blocks::put_record` meets its contract. Assumes nothing.
+-- `edit::blocks::put_record` meets its contract.
 use mathlib.Core.Path.{_∙_}
 use lib.ListN.{length-set}
 use Rattle.edit.specs.Blocks.{withRecord}
@@ -7,14 +7,17 @@ use Rattle.edit.proofs.blocks.put_record.Statement.{statement}
 use Rattle.edit.proofs.blocks.put_record.Tie as tie
 
 seal-requires : tie.Need-seal-requires
-seal-requires c κs = rw length-set (c .before .before .before .copy-in .kept .0 ∙ c .before .before .before .before .before .before .before .pre .0)
+seal-requires c κs =
+    let copied = c .before .before .before in
+    let start = copied .before .before .before .before in
+    rw length-set (copied .copy-in .kept .0 ∙ start .pre .0)
 
 same-length : tie.Need-same-length
-same-length c = c .before .before .seal .kept .0 ∙ rw length-set (c .before .before .before .before .before .before .copy-in .kept .0)
+same-length c = let copied = c .before .before .before .before .before .before in c .before .before .seal .kept .0 ∙ rw length-set (copied .copy-in .kept .0)
 
 returns : tie.Need-returns
 unfolding withRecord
-returns c = rw (c .before .before .seal .ensures, c .before .before .before .before .before .before .copy-in .ensures)
+returns c = let copied = c .before .before .before .before .before .before in rw (c .before .before .seal .ensures, copied .copy-in .ensures)
 
 pub put-record-spec : {M : Type 1} → statement M
 put-record-spec =

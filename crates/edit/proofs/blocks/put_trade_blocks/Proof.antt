@@ -1,4 +1,4 @@
--- `edit::blocks::put_trade_blocks` meets its contract. Assumes nothing.
+-- `edit::blocks::put_trade_blocks` meets its contract.
 use Rattle.edit.specs.Blocks.{withTradeBlocks}
 use borrow.Author.Needs.{needs}
 use Rattle.edit.proofs.blocks.put_trade_blocks.Statement.{statement}
@@ -6,7 +6,7 @@ use Rattle.edit.proofs.blocks.put_trade_blocks.Tie as tie
 
 returns : tie.Need-returns
 unfolding withTradeBlocks
-returns c = rw (c .before .before .seal .ensures, c .before .before .before .before .before .before .put-le .ensures)
+returns c = let put = c .before .before .before .before .before .before in rw (c .before .before .seal .ensures, put .put-le .ensures)
 
 pub put-trade-blocks-spec : {M : Type 1} → statement M
 put-trade-blocks-spec = tie.close (tie.spec (λ c κs. search needs) (λ c κs. search needs) (λ c. search needs) returns)

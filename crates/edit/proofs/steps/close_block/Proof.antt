@@ -1,4 +1,4 @@
--- `edit::steps::close_block` meets its contract. Assumes nothing.
+-- `edit::steps::close_block` meets its contract.
 use native.Mathlib.Omega.{arith}
 use native.Mathlib.Nat.{add-sub-cancel-left}
 use Rattle.edit.proofs.StepLaws.{close-left}
@@ -8,13 +8,15 @@ use Rattle.edit.proofs.steps.close_block.Tie as tie
 
 returns : tie.Need-returns
 returns c =
-    let start = c .before .before .before .before .before .before .before .before .before .before .before in
+    let nine = c .before .before .before .before in
+    let curves = nine .before .before .before .before in
+    let start = curves .before .before .before in
     rw add-sub-cancel-left
-    (close-left (start .args .book .now) (start .args .position) (start .args .left) (start .args .j) (omega (arith, start .pre, c .before .before .before .before .before .before .before .before .curve-count .ensures .0))
-    (c .before .before .before .before .before .before .before .before .curve-count .ensures .0)
-    (c .before .before .before .before .before .before .moved-up .ensures)
-    (c .before .before .before .before .before .gap-in .ensures)
-    (c .before .before .before .before .at-most-nine .ensures)
+    (close-left (start .args .book .now) (start .args .position) (start .args .left) (start .args .j) (omega (arith, start .pre, curves .curve-count .ensures .0))
+    (curves .curve-count .ensures .0)
+    (nine .before .before .moved-up .ensures)
+    (nine .before .gap-in .ensures)
+    (nine .at-most-nine .ensures)
     (rw add-sub-cancel-left at (c .before .before .close-up .ensures)))
 
 pub close-block-spec : {M : Type 1} → statement M

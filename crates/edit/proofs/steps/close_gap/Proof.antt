@@ -1,4 +1,4 @@
--- `edit::steps::close_gap` meets its contract. Assumes nothing.
+-- `edit::steps::close_gap` meets its contract.
 use mathlib.Core.Path.{_≡_, refl, sym, _∙_, ap}
 use Prim.Native.Nat.{_-_, _/_, _≤_}
 use native.Mathlib.Omega.{arith}
@@ -25,8 +25,9 @@ loop-holds c = (omega arith, (omega arith, (refl, (refl, refl))))
 
 loop-again : tie.Need-loop-again Inv-loop μ-loop
 loop-again c =
-    let at-loop = c .before .before .before .before .before in
-    let start = c .before .before .before .before .before .before .before in
+    let turn = c .before .before .before .before in
+    let at-loop = turn .before in
+    let start = at-loop .before .before in
     let inv = at-loop .loop .inv in
     let closed = c .before .before .close-block .ensures in (
       omega arith,
@@ -34,7 +35,7 @@ loop-again c =
         omega arith,
         (
           inv .1 .1 .0
-              ∙ run-step (closedBlock (start .args .position) (start .args .left)) (at-loop .loop .j) _ (at-loop .loop .book) (c .before .before .before .before .loop-test .taken)
+              ∙ run-step (closedBlock (start .args .position) (start .args .left)) (at-loop .loop .j) _ (at-loop .loop .book) (turn .loop-test .taken)
               ∙ rw closed,
           (c .before .before .close-block .kept .0 ∙ inv .1 .1 .1 .0, ap curveCount closed ∙ curves-kept (start .args .position) (start .args .left) (at-loop .loop .j) (at-loop .loop .book) ∙ inv .1 .1 .1 .1),
         ),

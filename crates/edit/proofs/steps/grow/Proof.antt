@@ -1,4 +1,4 @@
--- `edit::steps::grow` meets its contract. Assumes nothing.
+-- `edit::steps::grow` meets its contract.
 use native.Mathlib.Omega.{arith}
 use Rattle.edit.proofs.StepLaws.{grow-left}
 use borrow.Author.Needs.{needs}
@@ -7,12 +7,14 @@ use Rattle.edit.proofs.steps.grow.Tie as tie
 
 returns : tie.Need-returns
 returns c =
-    let start = c .before .before .before .before .before .before .before .before .before .before .before .before .before .before .before .before in
+    let copied = c .before .before .before .before .before .before in
+    let filled = copied .before .before .before .before in
+    let start = filled .before .before .before .before .before .before in
     grow-left (start .args .book .now) (start .args .used) (start .args .r) (omega (arith, start .pre))
-    (c .before .before .before .before .before .before .before .before .before .before .before .before .before .trade-blocks .ensures .0)
-    (c .before .before .before .before .before .before .before .before .before .before .before .before .bare-block .ensures)
-    (c .before .before .before .before .before .before .before .before .before .before .put-record .ensures)
-    (c .before .before .before .before .before .before .copy-in .ensures)
+    (filled .before .before .before .trade-blocks .ensures .0)
+    (filled .before .before .bare-block .ensures)
+    (filled .put-record .ensures)
+    (copied .copy-in .ensures)
     (c .before .before .put-trade-blocks .ensures)
 
 pub grow-spec : {M : Type 1} → statement M

@@ -1,4 +1,4 @@
--- `edit::steps::moved_up` meets its contract. Assumes nothing.
+-- `edit::steps::moved_up` meets its contract.
 use Prim.Native.Nat.{_+_, _*_, _≤_, _<_}
 use native.Mathlib.Omega.{arith}
 use borrow.Author.Tests.{le-leb, lt-leb}

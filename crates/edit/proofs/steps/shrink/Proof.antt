@@ -1,4 +1,4 @@
--- `edit::steps::shrink` meets its contract. Assumes nothing.
+-- `edit::steps::shrink` meets its contract.
 use native.Mathlib.Omega.{arith}
 use Rattle.edit.proofs.StepLaws.{shrink-left}
 use borrow.Author.Needs.{needs}
@@ -7,10 +7,11 @@ use Rattle.edit.proofs.steps.shrink.Tie as tie
 
 returns : tie.Need-returns
 returns c =
-    let start = c .before .before .before .before .before .before .before .before .before .before .before .before in
+    let copied = c .before .before .before .before .before .before in
+    let start = copied .before .before .before .before .before .before in
     shrink-left (start .args .book .now) (start .args .used) (omega (arith, start .pre))
-    (c .before .before .before .before .before .before .before .before .before .trade-blocks .ensures .0)
-    (c .before .before .before .before .before .before .copy-in .ensures)
+    (copied .before .before .before .trade-blocks .ensures .0)
+    (copied .copy-in .ensures)
     (c .before .before .put-trade-blocks .ensures)
 
 pub shrink-spec : {M : Type 1} → statement M

@@ -1,4 +1,4 @@
--- `trade::read::indexed_bond_of` meets its contract. Assumes nothing.
+-- `trade::read::indexed_bond_of` meets its contract.
 use borrow.Author.Needs.{needs}
 use Rattle.trade.proofs.read.indexed_bond_of.Statement.{statement}
 use Rattle.trade.proofs.read.indexed_bond_of.Tie as tie

@@ -1,4 +1,4 @@
--- `trade::read::outright_of` meets its contract. Assumes nothing.
+-- `trade::read::outright_of` meets its contract.
 use borrow.Author.Needs.{needs}
 use Rattle.trade.proofs.read.outright_of.Statement.{statement}
 use Rattle.trade.proofs.read.outright_of.Tie as tie

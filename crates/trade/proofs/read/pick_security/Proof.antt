@@ -1,4 +1,4 @@
--- `trade::read::pick_security` meets its contract. Assumes nothing.
+-- `trade::read::pick_security` meets its contract.
 use borrow.Author.Tests.{eq-eqb, ne-eqb}
 use Rattle.trade.proofs.read.pick_security.Statement.{statement}
 use Rattle.trade.proofs.read.pick_security.Tie as tie

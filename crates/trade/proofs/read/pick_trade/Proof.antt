@@ -1,4 +1,4 @@
--- `trade::read::pick_trade` meets its contract. Assumes nothing.
+-- `trade::read::pick_trade` meets its contract.
 use borrow.Author.Tests.{eq-eqb, ne-eqb}
 use Rattle.trade.proofs.read.pick_trade.Statement.{statement}
 use Rattle.trade.proofs.read.pick_trade.Tie as tie

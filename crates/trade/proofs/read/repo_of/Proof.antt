@@ -1,4 +1,4 @@
--- `trade::read::repo_of` meets its contract. Assumes nothing.
+-- `trade::read::repo_of` meets its contract.
 use borrow.Author.Needs.{needs}
 use Rattle.trade.proofs.read.repo_of.Statement.{statement}
 use Rattle.trade.proofs.read.repo_of.Tie as tie

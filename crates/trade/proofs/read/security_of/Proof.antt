@@ -1,4 +1,4 @@
--- `trade::read::security_of` meets its contract. Assumes nothing.
+-- `trade::read::security_of` meets its contract.
 use Rattle.trade.specs.Read.{securityOf}
 use borrow.Author.Needs.{needs}
 use Rattle.trade.proofs.read.security_of.Statement.{statement}

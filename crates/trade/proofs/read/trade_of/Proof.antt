@@ -1,4 +1,4 @@
--- `trade::read::trade_of` meets its contract. Assumes nothing.
+-- `trade::read::trade_of` meets its contract.
 use Rattle.trade.specs.Read.{tradeOf}
 use borrow.Author.Needs.{needs}
 use Rattle.trade.proofs.read.trade_of.Statement.{statement}

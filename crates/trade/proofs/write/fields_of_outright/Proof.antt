@@ -1,4 +1,4 @@
--- `trade::write::fields_of_outright` meets its contract. Assumes nothing.
+-- `trade::write::fields_of_outright` meets its contract.
 use Rattle.trade.specs.Write.{fieldsOfOutright}
 use borrow.Author.Needs.{needs}
 use Rattle.trade.proofs.write.fields_of_outright.Statement.{statement}

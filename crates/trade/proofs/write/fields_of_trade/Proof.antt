@@ -1,4 +1,4 @@
--- `trade::write::fields_of_trade` meets its contract. Assumes nothing.
+-- `trade::write::fields_of_trade` meets its contract.
 use borrow.Author.Needs.{needs}
 use Rattle.trade.proofs.write.fields_of_trade.Statement.{statement}
 use Rattle.trade.proofs.write.fields_of_trade.Tie as tie

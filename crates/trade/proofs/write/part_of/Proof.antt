@@ -1,10 +1,7 @@
--- `trade::write::part_of` meets its contract. Assumes nothing.
+-- `trade::write::part_of` meets its contract.
 use borrow.Author.Needs.{needs}
 use Rattle.trade.proofs.write.part_of.Statement.{statement}
 use Rattle.trade.proofs.write.part_of.Tie as tie
-
-enum-told : tie.Need-enum-told
-enum-told c = search needs
 
 returns : tie.Need-returns
 returns c = rw (c .before .enum-told .given .1) (c .single-part .ensures)
@@ -22,7 +19,7 @@ pub part-of-spec : {M : Type 1} → statement M
 part-of-spec =
     tie.close
     (tie.spec
-    enum-told
+    (λ c. search needs)
     (λ c κs. search needs)
     (λ c. search needs)
     (λ c κs. search needs)
