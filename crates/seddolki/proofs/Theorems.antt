@@ -1,5 +1,4 @@
 -- Number 0 is done and nothing else: no ground has it, and the two numbers (with the tolerance) then give the whole answer back.
--- Assumes nothing.
 use mathlib.Core.Path.{_≡_, refl}
 use Prim.Native.Nat.{_<_}
 use native.Mathlib.Omega.{arith}

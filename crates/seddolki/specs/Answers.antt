@@ -1,4 +1,4 @@
--- Each entry's answer as two numbers (document 01, "Grounds of refusal": "The answer is the number and the block"). Assumes nothing.
+-- Each entry's answer as two numbers (document 01, "Grounds of refusal": "The answer is the number and the block").
 use Prim.Native.Nat.{ℕ}
 use Rattle.ground.specs.Number.{numberOf}
 use Rattle.ground.specs.declared.Ground.{Ground}
@@ -11,8 +11,8 @@ use Rattle.edit.specs.declared.Edited.the-variants as edited
 use Rattle.seddolki.specs.declared.Answer.{Answer}
 
 -- number 0, which no ground has, and the result
-abbrev pub done : ℕ → Answer
-done value = record { number = 0; value = value }
+abbrev pub doneAnswer : ℕ → Answer
+doneAnswer value = record { number = 0; value = value }
 
 -- the ground's number, and the block
 abbrev pub refused : Ground → ℕ → Answer
@@ -20,17 +20,17 @@ refused g block = record { number = numberOf g; value = block }
 
 -- a check, a margin or a read has no number for its result
 abbrev pub verdictAnswer : Verdict → Answer
-verdictAnswer verdict.Accepted = done 0
+verdictAnswer verdict.Accepted = doneAnswer 0
 verdictAnswer (verdict.Refused g block) = refused g block
 
 -- "Append and strike return the new used length."
 abbrev pub editedAnswer : Edited → Answer
-editedAnswer (edited.Used used) = done used
+editedAnswer (edited.Used used) = doneAnswer used
 editedAnswer (edited.Refused g block) = refused g block
 
 -- "Another entry gives one present value and its tolerance.": the value is in the answer
 abbrev pub valuedAnswer : Valued → Answer
-valuedAnswer (valued.Worth value tolerance) = done value
+valuedAnswer (valued.Worth value tolerance) = doneAnswer value
 valuedAnswer (valued.Refused g block) = refused g block
 
 -- the tolerance stands beside the answer, 0 where refused

@@ -5,10 +5,10 @@ use edit::Edited;
 use ground::Ground;
 use ground::Verdict;
 ghost use mathlib.Core.Path.{_≡_};
-ghost use Rattle.seddolki.specs.Answers.{done, refused, verdictAnswer, editedAnswer, valuedAnswer, valuedTolerance};
+ghost use Rattle.seddolki.specs.Answers.{doneAnswer, refused, verdictAnswer, editedAnswer, valuedAnswer, valuedTolerance};
 
-fn done(value: u64) -> Answer
-    ensures { λ r. ⌜ r ≡ done value ⌝ }
+fn done_answer(value: u64) -> Answer
+    ensures { λ r. ⌜ r ≡ doneAnswer value ⌝ }
 {
     Answer {
         number: 0,
@@ -29,7 +29,7 @@ pub fn verdict_answer(v: Verdict) -> Answer
     ensures { λ r. ⌜ r ≡ verdictAnswer v ⌝ }
 {
     match v {
-        Verdict::Accepted => done(0),
+        Verdict::Accepted => done_answer(0),
         Verdict::Refused(g, k) => refused(g, k),
     }
 }
@@ -38,7 +38,7 @@ pub fn edited_answer(e: Edited) -> Answer
     ensures { λ r. ⌜ r ≡ editedAnswer e ⌝ }
 {
     match e {
-        Edited::Used(n) => done(n as u64),
+        Edited::Used(n) => done_answer(n as u64),
         Edited::Refused(g, k) => refused(g, k),
     }
 }
@@ -47,7 +47,7 @@ pub fn valued_answer(v: Valued) -> Answer
     ensures { λ r. ⌜ r ≡ valuedAnswer v ⌝ }
 {
     match v {
-        Valued::Worth(value, _) => done(value),
+        Valued::Worth(value, _) => done_answer(value),
         Valued::Refused(g, k) => refused(g, k),
     }
 }

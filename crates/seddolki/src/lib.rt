@@ -67,7 +67,7 @@ pub extern "C" fn seddolki_read(
     ensures { λ r. ⌜ r ≡ verdictAnswer (found (now (book .entry)) used position .verdict) ⌝ }
     ensures { λ _. ⌜ now («record» .exit) ≡ found (now (book .entry)) used position .bytes ⌝ }
 {
-    let found = edit::read(book, used, position);
+    let found = reader::read_at(book, used, position);
     let bytes = found.bytes;
     let verdict = found.verdict;
     *record = bytes;

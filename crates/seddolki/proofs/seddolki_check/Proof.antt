@@ -1,4 +1,4 @@
--- `seddolki::seddolki_check` meets its contract: the answer is that of the entry. Assumes nothing.
+-- `seddolki::seddolki_check` meets its contract: the answer is that of the entry.
 use borrow.Author.Needs.{needs}
 use Rattle.seddolki.proofs.seddolki_check.Statement.{statement}
 use Rattle.seddolki.proofs.seddolki_check.Tie as tie

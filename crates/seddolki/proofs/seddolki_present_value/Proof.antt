@@ -1,4 +1,4 @@
--- `seddolki::seddolki_present_value` meets its contract: the answer and what is written are those of the entry. Assumes nothing.
+-- `seddolki::seddolki_present_value` meets its contract: the answer and what is written are those of the entry.
 use borrow.Author.Needs.{needs}
 use Rattle.seddolki.proofs.seddolki_present_value.Statement.{statement}
 use Rattle.seddolki.proofs.seddolki_present_value.Tie as tie

@@ -1,10 +1,10 @@
--- `seddolki::answers::edited_answer` meets its contract: each arm knows its case of the enum. Assumes nothing.
+-- `seddolki::answers::edited_answer` meets its contract: each arm knows its case of the enum.
 use borrow.Author.Needs.{needs}
 use Rattle.seddolki.proofs.answers.edited_answer.Statement.{statement}
 use Rattle.seddolki.proofs.answers.edited_answer.Tie as tie
 
 returns : tie.Need-returns
-returns c = rw (c .before .before .e .given .1) (c .done .ensures)
+returns c = rw (c .before .before .e .given .1) (c .done-answer .ensures)
 
 returns-2 : tie.Need-returns-2
 returns-2 c = rw (c .before .before .e2 .given .1) (c .refused .ensures)

@@ -1,4 +1,4 @@
--- `seddolki::answers::refused` meets its contract. Assumes nothing.
+-- `seddolki::answers::refused` meets its contract.
 use borrow.Author.Needs.{needs}
 use Rattle.seddolki.proofs.answers.refused.Statement.{statement}
 use Rattle.seddolki.proofs.answers.refused.Tie as tie
