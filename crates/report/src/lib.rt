@@ -4,6 +4,7 @@ use ground::Ground;
 use ground::Verdict;
 use margin::CurveMargin;
 use margin::Margin;
+use margin::Position;
 ghost use mathlib.Core.Path.{_≡_};
 ghost use Prim.Native.Nat.{_≤_};
 ghost use lib.ListN.{length};
@@ -25,14 +26,14 @@ fn curve_figures(book: &[u8], used: usize, curve: usize) -> CurveMargin
     let b = parts::block_at(book, curve);
     let currency = curve_block::currency_of(b);
     let components = curve_block::components_of(b);
-    margin::margins::curve_margin(
-        curve as u64,
-        currency,
-        curve_block::curve_of(b),
-        components,
-        &ladder,
-        n,
-    )
+    let position = Position {
+        id: curve as u64,
+        currency: currency,
+        curve: curve_block::curve_of(b),
+        components: components,
+        schedules: n,
+    };
+    margin::margins::curve_margin(position, &ladder)
 }
 
 fn no_curve() -> CurveMargin

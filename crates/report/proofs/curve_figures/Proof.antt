@@ -49,11 +49,12 @@ curve-margin-requires c κs =
     let components = curve .before in
     let at = components .before .before in
     let gathered = at .before .before in
-    let b = block (gathered .before .before .before) in (
-      rw (curve .curve-of .ensures, at .block-at .ensures .0) (b .curve),
-      rw (components .components-of .ensures, at .block-at .ensures .0) (b .components),
-      gathered .gather .ensures .1,
-    )
+    let b = block (gathered .before .before .before) in
+    record {
+      proper = rw (curve .curve-of .ensures, at .block-at .ensures .0) (b .curve);
+      stress = rw (components .components-of .ensures, at .block-at .ensures .0) (b .components);
+      schedules = gathered .gather .ensures .1;
+    }
 
 returns : tie.Need-returns
 unfolding exposureAt
