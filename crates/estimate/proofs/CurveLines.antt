@@ -1,5 +1,5 @@
 -- A curve's lines, one after the other, have its rates: a level one before the first node, one from each node to the next, and a level one from the
--- last node on. Assumes nothing.
+-- last node on.
 use mathlib.Core.Path.{_≡_, refl, sym, _∙_, ap}
 use Prim.Native.Nat.{ℕ, suc, _+_, _-_, _≤_, _<_}
 use native.Mathlib.Omega.{arith}
@@ -32,7 +32,7 @@ module _ (c : Curve) (p : Proper c) where
   follows-first =
       record {
         drawn = λ t m u b. level-drawn (node c 0 .rate) (node c 0 .day) t (p .each 0 (omega (arith, p .least)) .rate) (omega arith);
-        same = λ t m u b. level-rate (node c 0 .rate) (node c 0 .day) t ∙ sym (before-all c t p u);
+        rate-is = λ t m u b. level-rate (node c 0 .rate) (node c 0 .day) t ∙ sym (before-all c t p u);
       }
 
   pub reached-first : Reached c (node c 0) 1
@@ -64,7 +64,7 @@ module _ (c : Curve) (p : Proper c) where
           let before : (t : ℕ) → t < lineOf a (node c i) .until → t < node c i .day = λ t u. rw (line-until a (node c i)) at u in
           record {
             drawn = λ t m u b. line-drawn a (node c i) t reached-ahead (record { from = m; before = before t u });
-            same =
+            rate-is =
                 λ t m u b.
                 line-rate a (node c i) t reached-ahead (record { from = m; before = before t u })
                 ∙ sym (passed-interpolated c t p a i (h .passed t m) k (before t u));
@@ -74,5 +74,5 @@ module _ (c : Curve) (p : Proper c) where
     follows-last k =
         record {
           drawn = λ t m u b. level-drawn (a .rate) 10951 t (reached-limits .rate) (omega arith);
-          same = λ t m u b. level-rate (a .rate) 10951 t ∙ sym (passed-all c t p a i (h .passed t m) k);
+          rate-is = λ t m u b. level-rate (a .rate) 10951 t ∙ sym (passed-all c t p a i (h .passed t m) k);
         }

@@ -1,4 +1,4 @@
--- A line's rate is document 01's, and 64 bits hold where the line stands. Assumes nothing.
+-- A line's rate is document 01's, and 64 bits hold where the line stands.
 use mathlib.Core.Path.{_≡_, refl, sym, ap, _∙_}
 use mathlib.Core.Bool.{Bool, true, false, cond}
 use Prim.Native.Nat.{ℕ, _+_, _-_, _*_, _/_, _≤_, _<_}
@@ -6,16 +6,16 @@ use native.Mathlib.Nat.{mul-le-mul, mul-le-mul-right, mul-sub, zero-mul, div-mul
 use native.Mathlib.Omega.{arith}
 use borrow.Author.Tests.{leb-true, leb-false}
 use lib.Dec.{leb}
-use lib.IntN.{ℤ, pos, negℤ, natAbs, _+ℤ_, _-ℤ_, +ℤ-assoc, +ℤ-comm}
+use lib.IntN.{ℤ, pos, negℤ, natAbs, _+ℤ_, _-ℤ_, _*ℤ_, +ℤ-assoc, +ℤ-comm, negℤ-negℤ, pos-+ℤ-pos}
 use Rattle.laws.proofs.Powers.{sub-mul}
-use Rattle.laws.proofs.Signed.{abs-sub, abs-neg, sub-up, mul-neg}
+use Rattle.laws.proofs.Signed.{abs-sub, abs-neg, abs-mul-le, sub-up, mul-neg}
 use Rattle.curve.specs.declared.Node.{Node}
 use Rattle.curve.specs.Limits.{highestRate}
 use Rattle.curve.specs.Rates.{interpolated, Between}
 use Rattle.curve.proofs.Line.{part-le, line-up, line-down}
 use Rattle.curve.proofs.Interpolation.{interpolated-line, interpolated-size}
-use Rattle.estimate.specs.Lines.{parts, slopeOf, level, up, rising, falling, lineOf, standsAt, rateOn, Ahead, Drawn}
-use Rattle.estimate.proofs.Slopes.{slope-exact, sloped}
+use Rattle.estimate.specs.Lines.{parts, slopeOf, level, lineFrom, rising, falling, lineOf, standsAt, rateOn, Ahead, Drawn, steepest}
+use Rattle.estimate.proofs.Slopes.{slope-exact, slope-size}
 
 parts-some : 0 < parts
 unfolding parts
@@ -61,9 +61,11 @@ module _ (a b : Node) (t : ℕ) (h : Ahead a b) (m : Between a b t) where
   days-split : (s : ℕ) → s * t ≡ s * a .day + s * gone
   days-split s = omega (arith, mul-sub s t (a .day), mul-le-mul-right s (m .from))
 
-  up-stands : (s : ℕ) → standsAt (up s a b) t ≡ pos (a .rate * parts + s * gone)
-  up-stands s =
-      risen (a .rate * parts) (s * a .day) (s * t) (omega (arith, days-split s)) ∙ ap pos (omega (arith, days-split s))
+  -- where it stands on day 0 is in bounds
+  start-size : (until above : ℕ) (slope : ℤ) → above ≤ parts → natAbs slope ≤ steepest → natAbs (lineFrom a until above slope .start) ≤ 2000000000000000000
+  unfolding parts
+  start-size until above slope k l =
+      omega (arith, abs-sub (pos (a .rate * 134217728 + above)) (slope *ℤ pos (a .day)), abs-mul-le slope (pos (a .day)) {m = 140000000000000} {n = 10950} l (h .from .day), h .from .rate)
 
   -- it rises
   module _ (l : a .rate ≤ b .rate) where
@@ -72,7 +74,9 @@ module _ (a b : Node) (t : ℕ) (h : Ahead a b) (m : Between a b t) where
 
     rising-stands : standsAt (rising a b) t ≡ pos (a .rate * parts + climb * gone)
     unfolding rising
-    rising-stands = up-stands climb
+    rising-stands =
+        let e = days-split climb in
+        risen (a .rate * parts + 0) (climb * a .day) (climb * t) (omega arith) ∙ ap pos (omega arith)
 
     rising-rate : rateOn (rising a b) t ≡ natAbs (interpolated a b t)
     unfolding rateOn
@@ -81,13 +85,13 @@ module _ (a b : Node) (t : ℕ) (h : Ahead a b) (m : Between a b t) where
         (sym (line-up (a .rate) (b .rate) gone run l))
 
     rising-drawn : Drawn (rising a b) t
-    unfolding rising parts
+    unfolding rising
     rising-drawn =
-        let s = sloped a (b .rate - a .rate) run (h .from) (omega arith) in
+        let s : climb ≤ steepest = slope-size (b .rate - a .rate) run (omega (arith, h .to .rate)) in
         record {
           day = omega arith;
-          start = omega (arith, abs-sub (pos (a .rate * 134217728)) (pos (climb * a .day)));
-          slope = omega arith;
+          start = start-size (b .day) 0 (pos climb) (omega arith) s;
+          slope = s;
           above = rw rising-stands refl;
           rate = rw rising-rate (interpolated-size a b t (h .from, h .to, m));
         }
@@ -105,9 +109,8 @@ module _ (a b : Node) (t : ℕ) (h : Ahead a b) (m : Between a b t) where
     falling-stands =
         let e = days-split drop in
         let f = fall-le (a .rate) parts (drop * gone) parts-some drop-less in
-        ap (λ (z : ℤ). pos (a .rate * parts + (parts - 1) + drop * a .day) +ℤ z) (mul-neg drop t)
-        ∙ sub-up (a .rate * parts + (parts - 1) + drop * a .day) (drop * t) (omega arith)
-        ∙ ap pos (omega arith)
+        rw (mul-neg drop (a .day), mul-neg drop t, negℤ-negℤ (pos (drop * a .day)), pos-+ℤ-pos (a .rate * parts + (parts - 1)) (drop * a .day))
+        (sub-up (a .rate * parts + (parts - 1) + drop * a .day) (drop * t) (omega arith) ∙ ap pos (omega arith))
 
     falling-rate : rateOn (falling a b) t ≡ natAbs (interpolated a b t)
     unfolding rateOn
@@ -116,13 +119,13 @@ module _ (a b : Node) (t : ℕ) (h : Ahead a b) (m : Between a b t) where
         (sym (line-down (a .rate) (b .rate) gone run l))
 
     falling-drawn : Drawn (falling a b) t
-    unfolding falling parts
+    unfolding falling
     falling-drawn =
-        let s = sloped a (a .rate - b .rate) run (h .from) (omega arith) in
+        let s : natAbs (negℤ (pos drop)) ≤ steepest = rw (abs-neg (pos drop)) (slope-size (a .rate - b .rate) run (omega (arith, h .from .rate))) in
         record {
           day = omega arith;
-          start = omega arith;
-          slope = rw (abs-neg (pos drop)) (omega arith);
+          start = start-size (b .day) (parts - 1) (negℤ (pos drop)) (omega arith) s;
+          slope = s;
           above = rw falling-stands refl;
           rate = rw falling-rate (interpolated-size a b t (h .from, h .to, m));
         }

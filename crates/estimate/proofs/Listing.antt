@@ -1,4 +1,4 @@
--- The list of the days that have a net amount, made day by day. Assumes nothing.
+-- The list of the days that have a net amount, made day by day.
 use mathlib.Core.Path.{_≡_, refl, sym, _∙_, ap}
 use mathlib.Core.Bool.{true, false}
 use mathlib.Core.List.{List, _++_, append-assoc, append-nil}
@@ -31,11 +31,11 @@ pub record Listing (nets : List ℤ) (days₀ days : List ℕ) (count day : ℕ)
   pub most : count ≤ day
   pub within : day ≤ length nets
   pub places : length days ≡ length days₀
-  pub all : listed nets ≡ take count days ++ listedFrom day (drop day nets)
+  pub list : listed nets ≡ take count days ++ listedFrom day (drop day nets)
 
 module _ (nets : List ℤ) (days₀ : List ℕ) where
   pub listing-none : Listing nets days₀ days₀ 0 0
-  listing-none = record { most = omega arith; within = omega arith; places = refl; all = refl }
+  listing-none = record { most = omega arith; within = omega arith; places = refl; list = refl }
 
   module _ (days : List ℕ) (count day : ℕ) (h : Listing nets days₀ days count day) where
     module _ (k : day < length nets) (l : length nets ≤ length days₀) where
@@ -47,8 +47,8 @@ module _ (nets : List ℤ) (days₀ : List ℕ) where
             most = omega (arith, h .most);
             within = omega arith;
             places = length-set days count day ∙ h .places;
-            all =
-                h .all
+            list =
+                h .list
                 ∙ rw (drop-cons nets day (pos 0) k, e, add-one, add-one, take-suc-set days count day (omega (arith, h .most, h .places)), append-assoc);
           }
 
@@ -60,9 +60,9 @@ module _ (nets : List ℤ) (days₀ : List ℕ) where
             most = omega (arith, h .most);
             within = omega arith;
             places = length-set days count day ∙ h .places;
-            all = h .all ∙ rw (drop-cons nets day (pos 0) k, e, add-one, take-set-le count days count day (omega arith));
+            list = h .list ∙ rw (drop-cons nets day (pos 0) k, e, add-one, take-set-le count days count day (omega arith));
           }
 
     pub listing-all : length nets ≤ day → take count days ≡ listed nets
     unfolding listedFrom
-    listing-all k = sym (h .all ∙ rw (drop-of-length-le nets k) (append-nil (take count days)))
+    listing-all k = sym (h .list ∙ rw (drop-of-length-le nets k) (append-nil (take count days)))

@@ -1,4 +1,4 @@
--- The values of the scenarios, filled in one by one. Assumes nothing.
+-- The values of the scenarios, filled in one by one.
 use mathlib.Core.Path.{_≡_, refl, _∙_, ap}
 use mathlib.Core.List.{List}
 use Prim.Native.Nat.{ℕ, _+_, _≤_, _<_}
@@ -17,14 +17,14 @@ use Rattle.curve.specs.Rates.{nodesOf}
 use Rattle.curve.specs.Scenarios.{scenarioCount, scenarioAt}
 use Rattle.curve.specs.Stress.{stressedCurve}
 use Rattle.curve.proofs.Stress.{nodes-stressed}
-use Rattle.estimate.specs.Values.{valueAt, scenarioValue, Valued, Listed}
+use Rattle.estimate.specs.Values.{cheapValue, scenarioValue, ScenarioValues, Listed}
 use Rattle.estimate.proofs.CurveValues.{value-read}
 
 -- what the code values, in scenario s, and read back from its bits
-module _ (c : Curve) (p : Proper c) (x : Components) (nets : List ℤ) (days : List ℕ) (count s : ℕ) (h : Listed nets days count) where
-  pub stressed-read : (k : Scenario) (e : Curve) (z : ℤ) → k ≡ scenarioAt x s → e ≡ stressedCurve k c → z ≡ valueAt (nodesOf e) nets → read z ≡ scenarioValue c x nets s
+module _ (c : Curve) (p : Proper c) (x : Components) (nets : List ℤ) (days : List ℕ) (s : ℕ) (h : Listed nets days) where
+  pub stressed-read : (k : Scenario) (e : Curve) (z : ℤ) → k ≡ scenarioAt x s → e ≡ stressedCurve k c → z ≡ cheapValue (nodesOf e) nets → read z ≡ scenarioValue c x nets s
   stressed-read k e z f g v =
-      value-read _ nets days count h z (v ∙ ap (λ (ns : List Node). valueAt ns nets) (rw (g, f) (nodes-stressed (scenarioAt x s) c p)))
+      value-read _ nets days h z (v ∙ ap (λ (ns : List Node). cheapValue ns nets) (rw (g, f) (nodes-stressed (scenarioAt x s) c p)))
 
 -- the scenarios before s have their values
 pub record Filled (c : Curve) (x : Components) (nets values₀ values : List ℤ) (s : ℕ) : Type 0 where
@@ -49,5 +49,5 @@ module _ (c : Curve) (x : Components) (nets values₀ : List ℤ) where
               (getD-set-same values s z (pos 0) (omega (arith, h .places)) ∙ e);
         }
 
-    pub filled-all : scenarioCount x ≤ s → Valued c x nets values
+    pub filled-all : scenarioCount x ≤ s → ScenarioValues c x nets values
     filled-all k = record { each = λ j l. h .each j (omega arith) }

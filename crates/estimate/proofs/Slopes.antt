@@ -1,11 +1,10 @@
--- Slopes: a product with one, cut, is the quotient that it stands for; and their sizes. Assumes nothing.
+-- Slopes: a product with one, cut, is the quotient that it stands for; and their sizes.
 use mathlib.Core.Path.{_≡_}
 use Prim.Native.Nat.{ℕ, _+_, _*_, _/_, _≤_, _<_}
-use native.Mathlib.Nat.{mul-le-mul, mul-le-mul-right, le-of-mul-le-mul-right, div-mul-le-self, lt-div-mul-add, div-le-self, div-eq-of-lt-le}
+use native.Mathlib.Nat.{mul-le-mul-right, le-of-mul-le-mul-right, div-mul-le-self, lt-div-mul-add, div-le-self, div-eq-of-lt-le}
 use native.Mathlib.Omega.{arith}
-use Rattle.curve.specs.declared.Node.{Node}
-use Rattle.curve.specs.Limits.{highestRate, Limits}
-use Rattle.estimate.specs.Lines.{parts, slopeOf}
+use Rattle.curve.specs.Limits.{highestRate}
+use Rattle.estimate.specs.Lines.{parts, slopeOf, steepest}
 
 -- ---- rounded up and in parts of n, the slope is exact for g days of a run of days, where n is at least (g + 1) * run
 
@@ -28,15 +27,8 @@ slope-exact n way g run some room =
     (low n way g run (way * g / run) (way * n / run) some room (div-mul-le-self (way * g) run) (lt-div-mul-add some))
     (high n way g run (way * g / run) (way * n / run) some room (lt-div-mul-add some) (div-mul-le-self (way * n) run))
 
--- ---- the sizes of a slope from node a, and of what it makes in the days up to a's
+-- ---- the size of a slope
 
-pub record Sloped (a : Node) (s : ℕ) : Type 0 where
-  pub rate : a .rate ≤ highestRate
-  pub slope : s ≤ 134217728000001
-  pub moved : s * a .day ≤ 1469684121600010950
-
-pub sloped : (a : Node) (way run : ℕ) → Limits a → way ≤ highestRate → Sloped a (slopeOf way run)
+pub slope-size : (way run : ℕ) → way ≤ highestRate → slopeOf way run ≤ steepest
 unfolding slopeOf parts
-sloped a way run h k =
-    let s : way * 134217728 / run + 1 ≤ 134217728000001 = omega (arith, div-le-self (way * 134217728) run) in
-    record { rate = h .rate; slope = s; moved = mul-le-mul {n₂ = 134217728000001} {m₂ = 10950} s (h .day) }
+slope-size way run k = omega (arith, div-le-self (way * 134217728) run)

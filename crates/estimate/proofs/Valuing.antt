@@ -1,4 +1,4 @@
--- The listed days valued line by line: what is valued and what is left are together the value at the curve's rates. Assumes nothing.
+-- The listed days valued line by line: what is valued and what is left are together the value at the curve's rates.
 use mathlib.Core.Path.{_≡_, refl, sym, _∙_, ap}
 use mathlib.Core.Bool.{Bool, true, false, cond}
 use mathlib.Core.List.{List, [], _∷_}
@@ -7,7 +7,6 @@ use native.Mathlib.Omega.{arith}
 use borrow.Author.Tests.{ltb-true, ltb-false}
 use lib.Dec.{ltb, eqb}
 use lib.IntN.{ℤ, pos, natAbs, _+ℤ_, +ℤ-assoc, +ℤ-idl, +ℤ-idr}
-use lib.ListN.{take}
 use Rattle.laws.specs.All.{All}
 use Rattle.laws.proofs.Signed.{abs-add}
 use Rattle.sieve.specs.Cheap.{whole}
@@ -100,37 +99,31 @@ cheap-size rate nets ds = net-value-size (cheapOn rate) (λ d. cheap-le (rate d)
 
 pub record Follows (rate : ℕ → ℕ) (l : Line) (from : ℕ) : Type 0 where
   pub drawn : (t : ℕ) → from ≤ t → t < l .until → t < 10951 → Drawn l t
-  pub same : (t : ℕ) → from ≤ t → t < l .until → t < 10951 → rateOn l t ≡ rate t
+  pub rate-is : (t : ℕ) → from ≤ t → t < l .until → t < 10951 → rateOn l t ≡ rate t
 
 -- ---- part p has all days before the day `from`
 
-module _ (rate : ℕ → ℕ) (nets : List ℤ) (days : List ℕ) (count : ℕ) where
-  abbrev all : List ℕ
-  all = take count days
-
-  abbrev left : Part → List ℕ
-  left p = daysLeft days count p
-
+module _ (rate : ℕ → ℕ) (nets : List ℤ) (days : List ℕ) where
   pub record Valuing (from : ℕ) (p : Part) : Type 0 where
-    pub value : p .value +ℤ netValue (cheapOn rate) nets (left p) ≡ netValue (cheapOn rate) nets all
-    pub size : natAbs (p .value) + netSize nets (left p) ≤ mostSize
-    pub order : RisingFrom from (left p)
-    pub below : All (λ d. d < 10951) (left p)
+    pub value : p .value +ℤ netValue (cheapOn rate) nets (daysLeft days p) ≡ netValue (cheapOn rate) nets days
+    pub size : natAbs (p .value) + netSize nets (daysLeft days p) ≤ mostSize
+    pub order : RisingFrom from (daysLeft days p)
+    pub below : All (λ d. d < 10951) (daysLeft days p)
 
   module _ (from : ℕ) (p : Part) (h : Valuing from p) where
     module _ (l : Line) (f : Follows rate l from) where
-      on-rates : All (λ d. d < l .until → cheapOn rate d ≡ cheapOn (rateOn l) d) (left p)
+      on-rates : All (λ d. d < l .until → cheapOn rate d ≡ cheapOn (rateOn l) d) (daysLeft days p)
       on-rates =
           rising-each from (λ d. d < l .until → cheapOn rate d ≡ cheapOn (rateOn l) d)
-          (λ d m b u. ap (λ (x : ℕ). cheapOn (λ t. x) d) (sym (f .same d m u b))) (left p) (h .order) (h .below)
+          (λ d m b u. ap (λ (x : ℕ). cheapOn (λ t. x) d) (sym (f .rate-is d m u b))) (daysLeft days p) (h .order) (h .below)
 
-      pub valuing-line : OnLine l (left p)
+      pub valuing-line : OnLine l (daysLeft days p)
       valuing-line =
-          rising-each from (λ d. (d < 10951) × (d < l .until → Drawn l d)) (λ d m b. (b, λ u. f .drawn d m u b)) (left p) (h .order) (h .below)
+          rising-each from (λ d. (d < 10951) × (d < l .until → Drawn l d)) (λ d m b. (b, λ u. f .drawn d m u b)) (daysLeft days p) (h .order) (h .below)
 
-      pub valuing-next : (r : Part) → Along l nets days count p r → Valuing (l .until) r
+      pub valuing-next : (r : Part) → Along l nets days p r → Valuing (l .until) r
       valuing-next r a =
-          let rest = left p in
+          let rest = daysLeft days p in
           let u = l .until in
           let there = netValue (cheapOn (rateOn l)) nets (daysBefore u rest) in
           let split = split-value u (cheapOn rate) (cheapOn (rateOn l)) nets rest on-rates in
@@ -149,17 +142,17 @@ module _ (rate : ℕ → ℕ) (nets : List ℤ) (days : List ℕ) (count : ℕ) 
   none-left [] r b = refl
   none-left (d ∷ rest) r b = absurd (omega (arith, r .0, b .0))
 
-  pub valuing-all : (p : Part) → Valuing 10951 p → p .value ≡ netValue (cheapOn rate) nets all
+  pub valuing-all : (p : Part) → Valuing 10951 p → p .value ≡ netValue (cheapOn rate) nets days
   unfolding netValue
   valuing-all p h =
-      let e = rw (none-left (left p) (h .order) (h .below)) at (h .value) in
+      let e = rw (none-left (daysLeft days p) (h .order) (h .below)) at (h .value) in
       sym (+ℤ-idr (p .value)) ∙ e
 
-  pub valuing-none : Listed nets days count → Valuing 0 (record { done = 0; value = pos 0 })
+  pub valuing-none : Listed nets days → Valuing 0 (record { done = 0; value = pos 0 })
   valuing-none s =
       record {
-        value = +ℤ-idl (netValue (cheapOn rate) nets all);
-        size = rw (s .all) (omega (arith, s .size));
-        order = rw (s .all) (listed-rising 0 nets);
-        below = rw (s .all) (rw (s .places) at (listed-below nets));
+        value = +ℤ-idl (netValue (cheapOn rate) nets days);
+        size = rw (s .list) (omega (arith, s .size));
+        order = rw (s .list) (listed-rising 0 nets);
+        below = rw (s .list) (rw (s .places) at (listed-below nets));
       }

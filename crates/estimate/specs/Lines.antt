@@ -1,5 +1,4 @@
 -- Lines: the rate of a curve between two nodes as a product and a cut, which is document 01's rate exactly (`line-rate` of proofs/LineRates.antt).
--- Assumes nothing.
 use Prim.Native.Nat.{ℕ, _+_, _-_, _*_, _/_, _≤_, _<_}
 use mathlib.Core.Path.{_≡_}
 use mathlib.Core.Bool.{cond}
@@ -21,20 +20,18 @@ slopeOf way run = way * parts / run + 1
 unfoldable pub level : ℕ → ℕ → Line
 level rate until = record { until = until; start = pos (rate * parts); slope = pos 0 }
 
--- from node a up to node b, by its slope: it starts where it would stand on day 0
-abbrev pub up : ℕ → Node → Node → Line
-up s a b = record { until = b .day; start = pos (a .rate * parts) -ℤ pos (s * a .day); slope = pos s }
+-- by its slope, as many parts above node a's rate on node a's day: it starts where it would stand on day 0
+abbrev pub lineFrom : Node → ℕ → ℕ → ℤ → Line
+lineFrom a until above slope =
+    record { until = until; start = pos (a .rate * parts + above) -ℤ slope *ℤ pos (a .day); slope = slope }
+
+-- from node a up to node b
+unfoldable pub rising : Node → Node → Line
+rising a b = lineFrom a (b .day) 0 (pos (slopeOf (b .rate - a .rate) (b .day - a .day)))
 
 -- and down: what a rate falls is cut towards zero, so the line starts a part below the next rate
-abbrev pub down : ℕ → Node → Node → Line
-down s a b =
-    record { until = b .day; start = pos (a .rate * parts + (parts - 1) + s * a .day); slope = negℤ (pos s) }
-
-unfoldable pub rising : Node → Node → Line
-rising a b = up (slopeOf (b .rate - a .rate) (b .day - a .day)) a b
-
 unfoldable pub falling : Node → Node → Line
-falling a b = down (slopeOf (a .rate - b .rate) (b .day - a .day)) a b
+falling a b = lineFrom a (b .day) (parts - 1) (negℤ (pos (slopeOf (a .rate - b .rate) (b .day - a .day))))
 
 unfoldable pub lineOf : Node → Node → Line
 lineOf a b = cond (leb (a .rate) (b .rate)) (rising a b) (falling a b)
@@ -54,10 +51,14 @@ pub record Ahead (a b : Node) : Type 0 where
   pub to : Limits b
   pub rising : a .day < b .day
 
+-- the most that a slope is
+abbrev pub steepest : ℕ
+steepest = 140000000000000
+
 -- day t is on the line: its rate is one of document 01's, and 64 bits hold it in parts
 pub record Drawn (l : Line) (t : ℕ) : Type 0 where
   pub day : t ≤ 10950
   pub start : natAbs (l .start) ≤ 2000000000000000000
-  pub slope : natAbs (l .slope) ≤ 140000000000000
+  pub slope : natAbs (l .slope) ≤ steepest
   pub above : standsAt l t ≡ pos (natAbs (standsAt l t))
   pub rate : rateOn l t ≤ highestRate

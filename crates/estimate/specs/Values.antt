@@ -1,11 +1,11 @@
--- The cheap value of a curve's net amounts in every scenario, and what is asked for it. Assumes nothing.
+-- The cheap value of a curve's net amounts in every scenario, and what is asked for it.
 use Prim.Native.Nat.{ℕ, _+_, _≤_, _<_}
 use mathlib.Core.Path.{_≡_}
 use mathlib.Core.Bool.{cond}
 use mathlib.Core.List.{List, [], _∷_, map}
 use lib.Dec.{ltb}
 use lib.IntN.{ℤ, pos, natAbs, _+ℤ_}
-use lib.ListN.{length, take, drop, getD}
+use lib.ListN.{length, drop, getD}
 use Rattle.laws.specs.All.{All}
 use Rattle.curve.specs.declared.Node.{Node}
 use Rattle.curve.specs.declared.Curve.{Curve}
@@ -22,15 +22,15 @@ use Rattle.estimate.specs.Lines.{rateOn, Drawn}
 -- ---- the values
 
 -- the cheap value of the net amounts at the rates of some nodes
-abbrev pub valueAt : List Node → List ℤ → ℤ
-valueAt nodes nets = netValue (cheapOn (rateAt nodes)) nets (listed nets)
+abbrev pub cheapValue : List Node → List ℤ → ℤ
+cheapValue nodes nets = netValue (cheapOn (rateAt nodes)) nets (listed nets)
 
 -- and in scenario s of a curve
 abbrev pub scenarioValue : Curve → Components → List ℤ → ℕ → ℤ
-scenarioValue c x nets s = valueAt (map (stressed (scenarioAt x s)) (nodesOf c)) nets
+scenarioValue c x nets s = cheapValue (map (stressed (scenarioAt x s)) (nodesOf c)) nets
 
 -- a value for each scenario
-pub record Valued (c : Curve) (x : Components) (nets values : List ℤ) : Type 0 where
+pub record ScenarioValues (c : Curve) (x : Components) (nets values : List ℤ) : Type 0 where
   pub each : (s : ℕ) → s < scenarioCount x → getD values s (pos 0) ≡ scenarioValue c x nets s
 
 -- ---- by lines: the days of a rising list that come before a day, and the others
@@ -43,15 +43,15 @@ unfoldable pub daysFrom : ℕ → List ℕ → List ℕ
 daysFrom until [] = []
 daysFrom until (d ∷ ds) = cond (ltb d until) (daysFrom until ds) (d ∷ ds)
 
--- the first `count` days that part p does not have
-abbrev pub daysLeft : List ℕ → ℕ → Part → List ℕ
-daysLeft days count p = drop (p .done) (take count days)
+-- the days that part p does not have
+abbrev pub daysLeft : List ℕ → Part → List ℕ
+daysLeft days p = drop (p .done) days
 
 -- part r is part p with the days before the line's end, at the line's rates
-pub record Along (l : Line) (nets : List ℤ) (days : List ℕ) (count : ℕ) (p r : Part) : Type 0 where
-  pub done : r .done ≤ count
-  pub value : r .value ≡ p .value +ℤ netValue (cheapOn (rateOn l)) nets (daysBefore (l .until) (daysLeft days count p))
-  pub left : daysLeft days count r ≡ daysFrom (l .until) (daysLeft days count p)
+pub record Along (l : Line) (nets : List ℤ) (days : List ℕ) (p r : Part) : Type 0 where
+  pub done : r .done ≤ length days
+  pub value : r .value ≡ p .value +ℤ netValue (cheapOn (rateOn l)) nets (daysBefore (l .until) (daysLeft days p))
+  pub left : daysLeft days r ≡ daysFrom (l .until) (daysLeft days p)
 
 -- ---- what is asked
 
@@ -65,11 +65,10 @@ pub record Tables (logs middle upper : List ℕ) : Type 0 where
   pub rates : Logs logs
   pub powers : Powers middle upper
 
--- the first `count` days are those that have a net amount
-pub record Listed (nets : List ℤ) (days : List ℕ) (count : ℕ) : Type 0 where
+-- the days are those that have a net amount
+pub record Listed (nets : List ℤ) (days : List ℕ) : Type 0 where
   pub places : length nets ≡ 10951
-  pub most : count ≤ length days
-  pub all : take count days ≡ listed nets
+  pub list : days ≡ listed nets
   pub size : netSize nets (listed nets) ≤ mostSize
 
 -- every day has its place among the net amounts, and those before the line's end are on it
@@ -77,9 +76,8 @@ abbrev pub OnLine : Line → List ℕ → Type 0
 OnLine l ds = All (λ d. (d < 10951) × (d < l .until → Drawn l d)) ds
 
 -- part p can go on along the line, and its value with the amounts to come fits
-pub record Ready (l : Line) (nets : List ℤ) (days : List ℕ) (count : ℕ) (p : Part) : Type 0 where
+pub record Ready (l : Line) (nets : List ℤ) (days : List ℕ) (p : Part) : Type 0 where
   pub places : length nets ≡ 10951
-  pub most : count ≤ length days
-  pub done : p .done ≤ count
-  pub each : OnLine l (daysLeft days count p)
-  pub size : natAbs (p .value) + netSize nets (daysLeft days count p) ≤ mostSize
+  pub done : p .done ≤ length days
+  pub each : OnLine l (daysLeft days p)
+  pub size : natAbs (p .value) + netSize nets (daysLeft days p) ≤ mostSize

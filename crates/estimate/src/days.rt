@@ -8,7 +8,7 @@ ghost use Rattle.netting.specs.Netting.{listed};
 pub fn list_days(nets: &[i64], days: &mut [u64]) -> usize
     requires { ⌜ length (now nets) ≤ length (now days) ⌝ }
     ensures kept { λ _. ⌜ length (now (days .exit)) ≡ length (now (days .entry)) ⌝ }
-    ensures all { λ r. ⌜ (r ≤ length (now (nets .entry))) × (take r (now (days .exit)) ≡ listed (now (nets .entry))) ⌝ }
+    ensures list { λ r. ⌜ (r ≤ length (now (nets .entry))) × (take r (now (days .exit)) ≡ listed (now (nets .entry))) ⌝ }
 {
     let n = nets.len();
     let mut count: usize = 0;

@@ -1,7 +1,9 @@
 // Lines: the rate of a curve between two nodes as a product and a cut, with one division a line and none a day.
 ghost use mathlib.Core.Path.{_≡_};
 ghost use Prim.Native.Nat.{_≤_, _<_};
-ghost use Rattle.estimate.specs.Lines.{slopeOf, level, rising, falling, lineOf, rateOn, Drawn, Ahead};
+ghost use lib.IntN.{natAbs};
+ghost use Rattle.curve.specs.Limits.{Limits};
+ghost use Rattle.estimate.specs.Lines.{parts, slopeOf, level, lineFrom, lineOf, rateOn, Drawn, Ahead, steepest};
 use curve::Node;
 
 // A rate in the parts that a line counts in: 2^27.
@@ -34,42 +36,30 @@ pub fn level(rate: u64, until: u64) -> Line
     }
 }
 
-// Up from node a to node b.
-fn rising(a: Node, b: Node) -> Line
-    requires { ⌜ Ahead a b × (a .rate ≤ b .rate) ⌝ }
-    ensures { λ r. ⌜ r ≡ rising a b ⌝ }
+// By its slope, as many parts above node a's rate on node a's day.
+fn line_from(a: Node, until: u64, above: u64, slope: i64) -> Line
+    requires { ⌜ Limits a × (above ≤ parts) × (natAbs slope ≤ steepest) ⌝ }
+    ensures { λ r. ⌜ r ≡ lineFrom a until above slope ⌝ }
 {
-    let s = slope(b.rate - a.rate, b.day - a.day);
-    let climbed = (s * a.day) as i64;
     Line {
-        until: b.day,
-        start: (a.rate * PARTS) as i64 - climbed,
-        slope: s as i64,
+        until: until,
+        start: (a.rate * PARTS + above) as i64 - slope * a.day as i64,
+        slope: slope,
     }
 }
 
-// Down from node a to node b: what it falls is cut towards zero, so it starts a part below the next rate.
-fn falling(a: Node, b: Node) -> Line
-    requires { ⌜ Ahead a b × (b .rate ≤ a .rate) ⌝ }
-    ensures { λ r. ⌜ r ≡ falling a b ⌝ }
-{
-    let s = slope(a.rate - b.rate, b.day - a.day);
-    Line {
-        until: b.day,
-        start: (a.rate * PARTS + (PARTS - 1) + s * a.day) as i64,
-        slope: -(s as i64),
-    }
-}
-
-// From node a to the next node b.
+// From node a to the next node b. What a rate falls is cut towards zero, so a line down starts a part below the next rate.
 pub fn line_of(a: Node, b: Node) -> Line
     requires { ⌜ Ahead a b ⌝ }
     ensures { λ r. ⌜ r ≡ lineOf a b ⌝ }
 {
+    let run = b.day - a.day;
     if a.rate <= b.rate {
-        return rising(a, b);
+        let up = slope(b.rate - a.rate, run) as i64;
+        return line_from(a, b.day, 0, up);
     }
-    falling(a, b)
+    let down = slope(a.rate - b.rate, run) as i64;
+    line_from(a, b.day, PARTS - 1, -down)
 }
 
 impl Line {

@@ -29,18 +29,18 @@ impl Part {
         self,
         line: Line,
         days: &[u64],
-        count: usize,
         nets: &[i64],
         logs: &[u64],
         middle: &[u64],
         upper: &[u64],
     ) -> Part
-        requires { ⌜ Ready line (now nets) (now days) count self × Tables (now logs) (now middle) (now upper) ⌝ }
-        ensures { λ r. ⌜ Along line (now (nets .entry)) (now (days .entry)) count self r ⌝ }
+        requires { ⌜ Ready line (now nets) (now days) self × Tables (now logs) (now middle) (now upper) ⌝ }
+        ensures { λ r. ⌜ Along line (now (nets .entry)) (now (days .entry)) self r ⌝ }
     {
+        let n = days.len();
         let mut i = self.done;
         let mut value = self.value;
-        while i < count {
+        while i < n {
             let day = days[i];
             if line.until <= day {
                 return Part {

@@ -6,7 +6,7 @@ ghost use Rattle.curve.specs.Limits.{Proper, ProperComponents};
 ghost use Rattle.curve.specs.Rates.{nodesOf};
 ghost use Rattle.curve.specs.Scenarios.{scenarioCount};
 ghost use Rattle.netting.specs.Netting.{listed, netSize};
-ghost use Rattle.estimate.specs.Values.{valueAt, Valued, Tables, Listed};
+ghost use Rattle.estimate.specs.Values.{cheapValue, ScenarioValues, Tables, Listed};
 use super::days::list_days;
 use super::lines::level;
 use super::lines::line_of;
@@ -20,35 +20,26 @@ use sieve::tables::logs;
 pub fn value_on(
     curve: Curve,
     days: &[u64],
-    count: usize,
     nets: &[i64],
     logs: &[u64],
     middle: &[u64],
     upper: &[u64],
 ) -> i64
-    requires { ⌜ Proper curve × Listed (now nets) (now days) count × Tables (now logs) (now middle) (now upper) ⌝ }
-    ensures { λ r. ⌜ r ≡ valueAt (nodesOf curve) (now (nets .entry)) ⌝ }
+    requires { ⌜ Proper curve × Listed (now nets) (now days) × Tables (now logs) (now middle) (now upper) ⌝ }
+    ensures { λ r. ⌜ r ≡ cheapValue (nodesOf curve) (now (nets .entry)) ⌝ }
 {
     let mut a = curve.nodes[0];
     let mut p = Part { done: 0, value: 0 };
-    p = p.along(level(a.rate, a.day), days, count, nets, logs, middle, upper);
+    p = p.along(level(a.rate, a.day), days, nets, logs, middle, upper);
     let n = curve.count;
     let mut i: usize = 1;
     while i < n {
         let b = curve.nodes[i];
-        p = p.along(line_of(a, b), days, count, nets, logs, middle, upper);
+        p = p.along(line_of(a, b), days, nets, logs, middle, upper);
         a = b;
         i += 1;
     }
-    p = p.along(
-        level(a.rate, 10_951),
-        days,
-        count,
-        nets,
-        logs,
-        middle,
-        upper,
-    );
+    p = p.along(level(a.rate, 10_951), days, nets, logs, middle, upper);
     p.value
 }
 
@@ -57,23 +48,22 @@ fn fill_values(
     curve: Curve,
     components: Components,
     days: &[u64],
-    count: usize,
     nets: &[i64],
     logs: &[u64],
     middle: &[u64],
     upper: &[u64],
     values: &mut [i64],
 )
-    requires { ⌜ Proper curve × ProperComponents components × Listed (now nets) (now days) count × Tables (now logs) (now middle) (now upper) × (scenarioCount components ≤ length (now values)) ⌝ }
+    requires { ⌜ Proper curve × ProperComponents components × Listed (now nets) (now days) × Tables (now logs) (now middle) (now upper) × (scenarioCount components ≤ length (now values)) ⌝ }
     ensures kept { λ _. ⌜ length (now (values .exit)) ≡ length (now (values .entry)) ⌝ }
-    ensures each { λ _. ⌜ Valued curve components (now (nets .entry)) (now (values .exit)) ⌝ }
+    ensures each { λ _. ⌜ ScenarioValues curve components (now (nets .entry)) (now (values .exit)) ⌝ }
 {
     let n = components.scenario_count();
     let mut s: u64 = 0;
     while s < n {
         let stressed = curve.stressed(components.scenario(s));
         let at = s as usize;
-        values[at] = value_on(stressed, days, count, nets, logs, middle, upper);
+        values[at] = value_on(stressed, days, nets, logs, middle, upper);
         s += 1;
     }
 }
@@ -82,7 +72,7 @@ fn fill_values(
 pub fn values_of(curve: Curve, components: Components, nets: &[i64], values: &mut [i64])
     requires { ⌜ Proper curve × ProperComponents components × (length (now nets) ≡ 10951) × (netSize (now nets) (listed (now nets)) ≤ 140_000_000_000_000_000) × (scenarioCount components ≤ length (now values)) ⌝ }
     ensures kept { λ _. ⌜ length (now (values .exit)) ≡ length (now (values .entry)) ⌝ }
-    ensures each { λ _. ⌜ Valued curve components (now (nets .entry)) (now (values .exit)) ⌝ }
+    ensures each { λ _. ⌜ ScenarioValues curve components (now (nets .entry)) (now (values .exit)) ⌝ }
 {
     let mut rows = [0u64; 15627];
     let mut middle = [0u64; 1024];
@@ -94,8 +84,7 @@ pub fn values_of(curve: Curve, components: Components, nets: &[i64], values: &mu
     fill_values(
         curve,
         components,
-        &days,
-        count,
+        &days[..count],
         nets,
         &rows,
         &middle,

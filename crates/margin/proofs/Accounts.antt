@@ -1,4 +1,4 @@
--- From the figures of curves in an array to the margin of an account: what a caller of `margin_of` cites. Assumes nothing.
+-- From the figures of curves in an array to the margin of an account: what a caller of `margin_of` cites.
 use mathlib.Core.Path.{_≡_, sym, _∙_, ap}
 use mathlib.Core.List.{List, [], _∷_, _++_, map}
 use Prim.Native.Nat.{ℕ, zero, suc, _-_, _≤_, _<_}

@@ -1,4 +1,4 @@
--- What the choice among the scenarios takes at each step: equal losses, the limit of the estimates, and the loop over those that are kept. Assumes nothing.
+-- What the choice among the scenarios takes at each step: equal losses, the limit of the estimates, and the loop over those that are kept.
 use mathlib.Core.Path.{_≡_, refl, sym, _∙_, ap}
 use mathlib.Core.Bool.{Bool, true, false}
 use mathlib.Core.List.{List, map}
@@ -13,19 +13,16 @@ use Rattle.laws.proofs.Integer.{int, near-size}
 use Rattle.laws.proofs.Signed.{fits, cast, cast-is, read, read-is, abs-add}
 use Rattle.decimal.specs.Product.{unit}
 use Rattle.discount.specs.Flows.{flowValue}
-use Rattle.curve.specs.declared.Curve.{Curve}
-use Rattle.curve.specs.declared.Components.{Components}
-use Rattle.curve.specs.Limits.{Proper}
-use Rattle.curve.specs.Rates.{nodesOf}
 use Rattle.curve.specs.Scenarios.{scenarioCount, scenarioAt}
 use Rattle.curve.specs.Stress.{stressed, stressedCurve}
+use Rattle.margin.specs.declared.Position.{Position}
 use Rattle.margin.specs.declared.losses.Loss.{Loss}
-use Rattle.margin.specs.Exposure.{Exposure, exposure}
-use Rattle.margin.specs.Ladder.{ladderFlows}
-use Rattle.margin.specs.Losses.{valueOn, baseOf, lossAt, worstAt}
+use Rattle.margin.specs.Exposure.{Exposure}
+use Rattle.margin.specs.Losses.{valueOn, baseOf, valueAt, lossAt, worstAt}
 use Rattle.margin.specs.Totals.{mostFlows}
-use Rattle.margin.specs.Worst.{worseOf, worstOf, Ready}
-use Rattle.margin.specs.Choice.{valueAt, Estimates, Least, slackOf, limitOf, WorstKept, sameRates, lossOf, Held}
+use Rattle.margin.specs.Positions.{exposureOf, PositionLimits}
+use Rattle.margin.specs.Worst.{worseOf, lossOf, ScenarioLoss, worstOf}
+use Rattle.margin.specs.Choice.{Estimates, Least, slackOf, limitOf, WorstKept, sameRates}
 use Rattle.margin.proofs.Discarding.{kept-worst, same-stressed}
 use Rattle.margin.proofs.LadderFlows.{ladder-limits}
 use Rattle.margin.proofs.Sizes.{value-size}
@@ -37,24 +34,39 @@ not-less z = go (ltZ z z) refl
     go true e = let less : z <ℤ z = ltZ-yes (rw e tt) in absurd (omega int)
     go false e = refl
 
-module _ (c : Curve) (x : Components) (id : ℕ) (l : List ℕ) (n : ℕ) (p : Proper c) where
-  abbrev losses : ℕ → ℤ
-  losses = lossAt flowValue (exposure 0 c x (ladderFlows id l n))
+module _ (p : Position) (ladder : List ℕ) (h : PositionLimits p ladder) where
+  abbrev e : Exposure
+  e = exposureOf p ladder
 
   -- two scenarios that give the nodes the same rates have the same loss
-  pub same-losses : (s t : ℕ) → sameRates (stressedCurve (scenarioAt x s) c) (stressedCurve (scenarioAt x t) c) ≡ true → losses s ≡ losses t
+  same-losses : (s t : ℕ) → sameRates (stressedCurve (scenarioAt (p .components) s) (p .curve)) (stressedCurve (scenarioAt (p .components) t) (p .curve)) ≡ true
+      → lossAt flowValue e s ≡ lossAt flowValue e t
   unfolding lossAt
-  same-losses s t h =
-      let fs = ladderFlows id l n in
-      ap (λ ns. baseOf flowValue (exposure 0 c x fs) -ℤ valueOn flowValue ns fs) (same-stressed (scenarioAt x s) (scenarioAt x t) c p h)
+  same-losses s t k =
+      ap (λ ns. baseOf flowValue e -ℤ valueOn flowValue ns (e .flows)) (same-stressed (scenarioAt (p .components) s) (scenarioAt (p .components) t) (p .curve) (h .proper) k)
 
   -- and so the later one is no worse
-  pub same-worse : (w : Loss) → Held c x id l n w → (s : ℕ) → sameRates (stressedCurve (scenarioAt x s) c) (stressedCurve (scenarioAt x (w .scenario)) c) ≡ true
-      → w ≡ worseOf w (lossOf c x id l n s)
+  pub same-worse : (w : Loss) → ScenarioLoss e w → (s : ℕ)
+      → sameRates (stressedCurve (scenarioAt (p .components) s) (p .curve)) (stressedCurve (scenarioAt (p .components) (w .scenario)) (p .curve)) ≡ true
+      → w ≡ worseOf w (lossOf e s)
   unfolding worseOf
-  same-worse w h s k =
-      let e : losses s ≡ w .amount = same-losses s (w .scenario) k ∙ sym (ap (λ (v : Loss). v .amount) (h .loss)) in
-      rw (e, not-less (w .amount))
+  same-worse w k s q =
+      let same : lossAt flowValue e s ≡ w .amount = same-losses s (w .scenario) q ∙ sym (ap (λ (v : Loss). v .amount) (k .loss)) in
+      rw (same, not-less (w .amount))
+
+  -- an estimate is little larger than a value
+  pub estimate-size : (values : List ℤ) (reach : ℕ) → Estimates e values reach → (s : ℕ) → s < scenarioCount (p .components)
+      → natAbs (getD values s (pos 0)) ≤ mostFlows * unit + reach
+  estimate-size values reach k s m =
+      near-size _ (valueAt flowValue e s) reach (mostFlows * unit) (k .near s m)
+      (value-size e (ladder-limits (p .id) ladder (p .schedules) (h .schedules)) (h .schedules .few (p .id)) (map (stressed (scenarioAt (p .components) s)) (e .nodes)))
+
+-- the first largest loss over those kept is the worst loss
+pub worst-is : (e : Exposure) (values : List ℤ) (reach m : ℕ) → Estimates e values reach → Least values (scenarioCount (e .components)) m → (w : Loss)
+    → WorstKept (lossAt flowValue e) values (limitOf (getD values m (pos 0)) reach) (scenarioCount (e .components)) w → w ≡ worstOf e
+unfolding worstAt lossAt
+worst-is e values reach m k least w h =
+    kept-worst (baseOf flowValue e) (valueAt flowValue e) values reach (scenarioCount (e .components)) (k .near) m least w h
 
 -- ---- the limit
 
@@ -84,22 +96,3 @@ module _ (reach : ℕ) (small : reach ≤ mostFlows * 200000) where
     pub limit-read : read (read v +ℤ read (pos 2 *ℤ cast reach)) ≡ limitOf v reach
     unfolding slackOf
     limit-read = rw limit-is (read-is (v +ℤ pos (2 * reach)) limit-size)
-
--- ---- an estimate is little larger than a value
-
-module _ (c : Curve) (x : Components) (id : ℕ) (l : List ℕ) (n : ℕ) (days : List ℕ) (h : Ready c id l n days) where
-  abbrev pub estimated : Exposure
-  estimated = exposure 0 c x (ladderFlows id l n)
-
-  pub estimate-size : (values : List ℤ) (reach : ℕ) → Estimates estimated values reach → (s : ℕ) → s < scenarioCount x → natAbs (getD values s (pos 0)) ≤ mostFlows * unit + reach
-  unfolding valueAt
-  estimate-size values reach k s m =
-      near-size _ (valueAt estimated s) reach (mostFlows * unit) (k .near s m)
-      (value-size estimated (ladder-limits id l n (h .ladder)) (h .ladder .few id) (map (stressed (scenarioAt x s)) (nodesOf c)))
-
-  -- the first largest loss over those kept is the worst loss
-  pub worst-is : (values : List ℤ) (reach m : ℕ) → Estimates estimated values reach → Least values (scenarioCount x) m → (w : Loss)
-      → WorstKept (lossAt flowValue estimated) values (limitOf (getD values m (pos 0)) reach) (scenarioCount x) w → w ≡ worstOf estimated
-  unfolding worstAt lossAt valueAt
-  worst-is values reach m k least w h =
-      kept-worst (baseOf flowValue estimated) (valueAt estimated) values reach (scenarioCount x) (k .near) m least w h

@@ -1,4 +1,4 @@
--- The sums of a currency: what the code holds with one curve more, and that it fits; the loop over the curves; the places behind them. Assumes nothing.
+-- The sums of a currency: what the code holds with one curve more, and that it fits; the loop over the curves; the places behind them.
 use mathlib.Core.Path.{_≡_, refl, sym, _∙_, ap}
 use mathlib.Core.Bool.{Bool, true, false, cond}
 use mathlib.Core.List.{List, _∷_}

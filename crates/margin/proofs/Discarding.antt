@@ -1,4 +1,4 @@
--- Scenarios that their estimates rule out can be passed over: the first largest loss over the rest is that over all. Assumes nothing.
+-- Scenarios that their estimates rule out can be passed over: the first largest loss over the rest is that over all.
 use mathlib.Core.Path.{_≡_, refl, ap}
 use mathlib.Core.Bool.{Bool, true, false, cond}
 use mathlib.Core.List.{List, [], _∷_, map}

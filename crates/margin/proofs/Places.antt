@@ -1,4 +1,4 @@
--- A list whose first n elements stay and whose others are filled with one value, one by one. Assumes nothing.
+-- A list whose first n elements stay and whose others are filled with one value, one by one.
 use mathlib.Core.Path.{_≡_, refl, sym, _∙_, ap}
 use mathlib.Core.List.{List, _++_}
 use Prim.Native.Nat.{ℕ, _+_, _-_, _≤_, _<_}

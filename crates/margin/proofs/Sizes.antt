@@ -17,7 +17,7 @@ use Rattle.curve.specs.Scenarios.{scenarioCount, scenarioAt}
 use Rattle.curve.specs.Stress.{stressed}
 use Rattle.curve.proofs.Scenarios.{scenarios-some}
 use Rattle.margin.specs.Exposure.{Exposure}
-use Rattle.margin.specs.Losses.{valueOn, baseOf, lossAt, worstAt}
+use Rattle.margin.specs.Losses.{valueOn, baseOf, valueAt, lossAt, worstAt}
 use Rattle.margin.specs.Margins.{curveMargin, MarginLimits}
 use Rattle.margin.specs.Totals.{AllFlowLimits, mostFlows}
 use Rattle.netting.proofs.Sizes.{signed-size}
@@ -46,9 +46,8 @@ module _ (e : Exposure) (h : AllFlowLimits (e .flows)) (few : length (e .flows) 
   pub loss-size : (s : ℕ) → natAbs (lossAt flowValue e s) ≤ 2 * (mostFlows * unit)
   unfolding lossAt
   loss-size s =
-      let stress : List Node = map (stressed (scenarioAt (e .components) s)) (e .nodes) in
       omega
-      (arith, abs-sub (baseOf flowValue e) (valueOn flowValue stress (e .flows)), value-size (e .nodes), value-size stress)
+      (arith, abs-sub (baseOf flowValue e) (valueAt flowValue e s), value-size (e .nodes), value-size (map (stressed (scenarioAt (e .components) s)) (e .nodes)))
 
   pub margin-limits : MarginLimits (curveMargin e)
   unfolding curveMargin

@@ -1,6 +1,6 @@
--- The choice of the worst scenario among those that estimates leave. Assumes nothing.
+-- The choice of the worst scenario among those that estimates leave.
 use mathlib.Core.Bool.{Bool}
-use mathlib.Core.List.{List, map}
+use mathlib.Core.List.{List}
 use mathlib.Core.Path.{_≡_}
 use Prim.Native.Nat.{ℕ, _*_, _≤_, _<_}
 use lib.Dec.{eqb}
@@ -11,24 +11,17 @@ use Rattle.laws.specs.Distance.{Within}
 use Rattle.laws.specs.Every.{every}
 use Rattle.discount.specs.Flows.{flowValue}
 use Rattle.curve.specs.declared.Curve.{Curve}
-use Rattle.curve.specs.declared.Components.{Components}
 use Rattle.curve.specs.Limits.{zeroNode}
-use Rattle.curve.specs.Scenarios.{scenarioCount, scenarioAt}
-use Rattle.curve.specs.Stress.{stressed}
-use Rattle.margin.specs.Exposure.{Exposure, exposure}
-use Rattle.margin.specs.Ladder.{ladderFlows}
-use Rattle.margin.specs.Losses.{valueOn, lossAt}
+use Rattle.curve.specs.Scenarios.{scenarioCount}
+use Rattle.margin.specs.Exposure.{Exposure}
+use Rattle.margin.specs.Losses.{valueAt}
 use Rattle.margin.specs.Totals.{mostFlows}
 use Rattle.margin.specs.declared.losses.Loss.{Loss}
-
--- the value of an exposure in the scenario of a number
-unfoldable pub valueAt : Exposure → ℕ → ℤ
-valueAt e s = valueOn flowValue (map (stressed (scenarioAt (e .components) s)) (e .nodes)) (e .flows)
 
 -- an estimate for each scenario: it differs from the scenario's value by at most a reach that is the same for all
 pub record Estimates (e : Exposure) (values : List ℤ) (reach : ℕ) : Type 0 where
   pub places : length values ≡ 343
-  pub near : (s : ℕ) → s < scenarioCount (e .components) → Within (getD values s (pos 0)) (valueAt e s) reach
+  pub near : (s : ℕ) → s < scenarioCount (e .components) → Within (getD values s (pos 0)) (valueAt flowValue e s) reach
   pub small : reach ≤ mostFlows * 200000
 
 -- of n values the one at m is the least
@@ -48,6 +41,12 @@ limitOf least reach = least +ℤ pos (slackOf reach)
 abbrev pub Kept : List ℤ → ℤ → ℕ → Type 0
 Kept values limit s = getD values s (pos 0) ≤ℤ limit
 
+-- some scenario below n is kept
+pub record SomeKept (values : List ℤ) (limit : ℤ) (n : ℕ) : Type 0 where
+  pub place : ℕ
+  pub within : place < n
+  pub kept : Kept values limit place
+
 -- k is the first that is kept
 pub record FirstKept (values : List ℤ) (limit : ℤ) (k : ℕ) : Type 0 where
   pub kept : Kept values limit k
@@ -63,11 +62,3 @@ pub record WorstKept (loss : ℕ → ℤ) (values : List ℤ) (limit : ℤ) (n :
 -- the rates of two curves' nodes are the same
 unfoldable pub sameRates : Curve → Curve → Bool
 sameRates a b = every (λ i. eqb (getD (a .nodes) i zeroNode .rate) (getD (b .nodes) i zeroNode .rate)) 0 (a .count)
-
--- the loss of a scenario, with its number; and a loss that is one of these
-abbrev pub lossOf : Curve → Components → ℕ → List ℕ → ℕ → ℕ → Loss
-lossOf c x id l n s = record { amount = lossAt flowValue (exposure 0 c x (ladderFlows id l n)) s; scenario = s }
-
-pub record Held (c : Curve) (x : Components) (id : ℕ) (l : List ℕ) (n : ℕ) (w : Loss) : Type 0 where
-  pub within : w .scenario < scenarioCount x
-  pub loss : w ≡ lossOf c x id l n (w .scenario)

@@ -1,12 +1,10 @@
--- What an account has on a curve (document 01, "Margin"). Assumes nothing.
+-- What an account has on a curve (document 01, "Margin").
 use mathlib.Core.Bool.{cond}
 use mathlib.Core.List.{List, [], _∷_}
 use Prim.Native.Nat.{ℕ}
 use lib.Dec.{eqb}
 use Rattle.curve.specs.declared.Node.{Node}
-use Rattle.curve.specs.declared.Curve.{Curve}
 use Rattle.curve.specs.declared.Components.{Components}
-use Rattle.curve.specs.Rates.{nodesOf}
 use Rattle.discount.specs.declared.Flow.{Flow}
 
 -- a curve with the flows on it
@@ -15,11 +13,6 @@ pub record Exposure : Type 0 where
   pub nodes : List Node
   pub components : Components
   pub flows : List Flow
-
--- of a curve as the engine holds it
-abbrev pub exposure : ℕ → Curve → Components → List Flow → Exposure
-exposure currency curve components fs =
-    record { currency = currency; nodes = nodesOf curve; components = components; flows = fs }
 
 -- "A curve's flows are those that stand on it"
 unfoldable pub flowsOn : ℕ → List Flow → List Flow

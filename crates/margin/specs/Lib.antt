@@ -4,6 +4,7 @@ pub mod Losses
 pub mod Totals
 pub mod Factors
 pub mod Worst
+pub mod Positions
 pub mod Margins
 pub mod Demand
 pub mod Choice

@@ -1,12 +1,11 @@
 -- The value of a curve's flows, the loss of a scenario and the worst one (document 01, "Margin"). What one flow comes to is a parameter v: its
--- present value, or its exact value. So the engine's figures and the exact ones are one definition, at two values. Assumes nothing.
+-- present value, or its exact value. So the engine's figures and the exact ones are one definition, at two values.
 use mathlib.Core.List.{List, map}
 use Prim.Native.Nat.{ℕ, _-_}
 use lib.IntN.{ℤ, _-ℤ_}
 use Rattle.laws.specs.Walk.{table}
 use Rattle.laws.specs.Worst.{worst}
 use Rattle.curve.specs.declared.Node.{Node}
-use Rattle.curve.specs.declared.Scenario.{Scenario}
 use Rattle.curve.specs.Rates.{rateAt}
 use Rattle.curve.specs.Scenarios.{scenarioCount, scenarioAt}
 use Rattle.curve.specs.Stress.{stressed}
@@ -24,13 +23,13 @@ module _ (v : (ℕ → ℕ) → Flow → ℕ) where
     abbrev pub baseOf : ℤ
     baseOf = valueOn (e .nodes) (e .flows)
 
-    -- "loss of a scenario (base minus stressed)": stressed at the nodes, and interpolated afterwards
-    abbrev pub lossUnder : Scenario → ℤ
-    lossUnder s = baseOf -ℤ valueOn (map (stressed s) (e .nodes)) (e .flows)
+    -- the value in the scenario of a number, from 0: stressed at the nodes, and interpolated afterwards
+    abbrev pub valueAt : ℕ → ℤ
+    valueAt s = valueOn (map (stressed (scenarioAt (e .components) s)) (e .nodes)) (e .flows)
 
-    -- of the scenario of a number, from 0
+    -- "loss of a scenario (base minus stressed)"
     unfoldable pub lossAt : ℕ → ℤ
-    lossAt s = lossUnder (scenarioAt (e .components) s)
+    lossAt s = baseOf -ℤ valueAt s
 
     -- "worst loss (the first scenario with the largest)": its number
     unfoldable pub worstAt : ℕ

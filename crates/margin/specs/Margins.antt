@@ -1,4 +1,4 @@
--- The figures of a curve, of a currency and of a whole book (document 01, "Margin"). Assumes nothing.
+-- The figures of a curve, of a currency and of a whole book (document 01, "Margin").
 use mathlib.Core.Bool.{cond}
 use mathlib.Core.List.{List, [], _∷_, _++_, map}
 use Prim.Native.Nat.{ℕ, _-_, _*_, _≤_, _<_}

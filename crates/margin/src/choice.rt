@@ -5,15 +5,14 @@ ghost use lib.ListN.{length};
 ghost use Rattle.curve.specs.Limits.{Proper};
 ghost use Rattle.curve.specs.Scenarios.{scenarioCount};
 ghost use Rattle.discount.specs.Flows.{flowValue};
-ghost use Rattle.margin.specs.Choice.{Estimates, Least, Kept, FirstKept, WorstKept, sameRates, lossOf, Held};
-ghost use Rattle.margin.specs.Exposure.{exposure};
-ghost use Rattle.margin.specs.Ladder.{ladderFlows};
+ghost use Rattle.margin.specs.Choice.{Estimates, Least, SomeKept, FirstKept, WorstKept, sameRates};
 ghost use Rattle.margin.specs.Losses.{lossAt};
-ghost use Rattle.margin.specs.Worst.{worseOf, worstOf, Based};
+ghost use Rattle.margin.specs.Positions.{exposureOf, Based};
+ghost use Rattle.margin.specs.Worst.{worseOf, lossOf, ScenarioLoss, worstOf};
+use super::ValuedPosition;
 use super::estimates::estimate;
 use super::losses::Loss;
 use super::losses::loss_of;
-use curve::Components;
 use curve::Curve;
 
 // The place of the least of the first n values.
@@ -32,19 +31,19 @@ fn least_of(values: &[i64], n: u64) -> u64
     least
 }
 
-// The first place, up to one that is kept, whose value is at most the limit.
-fn first_kept(values: &[i64], limit: i64, kept: u64) -> u64
-    requires { ⌜ (kept < length (now values)) × Kept (now values) limit kept ⌝ }
-    ensures { λ r. ⌜ FirstKept (now (values .entry)) limit r × (r ≤ kept) ⌝ }
+// The first of n places whose value is at most the limit, where there is one.
+fn first_kept(values: &[i64], limit: i64, n: u64) -> u64
+    requires { ⌜ (n ≤ length (now values)) × SomeKept (now values) limit n ⌝ }
+    ensures { λ r. ⌜ FirstKept (now (values .entry)) limit r × (r < n) ⌝ }
 {
     let mut s: u64 = 0;
-    while s < kept {
+    while s < n {
         if values[s as usize] <= limit {
             return s;
         }
         s += 1;
     }
-    kept
+    s
 }
 
 // Whether the nodes of two curves have the same rates.
@@ -64,57 +63,44 @@ fn same_rates(a: Curve, b: Curve) -> bool
 }
 
 // The worse of a loss and that of scenario s. Where both scenarios give the nodes the same rates, the losses are equal, and nothing is valued.
-fn worse_with(
-    id: u64,
-    curve: Curve,
-    components: Components,
-    l: &[u64],
-    n: usize,
-    asked: &[u64],
-    base: i64,
-    worst: Loss,
-    s: u64,
-) -> Loss
-    requires { ⌜ Based curve components id (now l) n (now asked) base × Held curve components id (now l) n worst × (s < scenarioCount components) ⌝ }
-    ensures { λ r. ⌜ r ≡ worseOf worst (lossOf curve components id (now (l .entry)) n s) ⌝ }
+fn worse_with(valued: ValuedPosition, ladder: &[u64], marks: &[u64], worst: Loss, s: u64) -> Loss
+    requires { ⌜ Based valued (now ladder) (now marks) × ScenarioLoss (exposureOf (valued .position) (now ladder)) worst × (s < scenarioCount (valued .position .components)) ⌝ }
+    ensures { λ r. ⌜ r ≡ worseOf worst (lossOf (exposureOf (valued .position) (now (ladder .entry))) s) ⌝ }
 {
-    let here = curve.stressed(components.scenario(s));
-    let there = curve.stressed(components.scenario(worst.scenario));
-    if same_rates(here, there) {
+    let position = valued.position;
+    if same_rates(position.curve_in(s), position.curve_in(worst.scenario)) {
         return worst;
     }
     let next = Loss {
-        amount: loss_of(id, curve, components, l, n, asked, base, s),
+        amount: loss_of(valued, ladder, marks, s),
         scenario: s,
     };
     worst.worse(next)
 }
 
-// The worst of the scenarios that are kept, from the first of them on.
-fn worst_from(
-    id: u64,
-    curve: Curve,
-    components: Components,
-    l: &[u64],
-    n: usize,
-    asked: &[u64],
-    base: i64,
+// The worst of the scenarios that are kept: those whose estimate is at most the limit.
+fn worst_kept(
+    valued: ValuedPosition,
+    ladder: &[u64],
+    marks: &[u64],
     values: &[i64],
     limit: i64,
-    first: u64,
 ) -> Loss
-    requires { ⌜ Based curve components id (now l) n (now asked) base × (length (now values) ≡ 343) × FirstKept (now values) limit first × (first < scenarioCount components) ⌝ }
-    ensures { λ r. ⌜ WorstKept (lossAt flowValue (exposure 0 curve components (ladderFlows id (now (l .entry)) n))) (now (values .entry)) limit (scenarioCount components) r ⌝ }
+    requires { ⌜ Based valued (now ladder) (now marks) × (length (now values) ≡ 343) × SomeKept (now values) limit (scenarioCount (valued .position .components)) ⌝ }
+    ensures { λ r. ⌜ WorstKept (lossAt flowValue (exposureOf (valued .position) (now (ladder .entry)))) (now (values .entry)) limit (scenarioCount (valued .position .components)) r ⌝ }
 {
+    let position = valued.position;
+    let components = position.components;
     let count = components.scenario_count();
+    let first = first_kept(values, limit, count);
     let mut worst = Loss {
-        amount: loss_of(id, curve, components, l, n, asked, base, first),
+        amount: loss_of(valued, ladder, marks, first),
         scenario: first,
     };
     let mut s = first + 1;
     while s < count {
         if values[s as usize] <= limit {
-            worst = worse_with(id, curve, components, l, n, asked, base, worst, s);
+            worst = worse_with(valued, ladder, marks, worst, s);
         }
         s += 1;
     }
@@ -122,52 +108,29 @@ fn worst_from(
 }
 
 // The first scenario with the largest loss, given an estimate of each scenario's value and how far it may be off.
-fn worst_kept(
-    id: u64,
-    curve: Curve,
-    components: Components,
-    l: &[u64],
-    n: usize,
-    asked: &[u64],
-    base: i64,
+fn worst_estimated(
+    valued: ValuedPosition,
+    ladder: &[u64],
+    marks: &[u64],
     values: &[i64],
     reach: u64,
 ) -> Loss
-    requires { ⌜ Based curve components id (now l) n (now asked) base × Estimates (exposure 0 curve components (ladderFlows id (now l) n)) (now values) reach ⌝ }
-    ensures { λ r. ⌜ r ≡ worstOf (exposure 0 curve components (ladderFlows id (now (l .entry)) n)) ⌝ }
+    requires { ⌜ Based valued (now ladder) (now marks) × Estimates (exposureOf (valued .position) (now ladder)) (now values) reach ⌝ }
+    ensures { λ r. ⌜ r ≡ worstOf (exposureOf (valued .position) (now (ladder .entry))) ⌝ }
 {
-    let count = components.scenario_count();
-    let least = least_of(values, count);
+    let position = valued.position;
+    let components = position.components;
+    let least = least_of(values, components.scenario_count());
     let limit = values[least as usize] + 2 * reach as i64;
-    let first = first_kept(values, limit, least);
-    worst_from(
-        id,
-        curve,
-        components,
-        l,
-        n,
-        asked,
-        base,
-        values,
-        limit,
-        first,
-    )
+    worst_kept(valued, ladder, marks, values, limit)
 }
 
 // The first scenario with the largest loss.
-pub fn worst_of(
-    id: u64,
-    curve: Curve,
-    components: Components,
-    l: &[u64],
-    n: usize,
-    asked: &[u64],
-    base: i64,
-) -> Loss
-    requires { ⌜ Based curve components id (now l) n (now asked) base ⌝ }
-    ensures { λ r. ⌜ r ≡ worstOf (exposure 0 curve components (ladderFlows id (now (l .entry)) n)) ⌝ }
+pub fn worst_of(valued: ValuedPosition, ladder: &[u64], marks: &[u64]) -> Loss
+    requires { ⌜ Based valued (now ladder) (now marks) ⌝ }
+    ensures { λ r. ⌜ r ≡ worstOf (exposureOf (valued .position) (now (ladder .entry))) ⌝ }
 {
     let mut values = [0i64; 343];
-    let reach = estimate(id, curve, components, l, n, &mut values);
-    worst_kept(id, curve, components, l, n, asked, base, &values, reach)
+    let reach = estimate(valued.position, ladder, &mut values);
+    worst_estimated(valued, ladder, marks, &values, reach)
 }

@@ -9,6 +9,24 @@ pub mod margins;
 pub mod net;
 pub mod total;
 
+use curve::Components;
+use curve::Curve;
+
+// What an account has on a curve: the curve's id and currency, the curve with the components that stress it, and how many schedules its ladder has.
+pub struct Position {
+    pub id: u64,
+    pub currency: u64,
+    pub curve: Curve,
+    pub components: Components,
+    pub schedules: usize,
+}
+
+// A position with its base value.
+pub struct ValuedPosition {
+    pub position: Position,
+    pub base: i64,
+}
+
 // The figures of a curve.
 pub struct CurveMargin {
     pub base: i64,

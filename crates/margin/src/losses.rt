@@ -1,47 +1,54 @@
 // The losses of a curve's scenarios, in full.
 ghost use mathlib.Core.Path.{_≡_};
 ghost use Prim.Native.Nat.{_<_};
+ghost use Rattle.curve.specs.Limits.{Proper, ProperComponents};
 ghost use Rattle.curve.specs.Rates.{nodesOf};
-ghost use Rattle.curve.specs.Scenarios.{scenarioCount};
+ghost use Rattle.curve.specs.Scenarios.{scenarioCount, scenarioAt};
+ghost use Rattle.curve.specs.Stress.{stressedCurve};
 ghost use Rattle.discount.specs.Flows.{flowValue};
-ghost use Rattle.margin.specs.Exposure.{exposure};
-ghost use Rattle.margin.specs.Ladder.{ladderFlows};
+ghost use Rattle.margin.specs.Ladder.{ladderFlows, LadderLimits};
 ghost use Rattle.margin.specs.Losses.{lossAt};
+ghost use Rattle.margin.specs.Positions.{exposureOf, DaysMarked, Based};
 ghost use Rattle.margin.specs.Totals.{totalOn};
-ghost use Rattle.margin.specs.Worst.{worseOf, LossLimits, Ready, Based};
+ghost use Rattle.margin.specs.Worst.{worseOf, LossLimits};
+use super::Position;
+use super::ValuedPosition;
 use super::factors::fill_factors;
 use super::ladder::value_of;
 use super::total::Total;
-use curve::Components;
 use curve::Curve;
 
 // The value of a ladder at the rates of a curve, and its tolerance; the days of its flows are marked.
-pub fn value_on(id: u64, curve: Curve, l: &[u64], n: usize, asked: &[u64]) -> Total
-    requires { ⌜ Ready curve id (now l) n (now asked) ⌝ }
-    ensures { λ r. ⌜ r ≡ totalOn (nodesOf curve) (ladderFlows id (now (l .entry)) n) ⌝ }
+pub fn value_on(id: u64, curve: Curve, ladder: &[u64], schedules: usize, marks: &[u64]) -> Total
+    requires { ⌜ Proper curve × LadderLimits (now ladder) schedules × DaysMarked id (now ladder) schedules (now marks) ⌝ }
+    ensures { λ r. ⌜ r ≡ totalOn (nodesOf curve) (ladderFlows id (now (ladder .entry)) schedules) ⌝ }
 {
     let mut factors = [0u64; 10951];
-    fill_factors(curve, asked, &mut factors);
-    value_of(id, l, n, &factors)
+    fill_factors(curve, marks, &mut factors);
+    value_of(id, ladder, schedules, &factors)
+}
+
+impl Position {
+    // The curve in scenario s.
+    pub fn curve_in(self, s: u64) -> Curve
+        requires { ⌜ Proper (self .curve) × ProperComponents (self .components) × (s < scenarioCount (self .components)) ⌝ }
+        ensures { λ r. ⌜ r ≡ stressedCurve (scenarioAt (self .components) s) (self .curve) ⌝ }
+    {
+        let curve = self.curve;
+        let components = self.components;
+        curve.stressed(components.scenario(s))
+    }
 }
 
 // The loss of scenario s: the base less the value at the stressed nodes.
-pub fn loss_of(
-    id: u64,
-    curve: Curve,
-    components: Components,
-    l: &[u64],
-    n: usize,
-    asked: &[u64],
-    base: i64,
-    s: u64,
-) -> i64
-    requires { ⌜ Based curve components id (now l) n (now asked) base × (s < scenarioCount components) ⌝ }
-    ensures { λ r. ⌜ r ≡ lossAt flowValue (exposure 0 curve components (ladderFlows id (now (l .entry)) n)) s ⌝ }
+pub fn loss_of(valued: ValuedPosition, ladder: &[u64], marks: &[u64], s: u64) -> i64
+    requires { ⌜ Based valued (now ladder) (now marks) × (s < scenarioCount (valued .position .components)) ⌝ }
+    ensures { λ r. ⌜ r ≡ lossAt flowValue (exposureOf (valued .position) (now (ladder .entry))) s ⌝ }
 {
-    let stressed = curve.stressed(components.scenario(s));
-    let t = value_on(id, stressed, l, n, asked);
-    base - t.sum
+    let position = valued.position;
+    let stressed = position.curve_in(s);
+    let total = value_on(position.id, stressed, ladder, position.schedules, marks);
+    valued.base - total.sum
 }
 
 // A scenario and its loss.

@@ -3,42 +3,43 @@ ghost use mathlib.Core.Path.{_≡_};
 ghost use mathlib.Core.List.{_++_};
 ghost use Prim.Native.Nat.{_-_, _≤_};
 ghost use lib.ListN.{take, replicate};
-ghost use Rattle.curve.specs.Limits.{Proper, ProperComponents};
-ghost use Rattle.margin.specs.Exposure.{exposure};
-ghost use Rattle.margin.specs.Ladder.{ladderFlows, LadderLimits};
 ghost use Rattle.margin.specs.Margins.{curveMargin, currencyMargin, noCurve, assembled, MarginLimits, plusCurve, SumsLimits, PlacesLimits};
+ghost use Rattle.margin.specs.Positions.{exposureOf, PositionLimits};
 use super::CurrencyMargin;
 use super::CurveMargin;
 use super::Margin;
+use super::Position;
+use super::ValuedPosition;
 use super::choice::worst_of;
 use super::factors::mark_days;
 use super::losses::value_on;
-use curve::Components;
-use curve::Curve;
 
-// The figures of a curve with a ladder of n schedules on it.
-pub fn curve_margin(
-    id: u64,
-    currency: u64,
-    curve: Curve,
-    components: Components,
-    l: &[u64],
-    n: usize,
-) -> CurveMargin
-    requires { ⌜ Proper curve × ProperComponents components × LadderLimits (now l) n ⌝ }
-    ensures { λ r. ⌜ r ≡ curveMargin (exposure currency curve components (ladderFlows id (now (l .entry)) n)) ⌝ }
+// The figures of a curve, with a position's ladder on it.
+pub fn curve_margin(position: Position, ladder: &[u64]) -> CurveMargin
+    requires { ⌜ PositionLimits position (now ladder) ⌝ }
+    ensures { λ r. ⌜ r ≡ curveMargin (exposureOf position (now (ladder .entry))) ⌝ }
 {
-    let mut asked = [0u64; 10951];
-    mark_days(id, l, n, &mut asked);
-    let total = value_on(id, curve, l, n, &asked);
+    let mut marks = [0u64; 10951];
+    mark_days(position.id, ladder, position.schedules, &mut marks);
+    let total = value_on(
+        position.id,
+        position.curve,
+        ladder,
+        position.schedules,
+        &marks,
+    );
     let base = total.sum;
-    let worst = worst_of(id, curve, components, l, n, &asked, base);
+    let valued = ValuedPosition {
+        position: position,
+        base: base,
+    };
+    let worst = worst_of(valued, ladder, &marks);
     let loss = worst.amount;
     CurveMargin {
         base: base,
         loss: loss,
         scenario: worst.scenario,
-        currency: currency,
+        currency: position.currency,
         tolerance: total.tolerance,
     }
 }
@@ -87,19 +88,26 @@ pub fn currency_margin(currency: u64, curves: [CurveMargin; 8], count: usize) ->
     }
 }
 
+// The figures of a place with no curve.
+pub fn no_curve() -> CurveMargin
+    ensures { λ r. ⌜ r ≡ noCurve ⌝ }
+{
+    CurveMargin {
+        base: 0,
+        loss: 0,
+        scenario: 0,
+        currency: 0,
+        tolerance: 0,
+    }
+}
+
 // The first count places as they are, and 0 behind them.
 fn cleared(curves: [CurveMargin; 8], count: usize) -> [CurveMargin; 8]
     requires { ⌜ count ≤ 8 ⌝ }
     ensures { λ r. ⌜ r ≡ take count curves ++ replicate (8 - count) noCurve ⌝ }
 {
     let mut r = curves;
-    let none = CurveMargin {
-        base: 0,
-        loss: 0,
-        scenario: 0,
-        currency: 0,
-        tolerance: 0,
-    };
+    let none = no_curve();
     let mut i: usize = count;
     while i < 8 {
         r[i] = none;

@@ -5,6 +5,7 @@ use ground::Ground;
 use ground::Verdict;
 use margin::CurveMargin;
 use margin::Margin;
+use margin::Position;
 ghost use mathlib.Core.Path.{_≡_};
 ghost use Prim.Native.Nat.{_≤_};
 ghost use lib.ListN.{length};
@@ -13,7 +14,7 @@ ghost use Rattle.curve.specs.Limits.{ProperComponents};
 ghost use Rattle.curve_block.specs.Parts.{componentsOf};
 ghost use Rattle.book.specs.Parts.{blockAt, curveCount};
 ghost use Rattle.book.specs.Verdict.{verdict};
-ghost use Rattle.margin.specs.Margins.{curveMargin, noCurve};
+ghost use Rattle.margin.specs.Margins.{curveMargin};
 ghost use Rattle.exposure.specs.Exposures.{exposureAt};
 ghost use Rattle.report.specs.Bounded.{Bounded};
 ghost use Rattle.report.specs.Entry.{marginIn, breaksReportSpace, marginVerdict, marginBytes};
@@ -37,26 +38,14 @@ fn curve_figures(book: &[u8], used: usize, curve: usize) -> CurveMargin
     let b = parts::block_at(book, curve);
     let currency = curve_block::currency_of(b);
     let components = components_at(book, used, curve);
-    margin::margins::curve_margin(
-        curve as u64,
-        currency,
-        curve_block::curve_of(b),
-        components,
-        &ladder,
-        n,
-    )
-}
-
-fn no_curve() -> CurveMargin
-    ensures { λ r. ⌜ r ≡ noCurve ⌝ }
-{
-    CurveMargin {
-        base: 0,
-        loss: 0,
-        scenario: 0,
-        currency: 0,
-        tolerance: 0,
-    }
+    let position = Position {
+        id: curve as u64,
+        currency: currency,
+        curve: curve_block::curve_of(b),
+        components: components,
+        schedules: n,
+    };
+    margin::margins::curve_margin(position, &ladder)
 }
 
 // The margin of an accepted book.
@@ -65,7 +54,7 @@ pub fn margin_of_book(book: &[u8], used: usize) -> Margin
     ensures { λ r. ⌜ r ≡ marginIn (now (book .entry)) ⌝ }
 {
     let count = parts::curve_count(book);
-    let mut curves = [no_curve(); 8];
+    let mut curves = [margin::margins::no_curve(); 8];
     let mut k: usize = 0;
     while k < count {
         let m = curve_figures(book, used, k + 1);

@@ -31,7 +31,11 @@ curve-margin-requires c κs =
     let start = gathered .before .before .before in
     let a = start .args in
     let b = block-sound (a .book .now) (a .used) (sound (a .book .now) (a .used) (start .pre .0)) (a .curve) (start .pre .1) (start .pre .2) in
-    (rw (curve .curve-of .ensures, at .block-at .ensures .0) (b .curve), components .components-at .ensures .1, gathered .gather .ensures .1)
+    record {
+      proper = rw (curve .curve-of .ensures, at .block-at .ensures .0) (b .curve);
+      stress = components .components-at .ensures .1;
+      schedules = gathered .gather .ensures .1;
+    }
 
 returns : tie.Need-returns
 unfolding exposureAt

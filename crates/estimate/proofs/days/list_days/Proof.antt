@@ -1,4 +1,4 @@
--- `estimate::days::list_days` meets its contract: what is listed and what is left are together all. Assumes nothing.
+-- `estimate::days::list_days` meets its contract: what is listed and what is left are together all.
 use borrow.Author.Needs.{needs}
 use mathlib.Core.Logic.{⊎-elim}
 use Prim.Native.Nat.{_-_}
@@ -18,27 +18,6 @@ abbrev μ-loop : tie.MeasureT-loop
 loop-holds : tie.Need-loop-holds Inv-loop μ-loop
 loop-holds c = listing-none _ _
 
-mul-days : tie.Need-mul-days Inv-loop μ-loop
-mul-days c = search needs
-
-slice-write-days : tie.Need-slice-write-days Inv-loop μ-loop
-slice-write-days c = search needs
-
-mul-if1 : tie.Need-mul-if1 Inv-loop μ-loop
-mul-if1 c = search needs
-
-shared-slice-copy-out-if1 : tie.Need-shared-slice-copy-out-if1 Inv-loop μ-loop
-shared-slice-copy-out-if1 c = search needs
-
-add-count : tie.Need-add-count Inv-loop μ-loop
-add-count c = search needs
-
-add-day : tie.Need-add-day Inv-loop μ-loop
-add-day c = search needs
-
-loop-less : tie.Need-loop-less Inv-loop μ-loop
-loop-less c = search needs
-
 loop-again : tie.Need-loop-again Inv-loop μ-loop
 loop-again c =
     let l = c .before .before .before in
@@ -50,9 +29,6 @@ loop-again c =
     (λ w. rw (w .1) (more (some-tested x (w .0 .taken))))
     (λ w. rw (w .1) (kept (none-tested x (c .before .if12 .given) (w .0 .left))))
     (c .if1 .came)
-
-same-length : tie.Need-same-length Inv-loop μ-loop
-same-length c = c .before .loop .inv .places
 
 returns : tie.Need-returns Inv-loop μ-loop
 returns c =
@@ -66,13 +42,13 @@ list-days-spec =
     Inv-loop
     μ-loop
     loop-holds
-    mul-days
-    slice-write-days
-    mul-if1
-    shared-slice-copy-out-if1
-    add-count
-    add-day
-    loop-less
+    (λ c. search needs)
+    (λ c. search needs)
+    (λ c. search needs)
+    (λ c. search needs)
+    (λ c. search needs)
+    (λ c. search needs)
+    (λ c. search needs)
     loop-again
-    same-length
+    (λ c. c .before .loop .inv .places)
     returns)

@@ -1,4 +1,4 @@
--- `estimate::values::fill_values` meets its contract: the scenarios passed have their values. Assumes nothing.
+-- `estimate::values::fill_values` meets its contract: the scenarios passed have their values.
 use borrow.Author.Needs.{needs}
 use Prim.Native.Nat.{_-_, _<_}
 use native.Mathlib.Omega.{arith}
@@ -10,24 +10,18 @@ use Rattle.estimate.proofs.values.fill_values.Statement.{statement}
 use Rattle.estimate.proofs.values.fill_values.Tie as tie
 
 abbrev Inv-loop : tie.InvT-loop
-Inv-loop curve components days count nets logs middle upper values₀ n s₀ values s =
+Inv-loop curve components days nets logs middle upper values₀ n s₀ values s =
     Filled curve components nets values₀ values s
 
 abbrev μ-loop : tie.MeasureT-loop
-μ-loop curve components days count nets logs middle upper values₀ n s₀ values s = n - s
+μ-loop curve components days nets logs middle upper values₀ n s₀ values s = n - s
 
 -- the entry's record, and that a turn's scenario is one of the components'
 abbrev start : tie.At-loop Inv-loop μ-loop → tie.Start Inv-loop μ-loop
-start l = l .before .before .before .before .before .before
+start l = let given = l .before .before .before in given .before .before .before
 
 within : (c : tie.In-loop Inv-loop μ-loop) → c .before .loop .s < scenarioCount (start (c .before) .args .components)
 within c = omega (arith, c .loop-test .taken, c .before .before .scenario-count .ensures)
-
-scenario-count-requires : tie.Need-scenario-count-requires Inv-loop μ-loop
-scenario-count-requires c κs = search needs
-
-loop-holds : tie.Need-loop-holds Inv-loop μ-loop
-loop-holds c = filled-none _ _ _ _
 
 scenario-requires : tie.Need-scenario-requires Inv-loop μ-loop
 scenario-requires c κs = (start (c .before) .pre .1, within c)
@@ -42,33 +36,31 @@ value-on-requires c κs =
     let p = start (c .before .before .before) .pre in
     (rw (c .stressed .ensures) (proper-stressed _ _ (p .0)), p .2, p .3)
 
-mul-t17 : tie.Need-mul-t17 Inv-loop μ-loop
-mul-t17 c =
-    let l = c .before .before .before .before in
-    record { fits = omega (arith, within (c .before .before .before), scenarios-most _ (start l .pre .1)) }
+mul-t16 : tie.Need-mul-t16 Inv-loop μ-loop
+mul-t16 c =
+    let turn = c .before .before .before in
+    record { fits = omega (arith, within turn, scenarios-most _ (start (turn .before) .pre .1)) }
 
 slice-set-from-values : tie.Need-slice-set-from-values Inv-loop μ-loop
 slice-set-from-values c =
-    let l = c .before .before .before .before in
-    omega (arith, within (c .before .before .before), start l .pre .4, l .loop .inv .places)
+    let turn = c .before .before .before in
+    omega (arith, within turn, start (turn .before) .pre .4, turn .before .loop .inv .places)
 
 add-s : tie.Need-add-s Inv-loop μ-loop
 add-s c =
-    let l = c .before .before .before .before in
-    record { fits = omega (arith, within (c .before .before .before), scenarios-most _ (start l .pre .1)) }
+    let turn = c .before .before .before in
+    record { fits = omega (arith, within turn, scenarios-most _ (start (turn .before) .pre .1)) }
 
 loop-less : tie.Need-loop-less Inv-loop μ-loop
 loop-less c = omega (arith, c .before .before .before .loop-test .taken)
 
 loop-again : tie.Need-loop-again Inv-loop μ-loop
 loop-again c =
-    let l = c .before .before .before .before in
+    let turn = c .before .before .before in
+    let l = turn .before in
     let p = start l .pre in
-    let v = stressed-read _ (p .0) _ _ _ _ _ (p .2) _ _ _ (c .before .before .scenario .ensures) (c .before .stressed .ensures) (c .value-on .ensures) in
-    filled-next _ _ _ _ _ _ (l .loop .inv) (within (c .before .before .before)) (p .4) _ v
-
-same-length : tie.Need-same-length Inv-loop μ-loop
-same-length c = c .before .loop .inv .places
+    let v = stressed-read _ (p .0) _ _ _ _ (p .2) _ _ _ (c .before .before .scenario .ensures) (c .before .stressed .ensures) (c .value-on .ensures) in
+    filled-next _ _ _ _ _ _ (l .loop .inv) (within turn) (p .4) _ v
 
 returns : tie.Need-returns Inv-loop μ-loop
 returns c =
@@ -81,15 +73,15 @@ fill-values-spec =
     (tie.spec
     Inv-loop
     μ-loop
-    scenario-count-requires
-    loop-holds
+    (λ c κs. search needs)
+    (λ c. filled-none _ _ _ _)
     scenario-requires
     stressed-requires
     value-on-requires
-    mul-t17
+    mul-t16
     slice-set-from-values
     add-s
     loop-less
     loop-again
-    same-length
+    (λ c. c .before .loop .inv .places)
     returns)

@@ -1,4 +1,4 @@
--- `margin::choice::least_of` meets its contract: of the values passed, the least is held. Assumes nothing.
+-- `margin::choice::least_of` meets its contract: of the values passed, the least is held.
 use mathlib.Core.Path.{_≡_}
 use mathlib.Core.Logic.{⊎-elim}
 use mathlib.Core.Bool.{true, false}
@@ -12,8 +12,6 @@ use borrow.Author.Needs.{needs}
 use Prim.Native.Nat.{_-_, _≤_}
 use Rattle.margin.proofs.choice.least_of.Statement.{statement}
 use Rattle.margin.proofs.choice.least_of.Tie as tie
-use Rattle.margin.proofs.choice.least_of.Reads as reads
-use Rattle.margin.proofs.choice.least_of.Lts as lts
 
 abbrev Inv-loop : tie.InvT-loop
 Inv-loop values n least₀ s₀ least s = Least values s least × (s ≤ n)
@@ -24,27 +22,10 @@ abbrev μ-loop : tie.MeasureT-loop
 loop-holds : tie.Need-loop-holds Inv-loop μ-loop
 loop-holds c = (least-first _, c .pre .0)
 
-mul-if1 : tie.Need-mul-if1 Inv-loop μ-loop
-mul-if1 c = search needs
-
-shared-slice-copy-out-if1 : tie.Need-shared-slice-copy-out-if1 Inv-loop μ-loop
-shared-slice-copy-out-if1 c = search needs
-
-mul-if1-2 : tie.Need-mul-if1-2 Inv-loop μ-loop
-mul-if1-2 c = search needs
-
-shared-slice-copy-out-if1-2 : tie.Need-shared-slice-copy-out-if1-2 Inv-loop μ-loop
-shared-slice-copy-out-if1-2 c = search needs
-
-add-s : tie.Need-add-s Inv-loop μ-loop
-add-s c = search needs
-
-loop-less : tie.Need-loop-less Inv-loop μ-loop
-loop-less c = search needs
-
 loop-again : tie.Need-loop-again Inv-loop μ-loop
 loop-again c =
-    let l = c .before .before .before .before in
+    let turn = c .before .before .before in
+    let l = turn .before in
     let values = l .before .args .values .now in
     let a = getD values (l .loop .s) (pos 0) in
     let b = getD values (l .loop .least) (pos 0) in
@@ -68,11 +49,11 @@ least-of-spec =
     Inv-loop
     μ-loop
     loop-holds
-    mul-if1
-    shared-slice-copy-out-if1
-    mul-if1-2
-    shared-slice-copy-out-if1-2
-    add-s
-    loop-less
+    (λ c. search needs)
+    (λ c. search needs)
+    (λ c. search needs)
+    (λ c. search needs)
+    (λ c. search needs)
+    (λ c. search needs)
     loop-again
     returns)

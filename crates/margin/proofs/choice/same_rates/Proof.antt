@@ -1,4 +1,4 @@
--- `margin::choice::same_rates` meets its contract. Assumes nothing.
+-- `margin::choice::same_rates` meets its contract.
 use mathlib.Core.Bool.{Bool}
 use Rattle.laws.proofs.Every.{every-passed, every-failed, every-end}
 use Rattle.curve.specs.declared.Curve.{Curve}
@@ -14,15 +14,13 @@ use native.Mathlib.Omega.{arith}
 use Prim.Native.Nat.{ℕ, _-_}
 use Rattle.margin.proofs.choice.same_rates.Statement.{statement}
 use Rattle.margin.proofs.choice.same_rates.Tie as tie
-use Rattle.margin.proofs.choice.same_rates.Reads as reads
-use Rattle.margin.proofs.choice.same_rates.Lts as lts
 
 -- node i of both has the same rate
-abbrev same : Curve → Curve → ℕ → Bool
-same a b i = eqb (getD (a .nodes) i zeroNode .rate) (getD (b .nodes) i zeroNode .rate)
+abbrev equalAt : Curve → Curve → ℕ → Bool
+equalAt a b i = eqb (getD (a .nodes) i zeroNode .rate) (getD (b .nodes) i zeroNode .rate)
 
 abbrev Inv-loop : tie.InvT-loop
-Inv-loop a b n i₀ i = sameRates a b ≡ every (same a b) i (a .count - i)
+Inv-loop a b n i₀ i = sameRates a b ≡ every (equalAt a b) i (a .count - i)
 
 abbrev μ-loop : tie.MeasureT-loop
 μ-loop a b n i₀ i = n - i
@@ -31,40 +29,22 @@ loop-holds : tie.Need-loop-holds Inv-loop μ-loop
 unfolding sameRates
 loop-holds c = let e : c .args .t1 .count - 0 ≡ c .args .t1 .count = omega arith in rw e
 
-mul-if1 : tie.Need-mul-if1 Inv-loop μ-loop
-mul-if1 c = search needs
-
-element-copy-out-if1 : tie.Need-element-copy-out-if1 Inv-loop μ-loop
-element-copy-out-if1 c = search needs
-
-mul-if1-2 : tie.Need-mul-if1-2 Inv-loop μ-loop
-mul-if1-2 c = search needs
-
-element-copy-out-if1-2 : tie.Need-element-copy-out-if1-2 Inv-loop μ-loop
-element-copy-out-if1-2 c = search needs
-
 returns : tie.Need-returns Inv-loop μ-loop
 returns c =
     let a = c .before .before .before .args in
     let i = c .before .before .loop .i in
-    sym (c .before .before .loop .inv ∙ every-failed (same (a .t1) (a .t2)) i (a .t1 .count) (search needs) (ne-eqb _ _ (c .if1 .taken)))
-
-add-i : tie.Need-add-i Inv-loop μ-loop
-add-i c = search needs
-
-loop-less : tie.Need-loop-less Inv-loop μ-loop
-loop-less c = search needs
+    sym (c .before .before .loop .inv ∙ every-failed (equalAt (a .t1) (a .t2)) i (a .t1 .count) (search needs) (ne-eqb _ _ (c .if1 .taken)))
 
 loop-again : tie.Need-loop-again Inv-loop μ-loop
 loop-again c =
     let a = c .before .before .before .args in
     let i = c .before .before .loop .i in
-    c .before .before .loop .inv ∙ every-passed (same (a .t1) (a .t2)) i (a .t1 .count) (search needs) (eq-eqb _ _ (c .if1 .left))
+    c .before .before .loop .inv ∙ every-passed (equalAt (a .t1) (a .t2)) i (a .t1 .count) (search needs) (eq-eqb _ _ (c .if1 .left))
 
 returns-2 : tie.Need-returns-2 Inv-loop μ-loop
 returns-2 c =
     let a = c .before .before .args in
-    sym (c .before .loop .inv ∙ every-end (same (a .t1) (a .t2)) (c .before .loop .i) (a .t1 .count) (search needs))
+    sym (c .before .loop .inv ∙ every-end (equalAt (a .t1) (a .t2)) (c .before .loop .i) (a .t1 .count) (search needs))
 
 pub same-rates-spec : {M : Type 1} → statement M
 same-rates-spec =
@@ -73,12 +53,12 @@ same-rates-spec =
     Inv-loop
     μ-loop
     loop-holds
-    mul-if1
-    element-copy-out-if1
-    mul-if1-2
-    element-copy-out-if1-2
+    (λ c. search needs)
+    (λ c. search needs)
+    (λ c. search needs)
+    (λ c. search needs)
     returns
-    add-i
-    loop-less
+    (λ c. search needs)
+    (λ c. search needs)
     loop-again
     returns-2)

@@ -1,46 +1,46 @@
--- `margin::losses::loss_of` meets its contract. Assumes nothing.
+-- `margin::losses::loss_of` meets its contract.
 use mathlib.Core.Path.{_≡_}
-use lib.IntN.{_-ℤ_}
+use Prim.Native.Nat.{_^_, _<_}
+use lib.IntN.{natAbs, _-ℤ_}
 use Rattle.laws.proofs.Signed.{fits, read, read-is}
 use Rattle.discount.specs.Flows.{flowValue}
-use Rattle.curve.proofs.Scenarios.{scenario-limits}
+use Rattle.curve.proofs.Stress.{proper-stressed}
 use Rattle.margin.specs.Losses.{lossAt}
-use Rattle.margin.proofs.Stressing.{ready-stressed, held, losses-fit, code-loss}
-use borrow.Author.Needs.{needs}
+use Rattle.margin.specs.Positions.{exposureOf}
+use Rattle.margin.proofs.Stressing.{losses-fit, code-loss}
 use Rattle.margin.proofs.losses.loss_of.Statement.{statement}
 use Rattle.margin.proofs.losses.loss_of.Tie as tie
 
-scenario-requires : tie.Need-scenario-requires
-scenario-requires c κs = search needs
-
-stressed-requires : tie.Need-stressed-requires
-stressed-requires c κs =
+curve-in-requires : tie.Need-curve-in-requires
+curve-in-requires c κs =
     let p = c .before .before .before .pre in
-    (p .0 .ready .proper, rw (c .scenario .ensures) (scenario-limits _ _ (p .1) (p .0 .components)))
+    (p .0 .limits .proper, p .0 .limits .stress, p .1)
 
 value-on-requires : tie.Need-value-on-requires
 value-on-requires c κs =
-    let p = c .before .before .before .before .pre in
-    rw (c .stressed .ensures) (ready-stressed _ _ _ _ _ _ (p .0 .ready))
+    let s = c .before .before .before in
+    let b = s .before .pre .0 in
+    (rw (c .curve-in .ensures) (proper-stressed _ _ (b .limits .proper)), b .limits .schedules, b .marked)
 
 -- the code's difference is the loss
-loss-is : (c : tie.After-struct-told)
-    → let a = c .before .before .before .before .before .before .before .args in
-    read (a .base) -ℤ read (c .before .before .value-on .result .sum) ≡ lossAt flowValue (held (a .curve) (a .components) (a .id) (a .l .now) (a .n) (a .asked .now) (c .before .before .before .before .before .before .before .pre .0 .ready)) (a .s)
-loss-is c =
-    let s = c .before .before .before .before .before .before .before in
-    code-loss _ _ _ _ _ _ (s .pre .0 .ready) _ _ _ _ _ (s .pre .0 .value) (c .before .before .before .before .scenario .ensures) (c .before .before .before .stressed .ensures) (c .before .before .value-on .ensures)
+module _ (c : tie.After-struct-told2) where
+  abbrev stressed : tie.After-value-on
+  stressed = let told = c .before .before in told .before .before
+
+  abbrev start : tie.Start
+  start = let given = stressed .before .before in given .before .before .before
+
+  loss-is : read (start .args .valued .base) -ℤ read (stressed .value-on .result .sum) ≡ lossAt flowValue (exposureOf (start .args .valued .position) (start .args .ladder .now)) (start .args .s)
+  loss-is = code-loss _ _ (start .pre .0 .limits) _ _ _ _ (start .pre .0 .value) (stressed .before .curve-in .ensures) (stressed .value-on .ensures)
+
+  loss-fit : natAbs (lossAt flowValue (exposureOf (start .args .valued .position) (start .args .ladder .now)) (start .args .s)) < 2 ^ 63
+  loss-fit = losses-fit _ _ (start .pre .0 .limits) _
 
 sub-result : tie.Need-sub-result
-sub-result c =
-    let s = c .before .before .before .before .before .before .before in
-    rw (loss-is c) (fits _ (losses-fit _ _ _ _ _ _ (s .pre .0 .ready) _))
+sub-result c = rw (loss-is c) (fits _ (loss-fit c))
 
 returns : tie.Need-returns
-returns c =
-    let s = c .before .before .before .before .before .before .before in
-    rw (loss-is c) (read-is _ (losses-fit _ _ _ _ _ _ (s .pre .0 .ready) _))
+returns c = rw (loss-is c) (read-is _ (loss-fit c))
 
 pub loss-of-spec : {M : Type 1} → statement M
-loss-of-spec =
-    tie.close (tie.spec scenario-requires stressed-requires value-on-requires sub-result returns)
+loss-of-spec = tie.close (tie.spec curve-in-requires value-on-requires sub-result returns)

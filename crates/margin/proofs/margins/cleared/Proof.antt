@@ -1,4 +1,4 @@
--- `margin::margins::cleared` meets its contract. Assumes nothing.
+-- `margin::margins::cleared` meets its contract.
 use borrow.Author.Needs.{needs}
 use mathlib.Core.Path.{_≡_}
 use Prim.Native.Nat.{_-_}
@@ -19,27 +19,30 @@ places : (s : tie.Start Inv-loop μ-loop) → length (s .args .curves) ≡ 8
 places s = search needs
 
 loop-holds : tie.Need-loop-holds Inv-loop μ-loop
-loop-holds c = filling-none _ _ _ (omega (arith, places c, c .pre))
-
-mul-r : tie.Need-mul-r Inv-loop μ-loop
-mul-r c = search needs
-
-array-set-from-r : tie.Need-array-set-from-r Inv-loop μ-loop
-array-set-from-r c = search needs
-
-add-i : tie.Need-add-i Inv-loop μ-loop
-add-i c = search needs
-
-loop-less : tie.Need-loop-less Inv-loop μ-loop
-loop-less c = search needs
+loop-holds c = filling-none _ _ _ (omega (arith, places (c .before), c .before .pre))
 
 loop-again : tie.Need-loop-again Inv-loop μ-loop
-loop-again c = filling-next _ _ _ _ _ (c .before .loop .inv) (omega (arith, places (c .before .before)))
+loop-again c =
+    let l = c .before in
+    let none = l .before in
+    rw (none .no-curve .ensures) (filling-next _ _ _ _ _ (l .loop .inv) (omega (arith, places (none .before))))
 
 returns : tie.Need-returns Inv-loop μ-loop
-returns c = filling-all _ _ _ _ _ (c .before .loop .inv) 8 (places (c .before .before)) (search needs)
+returns c =
+    let l = c .before in
+    filling-all _ _ _ _ _ (l .loop .inv) 8 (places (l .before .before)) (search needs)
 
 pub cleared-spec : {M : Type 1} → statement M
 cleared-spec =
     tie.close
-    (tie.spec Inv-loop μ-loop loop-holds mul-r array-set-from-r add-i loop-less loop-again returns)
+    (tie.spec
+    Inv-loop
+    μ-loop
+    (λ c κs. search needs)
+    loop-holds
+    (λ c. search needs)
+    (λ c. search needs)
+    (λ c. search needs)
+    (λ c. search needs)
+    loop-again
+    returns)

@@ -1,4 +1,4 @@
--- `margin::margins::currency_margin` meets its contract: what is summed and what is left are together all. Assumes nothing.
+-- `margin::margins::currency_margin` meets its contract: what is summed and what is left are together all.
 use borrow.Author.Needs.{needs}
 use mathlib.Core.Path.{_≡_, _∙_}
 use Prim.Native.Nat.{_-_, _<_}
@@ -15,15 +15,6 @@ Inv-loop currency count curves t₀ i₀ t i = Summed currency curves count t i
 abbrev μ-loop : tie.MeasureT-loop
 μ-loop currency count curves t₀ i₀ t i = count - i
 
-loop-holds : tie.Need-loop-holds Inv-loop μ-loop
-loop-holds c = summed-none _ _ _
-
-mul-m : tie.Need-mul-m Inv-loop μ-loop
-mul-m c = search needs
-
-array-copy-out-m : tie.Need-array-copy-out-m Inv-loop μ-loop
-array-copy-out-m c = search needs
-
 places : (s : tie.Start Inv-loop μ-loop) → length (s .args .t2) ≡ 8
 places s = search needs
 
@@ -34,16 +25,11 @@ with-curve-requires c κs =
     let k : l .i < s .args .count = search needs in
     (summed-room _ _ _ (s .pre) (places s) _ _ (l .inv) k, s .pre .each (l .i) k)
 
-add-i : tie.Need-add-i Inv-loop μ-loop
-add-i c = search needs
-
-loop-less : tie.Need-loop-less Inv-loop μ-loop
-loop-less c = search needs
-
 loop-again : tie.Need-loop-again Inv-loop μ-loop
 loop-again c =
-    let s = c .before .before .before .before in
-    rw (c .with-curve .ensures) (summed-next _ _ _ (s .pre) (places s) _ _ (c .before .before .before .loop .inv) (search needs))
+    let l = c .before .before .before in
+    let s = l .before in
+    rw (c .with-curve .ensures) (summed-next _ _ _ (s .pre) (places s) _ _ (l .loop .inv) (search needs))
 
 -- what the loop leaves
 limits : (c : tie.After-loop Inv-loop μ-loop) → SumsLimits 8 (c .before .loop .t)
@@ -68,12 +54,12 @@ currency-margin-spec =
     (tie.spec
     Inv-loop
     μ-loop
-    loop-holds
-    mul-m
-    array-copy-out-m
+    (λ c. summed-none _ _ _)
+    (λ c. search needs)
+    (λ c. search needs)
     with-curve-requires
-    add-i
-    loop-less
+    (λ c. search needs)
+    (λ c. search needs)
     loop-again
     sub-t13
     returns)

@@ -1,4 +1,4 @@
--- `margin::margins::margin_of` meets its contract. Assumes nothing.
+-- `margin::margins::margin_of` meets its contract.
 use mathlib.Core.Path.{_≡_}
 use Prim.Native.Nat.{_≤_}
 use native.Mathlib.Omega.{arith}
@@ -8,18 +8,6 @@ use borrow.Author.Needs.{needs}
 use Rattle.margin.proofs.margins.margin_of.Statement.{statement}
 use Rattle.margin.proofs.margins.margin_of.Tie as tie
 
-currency-margin-requires : tie.Need-currency-margin-requires
-currency-margin-requires c κs = search needs
-
-currency-margin-requires-2 : tie.Need-currency-margin-requires-2
-currency-margin-requires-2 c κs = search needs
-
-currency-margin-requires-3 : tie.Need-currency-margin-requires-3
-currency-margin-requires-3 c κs = search needs
-
-cleared-requires : tie.Need-cleared-requires
-cleared-requires c κs = search needs
-
 places : (s : tie.Start) → length (s .args .curves) ≡ 8
 places s = search needs
 
@@ -28,15 +16,15 @@ inside s = omega (arith, places s, s .pre .most)
 
 returns : tie.Need-returns
 returns c =
-    let s = c .before .before .before .before in
-    assembled-is _ _ _ _ _ _ _ (inside s) (c .cleared .ensures) (c .before .before .before .currency-margin .ensures) (c .before .before .currency-margin2 .ensures) (c .before .currency-margin3 .ensures)
+    let lira = c .before .before .before in
+    assembled-is _ _ _ _ _ _ _ (inside (lira .before)) (c .cleared .ensures) (lira .currency-margin .ensures) (c .before .before .currency-margin2 .ensures) (c .before .currency-margin3 .ensures)
 
 pub margin-of-spec : {M : Type 1} → statement M
 margin-of-spec =
     tie.close
     (tie.spec
-    currency-margin-requires
-    currency-margin-requires-2
-    currency-margin-requires-3
-    cleared-requires
+    (λ c κs. search needs)
+    (λ c κs. search needs)
+    (λ c κs. search needs)
+    (λ c κs. search needs)
     returns)

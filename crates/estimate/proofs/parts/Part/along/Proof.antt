@@ -1,4 +1,4 @@
--- `estimate::parts::Part::along` meets its contract: what is valued and what is left are together all. Assumes nothing.
+-- `estimate::parts::Part::along` meets its contract: what is valued and what is left are together all.
 use borrow.Author.Needs.{needs}
 use mathlib.Core.Path.{_≡_, ap, _∙_}
 use Prim.Native.Nat.{ℕ, _-_, _^_, _<_}
@@ -14,11 +14,15 @@ use Rattle.estimate.proofs.parts.Part.along.Statement.{statement}
 use Rattle.estimate.proofs.parts.Part.along.Tie as tie
 
 abbrev Inv-loop : tie.InvT-loop
-Inv-loop line days count nets logs middle upper i₀ value₀ i value =
-    Going line nets days count (record { done = i₀; value = cast value₀ }) (record { done = i; value = cast value })
+Inv-loop line days nets logs middle upper n i₀ value₀ i value =
+    Going line nets days (record { done = i₀; value = cast value₀ }) (record { done = i; value = cast value })
 
 abbrev μ-loop : tie.MeasureT-loop
-μ-loop line days count nets logs middle upper i₀ value₀ i value = count - i
+μ-loop line days nets logs middle upper n i₀ value₀ i value = n - i
+
+-- the entry's record
+abbrev start : tie.After-struct-told Inv-loop μ-loop → tie.Start Inv-loop μ-loop
+start c = let given = c .before .before in given .before .before .before
 
 -- the value of the part that comes in, read back from its bits
 value-read : (s : tie.Start Inv-loop μ-loop) → read (s .args .self .value) ≡ s .args .self .value
@@ -27,51 +31,48 @@ value-read s = read-is (s .args .self .value) (omega (arith, s .pre .0 .size))
 
 loop-holds : tie.Need-loop-holds Inv-loop μ-loop
 loop-holds c =
-    let s = c .before .before .before .before .before in
-    rw (value-read s) (going-first _ _ _ _ _ (s .pre .0))
-
-mul-day : tie.Need-mul-day Inv-loop μ-loop
-mul-day c = search needs
-
-shared-slice-read-day : tie.Need-shared-slice-read-day Inv-loop μ-loop
-shared-slice-read-day c = search needs
+    let s = start c in
+    rw (value-read s) (going-first _ _ _ _ (s .pre .0))
 
 returns : tie.Need-returns Inv-loop μ-loop
 returns c =
-    let l = c .before .before .before .before in
-    let s = l .before .before .before .before .before .before in
-    let a = going-stop _ _ _ _ _ _ (l .loop .inv) (c .before .before .before .loop-test .taken) (c .if1 .taken) in
-    rw (value-read s) at a
+    let turn = c .before .before .before in
+    let l = turn .before in
+    let a = going-stop _ _ _ _ _ (l .loop .inv) (turn .loop-test .taken) (c .if1 .taken) in
+    rw (value-read (start (l .before))) at a
 
 -- the day of a turn, which is not past the line's end
 module _ (c : tie.Else1 Inv-loop μ-loop) where
-  abbrev at : tie.At-loop Inv-loop μ-loop
-  at = c .before .before .before .before
+  abbrev turn : tie.In-loop Inv-loop μ-loop
+  turn = c .before .before .before
 
-  abbrev start : tie.Start Inv-loop μ-loop
-  start = at .before .before .before .before .before .before
+  abbrev at : tie.At-loop Inv-loop μ-loop
+  at = turn .before
+
+  abbrev entry : tie.Start Inv-loop μ-loop
+  entry = start (at .before)
 
   abbrev day : ℕ
-  day = getD (start .args .days .now) (at .loop .i) 0
+  day = getD (entry .args .days .now) (at .loop .i) 0
 
   within : day < 10951
-  within = going-day _ _ _ _ _ _ (at .loop .inv) (c .before .before .before .loop-test .taken) .0
+  within = going-day _ _ _ _ _ (at .loop .inv) (turn .loop-test .taken) .0
 
 mul-day-value : tie.Need-mul-day-value Inv-loop μ-loop
 mul-day-value c = record { fits = omega (arith, within c) }
 
 shared-slice-copy-out-day-value : tie.Need-shared-slice-copy-out-day-value Inv-loop μ-loop
-shared-slice-copy-out-day-value c = omega (arith, within c, start c .pre .0 .places)
+shared-slice-copy-out-day-value c = omega (arith, within c, entry c .pre .0 .places)
 
 day-value-requires : tie.Need-day-value-requires Inv-loop μ-loop
 day-value-requires c κs =
     let e = c .before in
-    let s = start e in
-    let k = e .before .before .before .loop-test .taken in
+    let s = entry e in
+    let k = turn e .loop-test .taken in
     let net = getD (s .args .nets .now) (day e) (pos 0) in (
-      going-day _ _ _ _ _ _ (at e .loop .inv) k .1 (e .if1 .left),
+      going-day _ _ _ _ _ (at e .loop .inv) k .1 (e .if1 .left),
       s .pre .1,
-      rw (back net (c .day-value-arg .given)) (amount-most _ _ _ _ _ _ (at e .loop .inv) k),
+      rw (back net (c .day-value-arg .given)) (amount-most _ _ _ _ _ (at e .loop .inv) k),
     )
 
 -- a result, read back from its bits
@@ -80,52 +81,44 @@ read-as r z e h = rw e (read-is z h)
 
 -- what the day's amount is worth, and the sum with it, read back from their bits
 module _ (c : tie.After-day-value Inv-loop μ-loop) where
-  abbrev turn : tie.Else1 Inv-loop μ-loop
-  turn = c .before .before
+  abbrev on : tie.Else1 Inv-loop μ-loop
+  on = c .before .before
+
+  abbrev net : ℤ
+  net = getD (entry on .args .nets .now) (day on) (pos 0)
 
   abbrev worthNow : ℤ
-  worthNow = worth (cheapOn (rateOn (start turn .args .line)) (day turn)) (getD (start turn .args .nets .now) (day turn) (pos 0))
+  worthNow = worth (cheapOn (rateOn (entry on .args .line)) (day on)) net
 
   abbrev sum : ℤ
-  sum = cast (at turn .loop .value) +ℤ worthNow
-
-  taken : at turn .loop .i < start turn .args .count
-  taken = turn .before .before .before .loop-test .taken
+  sum = cast (at on .loop .value) +ℤ worthNow
 
   worth-read : read (c .day-value .result) ≡ worthNow
   unfolding mostSize
   worth-read =
-      let net = getD (start turn .args .nets .now) (day turn) (pos 0) in
-      let most = amount-most _ _ _ _ _ _ (at turn .loop .inv) taken in
-      let rate = rateOn (start turn .args .line) in
-      let is : c .day-value .result ≡ worthNow = c .day-value .ensures ∙ ap (worth (cheapOn rate (day turn))) (back net (c .before .day-value-arg .given)) in
-      read-as _ worthNow is (omega (arith, most, cheap-worth rate (day turn) net))
+      let most = amount-most _ _ _ _ _ (at on .loop .inv) (turn on .loop-test .taken) in
+      let rate = rateOn (entry on .args .line) in
+      let is : c .day-value .result ≡ worthNow = c .day-value .ensures ∙ ap (worth (cheapOn rate (day on))) (back net (c .before .day-value-arg .given)) in
+      read-as _ worthNow is (omega (arith, most, cheap-worth rate (day on) net))
 
   sum-most : natAbs sum < 2 ^ 63
   unfolding mostSize
-  sum-most = omega (arith, sum-size _ _ _ _ _ _ (at turn .loop .inv) taken)
+  sum-most = omega (arith, sum-size _ _ _ _ _ (at on .loop .inv) (turn on .loop-test .taken))
 
 add-value : tie.Need-add-value Inv-loop μ-loop
 add-value c = rw (worth-read c) (fits (sum c) (sum-most c))
 
-add-i : tie.Need-add-i Inv-loop μ-loop
-add-i c = search needs
-
-loop-less : tie.Need-loop-less Inv-loop μ-loop
-loop-less c = search needs
-
 loop-again : tie.Need-loop-again Inv-loop μ-loop
 loop-again c =
-    let e = turn c in
+    let e = on c in
     rw (worth-read c, read-is (sum c) (sum-most c))
-    (going-next _ _ _ _ _ _ (at e .loop .inv) (taken c) (e .if1 .left))
+    (going-next _ _ _ _ _ (at e .loop .inv) (turn e .loop-test .taken) (e .if1 .left))
 
 returns-2 : tie.Need-returns-2 Inv-loop μ-loop
 returns-2 c =
     let l = c .before in
-    let s = l .before .before .before .before .before .before in
-    let a = going-end _ _ _ _ _ _ (l .loop .inv) (c .loop-test .left) in
-    rw (value-read s) at a
+    let a = going-end _ _ _ _ _ (l .loop .inv) (c .loop-test .left) in
+    rw (value-read (start (l .before))) at a
 
 pub along-spec : {M : Type 1} → statement M
 along-spec =
@@ -134,14 +127,14 @@ along-spec =
     Inv-loop
     μ-loop
     loop-holds
-    mul-day
-    shared-slice-read-day
+    (λ c. search needs)
+    (λ c. search needs)
     returns
     mul-day-value
     shared-slice-copy-out-day-value
     day-value-requires
     add-value
-    add-i
-    loop-less
+    (λ c. search needs)
+    (λ c. search needs)
     loop-again
     returns-2)
