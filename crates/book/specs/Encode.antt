@@ -1,5 +1,5 @@
 -- The bytes of a book, from its account, its curve blocks and its records (document 01, "Blocks of the book"): a book that is accepted
--- has no other bytes. Assumes nothing.
+-- has no other bytes.
 use Prim.Native.Nat.{ℕ, _+_, _-_, _*_, _/_}
 use mathlib.Core.List.{List, _∷_, _++_, flatten}
 use lib.ListN.{length, take, drop, replicate}

@@ -1,4 +1,4 @@
--- What a book holds (document 01, "Blocks of the book"): bytes as a list, in which the book stands first. Assumes nothing.
+-- What a book holds (document 01, "Blocks of the book"): bytes as a list, in which the book stands first.
 use Prim.Native.Nat.{ℕ, _+_, _-_, _*_, _/_, _%_}
 use mathlib.Core.Bool.{cond}
 use mathlib.Core.List.{List, []}

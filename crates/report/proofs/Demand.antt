@@ -9,6 +9,7 @@ use lib.Signed.{mag}
 use borrow.Author.Tests.{le-ltb, ltb-false}
 use lib.IntN.{natAbs, _+ℤ_}
 use lib.ListN.{length, getD, drop, replicate, length-append, length-map, length-replicate, List·getD-append}
+use Rattle.laws.specs.All.{All}
 use Rattle.laws.specs.Walk.{table}
 use Rattle.laws.proofs.Walk.{length-table, getD-table}
 use Rattle.laws.proofs.Lists.{getD-map-in}
@@ -18,12 +19,11 @@ use Rattle.ground.specs.declared.Verdict.{Verdict}
 use Rattle.ground.specs.declared.Verdict.the-variants.{Accepted, Refused}
 use Rattle.ground.specs.Verdicts.{orElse, unless}
 use Rattle.decimal.specs.Product.{unit}
-use Rattle.curve.specs.Limits.{Limits, Each}
+use Rattle.curve.specs.Limits.{Limits}
 use Rattle.curve.proofs.Rates.{each-limits}
 use Rattle.curve.proofs.Scenarios.{scenarios-most}
 use Rattle.curve_block.specs.Verdict.{curveVerdict}
-use Rattle.curve_block.proofs.Accepted.{accepted-curve}
-use Rattle.curve_block.proofs.Accepted as block
+use Rattle.curve_block.proofs.Accepted.{SoundCurve, accepted-curve}
 use Rattle.book.specs.Parts.{blockAt, curveCount}
 use Rattle.book.specs.Verdict.{verdict}
 use Rattle.book.proofs.Accepted.{Sound, sound}
@@ -78,12 +78,12 @@ sum-size currency (e ∷ es) h = go (eqb (curveMargin e .currency) currency) (su
 module _ (s : List ℕ) (used : ℕ) (b : Sound s used) where
   -- ---- curve k of the book
 
-  block-sound : (k : ℕ) → 1 ≤ k → k ≤ curveCount s → block.Sound (blockAt s k) k
+  block-sound : (k : ℕ) → 1 ≤ k → k ≤ curveCount s → SoundCurve (blockAt s k) k
   block-sound k l m =
       let e : 1 + (k - 1) ≡ k = omega arith in
       accepted-curve (blockAt s k) k (ap (λ (j : ℕ). curveVerdict (blockAt s j) j) (sym e) ∙ b .curve (k - 1) (omega arith))
 
-  nodes-limits : (k : ℕ) → 1 ≤ k → k ≤ curveCount s → Each Limits (exposureAt s k .nodes)
+  nodes-limits : (k : ℕ) → 1 ≤ k → k ≤ curveCount s → All Limits (exposureAt s k .nodes)
   unfolding exposureAt
   nodes-limits k l m = each-limits _ (block-sound k l m .curve)
 

@@ -4,7 +4,7 @@ use Prim.Native.Nat.{ℕ, _+_, _-_}
 use native.Mathlib.Omega.{arith}
 use borrow.Author.Needs.{needs}
 use Rattle.curve_block.specs.Verdict.{curveVerdict}
-use Rattle.curve_block.proofs.Accepted.{Sound, accepted-curve}
+use Rattle.curve_block.proofs.Accepted.{SoundCurve, accepted-curve}
 use Rattle.book.specs.Parts.{blockAt}
 use Rattle.book.proofs.Accepted.{sound}
 use Rattle.exposure.specs.Exposures.{exposureAt}
@@ -12,7 +12,7 @@ use Rattle.report.proofs.curve_figures.Statement.{statement}
 use Rattle.report.proofs.curve_figures.Tie as tie
 
 -- at the entry: the curve's block breaks nothing
-block : (c : tie.Start) → Sound (blockAt (c .args .book .now) (c .args .curve)) (c .args .curve)
+block : (c : tie.Start) → SoundCurve (blockAt (c .args .book .now) (c .args .curve)) (c .args .curve)
 block c =
     let b = sound (c .args .book .now) (c .args .used) (c .pre .0) in
     let e : 1 + (c .args .curve - 1) ≡ c .args .curve = omega (arith, c .pre .1) in
