@@ -1,28 +1,16 @@
--- The laws of `firstOf`: those that a loop with an index i and a bound n cites, and what it says of each number. Assumes nothing.
-use mathlib.Core.Path.{_≡_, refl, sym, _∙_}
-use mathlib.Core.Bool.{true, false, true≢false}
+-- The laws of `firstOf`: those that a loop with an index i and a bound n cites, and what it says of each number.
+use mathlib.Core.Path.{_≡_, refl, _∙_}
+use mathlib.Core.Bool.{true, false}
 use Prim.Native.Nat.{ℕ, zero, suc, _+_, _-_, _≤_, _<_}
 use native.Mathlib.Decide.{ℕ-discrete}
 use native.Mathlib.Omega.{arith}
 use Rattle.laws.specs.Walk.{over}
 use Rattle.laws.proofs.Walk.{over-step, over-end}
 use Rattle.ground.specs.declared.Verdict.{Verdict}
-use Rattle.ground.specs.declared.Verdict.the-variants.{Accepted, Refused}
-use Rattle.ground.specs.Verdicts.{orElse}
-use Rattle.ground.proofs.Verdicts.{orElse-accepted}
-use Rattle.book.specs.Verdict.{isAccepted, firstOf}
-
-pub passes : (v next : Verdict) → isAccepted v ≡ true → orElse v next ≡ next
-passes Accepted next h = refl
-passes (Refused g k) next h = absurd (true≢false (sym h))
-
-pub stops : (v next : Verdict) → isAccepted v ≡ false → orElse v next ≡ v
-stops Accepted next h = absurd (true≢false h)
-stops (Refused g k) next h = refl
-
-pub is-accepted : (v : Verdict) → isAccepted v ≡ true → v ≡ Accepted
-is-accepted Accepted h = refl
-is-accepted (Refused g k) h = absurd (true≢false (sym h))
+use Rattle.ground.specs.declared.Verdict.the-variants.{Accepted}
+use Rattle.ground.specs.Verdicts.{isAccepted, orElse}
+use Rattle.ground.proofs.Verdicts.{orElse-accepted, passes, stops}
+use Rattle.book.specs.Verdict.{firstOf}
 
 module _ (f : ℕ → Verdict) where
   -- ---- a loop's: its invariant is `whole ≡ firstOf f i (n - i)`

@@ -1,4 +1,4 @@
--- What each rule leaves where it is not broken, and that what it leaves does not break it. Assumes nothing.
+-- What each rule leaves where it is not broken, and that what it leaves does not break it.
 use mathlib.Core.Path.{_≡_, refl}
 use mathlib.Core.Bool.{Bool, true, false, _&&_, _||_, not}
 use mathlib.Core.List.{List}

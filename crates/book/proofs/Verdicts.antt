@@ -1,4 +1,4 @@
--- What a verdict that finds nothing says, rule by rule. Assumes nothing.
+-- What a verdict that finds nothing says, rule by rule.
 use mathlib.Core.Path.{_≡_, refl}
 use mathlib.Core.Bool.{Bool, true, false}
 use mathlib.Core.List.{List}
@@ -8,20 +8,17 @@ use native.Mathlib.Omega.{arith}
 use borrow.Author.Tests.{ne-eqb, le-leb, lt-leb}
 use lib.Dec.{eqb}
 use lib.ListN.{length}
-use Rattle.ground.specs.declared.Ground.the-variants.{Check, Place, Header, TradeBlock, Form, Days, Amounts, Currency, FlowLimit}
 use Rattle.ground.specs.declared.Verdict.the-variants.{Accepted}
-use Rattle.ground.proofs.Verdicts.{unless-accepted}
+use Rattle.ground.specs.Verdicts.{isAccepted, firstBroken}
+use Rattle.ground.proofs.Verdicts.{orElse-accepted, unbroken, in-any-block}
 use Rattle.layout.specs.Check.{breaksCheck, breaksPlace}
 use Rattle.curve_block.specs.Verdict.{curveVerdict}
 use Rattle.record.specs.declared.Curves.{Curves}
 use Rattle.record.specs.Bytes.{fieldsOf}
-use Rattle.record.specs.Rules.{breaksForm, breaksDays, breaksAmounts, breaksCurrency}
-use Rattle.trade.specs.Read.{tradeOf}
-use Rattle.flows.specs.Legs.{breaksFlowLimit}
-use Rattle.flows.specs.Verdict.{recordVerdict}
+use Rattle.flows.specs.Verdict.{recordRules, recordVerdict}
 use Rattle.book.specs.Parts.{blockAt, curveCount, curvesOf, recordCount, recordIn}
-use Rattle.book.specs.Rules.{breaksLength, breaksHeader, breaksTradeBlock}
-use Rattle.book.specs.Verdict.{bytesVerdict, isAccepted, firstOf, headerVerdict, recordsVerdict, tradesVerdict, blockVerdict, verdict}
+use Rattle.book.specs.Rules.{breaksLength}
+use Rattle.book.specs.Verdict.{bytesVerdict, firstOf, headerRules, headerVerdict, recordsVerdict, tradesRules, tradesVerdict, blockVerdict, verdict}
 use Rattle.book.proofs.First.{first-passed, first-stopped, first-at, first-of}
 use Rattle.book.proofs.Sound.{Headed, headed, header-sound, Traded, traded, trade-block-sound}
 
@@ -35,10 +32,7 @@ pub record HeaderSound (b : List ℕ) (blocks : ℕ) : Type 0 where
 pub header-accepted : (b : List ℕ) (blocks : ℕ) → headerVerdict b blocks ≡ Accepted → HeaderSound b blocks
 unfolding headerVerdict
 header-accepted b n h =
-    let p = unless-accepted (breaksCheck b) Check 0 _ h in
-    let q = unless-accepted (breaksPlace b 1 0) Place 0 _ (p .1) in
-    let r = unless-accepted (breaksHeader b n) Header 0 _ (q .1) in
-    record { checked = p .0; placed = q .0; counts = headed b n (r .0) }
+    let kept = unbroken 0 (headerRules b n) h in record { checked = kept 0; placed = kept 1; counts = headed b n (kept 2) }
 
 pub accepted-header : (b : List ℕ) (blocks : ℕ) → HeaderSound b blocks → headerVerdict b blocks ≡ Accepted
 unfolding headerVerdict
@@ -55,14 +49,13 @@ pub record TradesSound (curves : Curves) (b : List ℕ) (k : ℕ) (last : Bool) 
 pub trades-accepted : (curves : Curves) (b : List ℕ) (k : ℕ) (last : Bool) → tradesVerdict curves b k last ≡ Accepted → TradesSound curves b k last
 unfolding tradesVerdict recordsVerdict
 trades-accepted curves b k last h =
-    let p = unless-accepted (breaksCheck b) Check k _ h in
-    let q = unless-accepted (breaksPlace b 3 k) Place k _ (p .1) in
-    let r = unless-accepted (breaksTradeBlock b last) TradeBlock k _ (q .1) in
+    let p = orElse-accepted (firstBroken k (tradesRules b k last)) _ h in
+    let kept = unbroken k (tradesRules b k last) (p .0) in
     record {
-      checked = p .0;
-      placed = q .0;
-      counts = traded b last (r .0);
-      each = λ i l. first-at (λ (j : ℕ). bytesVerdict curves (recordIn b j) k) 0 (recordCount b) (r .1) i (omega arith) (omega arith);
+      checked = kept 0;
+      placed = kept 1;
+      counts = traded b last (kept 2);
+      each = λ i l. first-at (λ (j : ℕ). bytesVerdict curves (recordIn b j) k) 0 (recordCount b) (p .1) i (omega arith) (omega arith);
     }
 
 pub accepted-trades : (curves : Curves) (b : List ℕ) (k : ℕ) (last : Bool) → TradesSound curves b k last → tradesVerdict curves b k last ≡ Accepted
@@ -105,11 +98,4 @@ verdict-blocks s used h = rw h
 -- a record that is accepted in one block is accepted in any
 pub any-block : (curves : Curves) (r : List ℕ) (k m : ℕ) → bytesVerdict curves r k ≡ Accepted → bytesVerdict curves r m ≡ Accepted
 unfolding recordVerdict
-any-block curves r k m h =
-    let f = fieldsOf r in
-    let p = unless-accepted (breaksForm curves (f .form)) Form k _ h in
-    let q = unless-accepted (breaksDays (f .form) (f .days)) Days k _ (p .1) in
-    let t = unless-accepted (breaksAmounts (f .form) (f .days) (f .amounts)) Amounts k _ (q .1) in
-    let u = unless-accepted (breaksCurrency curves (f .form)) Currency k _ (t .1) in
-    let v = unless-accepted (breaksFlowLimit (tradeOf f)) FlowLimit k _ (u .1) in
-    rw (p .0, q .0, t .0, u .0, v .0)
+any-block curves r k m h = in-any-block k (recordRules curves (fieldsOf r)) h m

@@ -1,5 +1,5 @@
 -- The rules of a book's length, of its header and of a block of trades (document 01, grounds 1, 4 and 7): each is true where it is
--- broken. Assumes nothing.
+-- broken.
 use Prim.Native.Nat.{ℕ, _+_, _%_}
 use mathlib.Core.Bool.{Bool, _&&_, _||_, not}
 use mathlib.Core.List.{List}

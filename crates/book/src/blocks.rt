@@ -13,32 +13,17 @@ ghost use mathlib.Core.Path.{_≡_};
 ghost use Prim.Native.Nat.{_+_, _*_, _≤_};
 ghost use lib.ListN.{length};
 ghost use Rattle.book.specs.Parts.{curvesOf, recordCount};
-ghost use Rattle.book.specs.Verdict.{isAccepted, headerVerdict, recordsVerdict, tradesVerdict, blockVerdict};
-
-pub fn is_accepted(v: Verdict) -> bool
-    ensures { λ r. ⌜ r ≡ isAccepted v ⌝ }
-{
-    match v {
-        Verdict::Accepted => true,
-        Verdict::Refused(_, _) => false,
-    }
-}
+ghost use Rattle.book.specs.Verdict.{headerVerdict, recordsVerdict, tradesVerdict, blockVerdict};
 
 // The header of a book of so many blocks: grounds 2, 3 and 4.
 pub fn header_verdict(b: &[u8], blocks: usize) -> Verdict
     requires { ⌜ length (now b) ≡ 512 ⌝ }
     ensures { λ r. ⌜ r ≡ headerVerdict (now (b .entry)) blocks ⌝ }
 {
-    if breaks_check(b) {
-        return Verdict::Refused(Ground::Check, 0);
-    }
-    if breaks_place(b, 1, 0) {
-        return Verdict::Refused(Ground::Place, 0);
-    }
-    if breaks_header(b, blocks) {
-        return Verdict::Refused(Ground::Header, 0);
-    }
     Verdict::Accepted
+        .or_if(breaks_check(b), Ground::Check, 0)
+        .or_if(breaks_place(b, 1, 0), Ground::Place, 0)
+        .or_if(breaks_header(b, blocks), Ground::Header, 0)
 }
 
 // The records of a block of trades, each by 8 to 12.
@@ -51,7 +36,7 @@ fn records_verdict(curves: Curves, b: &[u8], k: u64) -> Verdict
     while i < n {
         let f = record::bytes::fields_of(record_in(b, i));
         let v = flows::verdict::record_verdict(curves, f, k);
-        if !is_accepted(v) {
+        if !v.is_accepted() {
             return v;
         }
         i += 1;
@@ -64,14 +49,12 @@ fn trades_verdict(curves: Curves, b: &[u8], k: u64, last: bool) -> Verdict
     requires { ⌜ length (now b) ≡ 512 ⌝ }
     ensures { λ r. ⌜ r ≡ tradesVerdict curves (now (b .entry)) k last ⌝ }
 {
-    if breaks_check(b) {
-        return Verdict::Refused(Ground::Check, k);
-    }
-    if breaks_place(b, 3, k) {
-        return Verdict::Refused(Ground::Place, k);
-    }
-    if breaks_trade_block(b, last) {
-        return Verdict::Refused(Ground::TradeBlock, k);
+    let v = Verdict::Accepted
+        .or_if(breaks_check(b), Ground::Check, k)
+        .or_if(breaks_place(b, 3, k), Ground::Place, k)
+        .or_if(breaks_trade_block(b, last), Ground::TradeBlock, k);
+    if !v.is_accepted() {
+        return v;
     }
     records_verdict(curves, b, k)
 }

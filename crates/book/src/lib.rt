@@ -21,7 +21,7 @@ fn blocks_verdict(book: &[u8], curves: Curves, n: usize) -> Verdict
     let mut k: usize = 1;
     while k < n {
         let v = blocks::block_verdict(book, curves, n, k);
-        if !blocks::is_accepted(v) {
+        if !v.is_accepted() {
             return v;
         }
         k += 1;
@@ -39,7 +39,7 @@ pub fn check(book: &[u8], used: usize) -> Verdict
     }
     let n = used / 512;
     let first = blocks::header_verdict(parts::block_at(book, 0), n);
-    if !blocks::is_accepted(first) {
+    if !first.is_accepted() {
         return first;
     }
     blocks_verdict(book, parts::curves_of(book), n)

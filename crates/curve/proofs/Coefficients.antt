@@ -1,4 +1,4 @@
--- A component's coefficients: their sizes, the middle one, and what the code holds after each operation. Assumes nothing.
+-- A component's coefficients: their sizes, the middle one, and what the code holds after each operation.
 use mathlib.Core.Path.{_≡_, refl, sym}
 use mathlib.Core.Bool.{Bool, true, false, cond}
 use Prim.Native.Nat.{ℕ, _-_, _*_, _≤_, _<_}

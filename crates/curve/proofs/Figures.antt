@@ -1,5 +1,4 @@
 -- The checked figures of rates and coefficients (document 01, "Checked figures"), and stresses about zero, computed from the definitions.
--- Assumes nothing.
 use mathlib.Core.Path.{_≡_, refl}
 use mathlib.Core.List.{List, [], _∷_, map, flatMap}
 use Prim.Native.Nat.{ℕ}

@@ -1,4 +1,4 @@
--- An interpolated rate is a number on the line between its nodes; and what the code holds after each operation, with its size. Assumes nothing.
+-- An interpolated rate is a number on the line between its nodes; and what the code holds after each operation, with its size.
 use mathlib.Core.Path.{_≡_, refl}
 use native.Mathlib.Decide.{decLe}
 use Prim.Native.Nat.{ℕ, _+_, _-_, _^_, _≤_, _<_}

@@ -1,5 +1,5 @@
 -- The line from a rate r to a rate s, in ℕ: its rate g days on, of n in all. A rising line is rounded down and a falling one up, so it stays between
--- its ends, and it does not fall where an end rises. Assumes nothing.
+-- its ends, and it does not fall where an end rises.
 use mathlib.Core.Path.{_≡_, refl}
 use mathlib.Core.Bool.{Bool, true, false, cond}
 use Prim.Native.Nat.{ℕ, _+_, _-_, _*_, _/_, _≤_, _<_}

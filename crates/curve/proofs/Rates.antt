@@ -1,34 +1,36 @@
--- The rate of a curve lies between those of its nodes, and does not fall where a node's rises. Assumes nothing.
+-- The rate of a curve lies between those of its nodes, and does not fall where a node's rises.
 use mathlib.Core.Path.{_≡_, refl}
 use mathlib.Core.Bool.{Bool, true, false, cond}
 use mathlib.Core.List.{List, [], _∷_}
-use Prim.Native.Nat.{ℕ, suc, _≤_, _<_}
+use Prim.Native.Nat.{ℕ, _≤_, _<_}
 use native.Mathlib.Omega.{arith}
 use borrow.Author.Tests.{ltb-true, ltb-false}
 use lib.Dec.{ltb}
 use lib.IntN.{natAbs}
-use lib.ListN.{length, getD}
+use lib.ListN.{length}
 use lib.Seq.{getD-take, length-take-le}
+use Rattle.laws.specs.All.{All}
+use Rattle.laws.proofs.All.{all-of}
 use Rattle.curve.specs.declared.Node.{Node}
 use Rattle.curve.specs.declared.Curve.{Curve}
 use Rattle.curve.specs.Rates.{nodesOf, interpolated, Between, rateFrom, rateAt}
-use Rattle.curve.specs.Limits.{highestRate, Limits, Each, Proper, zeroNode}
+use Rattle.curve.specs.Limits.{highestRate, Limits, Proper, zeroNode}
 use Rattle.curve.proofs.Interpolation.{interpolated-low, interpolated-high, interpolated-monotone}
 
 -- ---- what holds of every node's rate, and of what is interpolated between two such, holds on every day
 
 module _ (P : ℕ → Type 0) (closed : (a b : Node) (t : ℕ) → Between a b t → P (a .rate) → P (b .rate) → P (natAbs (interpolated a b t))) where
-  from-such : (a : Node) (ns : List Node) (t : ℕ) → P (a .rate) → a .day ≤ t → Each (λ n. P (n .rate)) ns → P (rateFrom a ns t)
+  from-such : (a : Node) (ns : List Node) (t : ℕ) → P (a .rate) → a .day ≤ t → All (λ n. P (n .rate)) ns → P (rateFrom a ns t)
   unfolding rateFrom
   from-such a [] t p l h = p
   from-such a (b ∷ ns) t p l h = go (ltb t (b .day)) refl (from-such b ns t (h .0))
     where
-      go : (q : Bool) → ltb t (b .day) ≡ q → (b .day ≤ t → Each (λ n. P (n .rate)) ns → P (rateFrom b ns t))
+      go : (q : Bool) → ltb t (b .day) ≡ q → (b .day ≤ t → All (λ n. P (n .rate)) ns → P (rateFrom b ns t))
           → P (cond q (natAbs (interpolated a b t)) (rateFrom b ns t))
       go true e ih = closed a b t (record { from = l; before = ltb-true t (b .day) e }) p (h .0)
       go false e ih = ih (ltb-false t (b .day) e) (h .1)
 
-  rate-such : (a : Node) (ns : List Node) (t : ℕ) → Each (λ n. P (n .rate)) (a ∷ ns) → P (rateAt (a ∷ ns) t)
+  rate-such : (a : Node) (ns : List Node) (t : ℕ) → All (λ n. P (n .rate)) (a ∷ ns) → P (rateAt (a ∷ ns) t)
   unfolding rateAt
   rate-such a ns t h = go (ltb t (a .day)) refl
     where
@@ -36,34 +38,30 @@ module _ (P : ℕ → Type 0) (closed : (a b : Node) (t : ℕ) → Between a b t
       go true e = h .0
       go false e = from-such a ns t (h .0) (ltb-false t (a .day) e) (h .1)
 
-pub rate-low : (m : ℕ) (a : Node) (ns : List Node) (t : ℕ) → Each (λ n. m ≤ n .rate) (a ∷ ns) → m ≤ rateAt (a ∷ ns) t
+pub rate-low : (m : ℕ) (a : Node) (ns : List Node) (t : ℕ) → All (λ n. m ≤ n .rate) (a ∷ ns) → m ≤ rateAt (a ∷ ns) t
 rate-low m a ns t h = rate-such (λ r. m ≤ r) (λ a b t i p q. interpolated-low a b t i m p q) a ns t h
 
-pub rate-high : (m : ℕ) (ns : List Node) (t : ℕ) → Each (λ n. n .rate ≤ m) ns → rateAt ns t ≤ m
+pub rate-high : (m : ℕ) (ns : List Node) (t : ℕ) → All (λ n. n .rate ≤ m) ns → rateAt ns t ≤ m
 unfolding rateAt
 rate-high m [] t h = omega arith
 rate-high m (a ∷ ns) t h = rate-such (λ r. r ≤ m) (λ a b t i p q. interpolated-high a b t i m p q) a ns t h
 
 -- ---- nodes in their limits give rates in their limits
 
-rates-of : (ns : List Node) → Each Limits ns → Each (λ n. n .rate ≤ highestRate) ns
+rates-of : (ns : List Node) → All Limits ns → All (λ n. n .rate ≤ highestRate) ns
 rates-of [] h = tt
 rates-of (n ∷ ns) h = (h .0 .rate, rates-of ns (h .1))
 
-pub rate-limit : (ns : List Node) (t : ℕ) → Each Limits ns → rateAt ns t ≤ highestRate
+pub rate-limit : (ns : List Node) (t : ℕ) → All Limits ns → rateAt ns t ≤ highestRate
 rate-limit ns t h = rate-high highestRate ns t (rates-of ns h)
-
-each-of : (P : Node → Type 0) (ns : List Node) → ((i : ℕ) → i < length ns → P (getD ns i zeroNode)) → Each P ns
-each-of P [] h = tt
-each-of P (n ∷ ns) h = (h 0 (omega arith), each-of P ns (λ i l. h (suc i) (omega arith)))
 
 module _ (c : Curve) (p : Proper c) where
   pub length-nodes : length (nodesOf c) ≡ c .count
   length-nodes = length-take-le (c .count) (c .nodes) (omega (arith, p .places, p .most))
 
-  pub each-limits : Each Limits (nodesOf c)
+  pub each-limits : All Limits (nodesOf c)
   each-limits =
-      each-of Limits (nodesOf c)
+      all-of Limits (nodesOf c) zeroNode
       (λ i m. let n : i < c .count = omega (arith, length-nodes) in rw (getD-take (c .count) (c .nodes) i zeroNode n) (p .each i n))
 
   -- every rate of a proper curve is 0 to 1,000,000

@@ -1,4 +1,4 @@
--- The list of scenarios by number: its length, its entries, and the middle one. Assumes nothing.
+-- The list of scenarios by number: its length, its entries, and the middle one.
 use mathlib.Core.Path.{_≡_, _∙_, ap}
 use mathlib.Core.List.{List, map, flatMap}
 use Prim.Native.Nat.{ℕ, _+_, _-_, _*_, _/_, _%_, _≤_, _<_}

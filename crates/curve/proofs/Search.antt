@@ -1,4 +1,4 @@
--- The search for the nodes about a day: node a stands before place i, its day is not past t, and what follows a decides. Assumes nothing.
+-- The search for the nodes about a day: node a stands before place i, its day is not past t, and what follows a decides.
 use mathlib.Core.Path.{_≡_, _∙_, ap}
 use mathlib.Core.List.{List, _∷_}
 use Prim.Native.Nat.{ℕ, suc, _+_, _≤_, _<_}

@@ -1,4 +1,4 @@
--- A node's shifted rate: what the code holds after each operation, with its size. Assumes nothing.
+-- A node's shifted rate: what the code holds after each operation, with its size.
 use mathlib.Core.Path.{_≡_, refl}
 use Prim.Native.Nat.{_*_, _≤_}
 use native.Mathlib.Nat.{div-le-self, le-trans}

@@ -1,4 +1,4 @@
--- Rates brought into their limits, stressed nodes and stressed curves. Assumes nothing.
+-- Rates brought into their limits, stressed nodes and stressed curves.
 use borrow.Author.Tests.{ltb-true, ltb-false}
 use mathlib.Core.Bool.{Bool, true, false}
 use mathlib.Core.List.{List, [], _∷_, map}
@@ -9,13 +9,14 @@ use native.Mathlib.Omega.{arith}
 use lib.IntN.{ℤ, pos, negsuc, natAbs, zero-*ℤ}
 use lib.ListN.{getD, set, take-append-drop}
 use lib.Signed.{ltZ}
+use Rattle.laws.specs.All.{All}
 use Rattle.laws.proofs.Lists.{mapFirst, length-mapFirst, mapFirst-done, mapFirst-kept, mapFirst-next, take-mapFirst}
 use Rattle.curve.specs.declared.Node.{Node}
 use Rattle.curve.specs.declared.Curve.{Curve}
 use Rattle.curve.specs.declared.Components.{Components}
 use Rattle.curve.specs.declared.Scenario.{Scenario}
 use Rattle.curve.specs.Rates.{nodesOf}
-use Rattle.curve.specs.Limits.{highestRate, Limits, Each, Proper, zeroNode}
+use Rattle.curve.specs.Limits.{highestRate, Limits, Proper, zeroNode}
 use Rattle.curve.specs.Scenarios.{scenarioCount, unstressed, scenarioAt}
 use Rattle.curve.specs.Stress.{shifted, clamped, stressed, stressedCurve}
 use Rattle.curve.proofs.Rates.{each-limits}
@@ -54,7 +55,7 @@ pub stressed-limits : (s : Scenario) (n : Node) → Limits n → Limits (stresse
 stressed-limits s n h =
     record { day = h .day; rate = clamped-most (shifted s n); first = h .first; second = h .second; third = h .third }
 
-pub each-stressed : (s : Scenario) (ns : List Node) → Each Limits ns → Each Limits (map (stressed s) ns)
+pub each-stressed : (s : Scenario) (ns : List Node) → All Limits ns → All Limits (map (stressed s) ns)
 each-stressed s [] h = tt
 each-stressed s (n ∷ ns) h = (stressed-limits s n (h .0), each-stressed s ns (h .1))
 
@@ -67,7 +68,7 @@ stressed-unstressed n h =
     let e : clamped (shifted unstressed n) ≡ n .rate = rw (shifted-unstressed n) (omega arith) in
     ap (λ (r : ℕ). record { day = n .day; rate = r; first = n .first; second = n .second; third = n .third }) e
 
-pub each-unstressed : (ns : List Node) → Each Limits ns → map (stressed unstressed) ns ≡ ns
+pub each-unstressed : (ns : List Node) → All Limits ns → map (stressed unstressed) ns ≡ ns
 each-unstressed [] h = refl
 each-unstressed (n ∷ ns) h = cc (stressed-unstressed n (h .0), each-unstressed ns (h .1))
 
@@ -81,10 +82,6 @@ module _ (s : Scenario) (c : Curve) (p : Proper c) where
   stressed-node : (i : ℕ) → i < c .count → getD (stressedCurve s c .nodes) i zeroNode ≡ stressed s (getD (c .nodes) i zeroNode)
   unfolding stressedCurve
   stressed-node i h = mapFirst-done (stressed s) (c .count) (c .nodes) i zeroNode h (omega (arith, p .places, p .most))
-
-  count-stressed : stressedCurve s c .count ≡ c .count
-  unfolding stressedCurve
-  count-stressed = refl
 
   pub proper-stressed : Proper (stressedCurve s c)
   unfolding stressedCurve

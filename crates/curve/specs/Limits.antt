@@ -1,9 +1,9 @@
--- The limits of nodes, curves and components (document 01, "Blocks of the book"). Assumes nothing.
+-- The limits of nodes, curves and components (document 01, "Blocks of the book").
 use Prim.Native.Nat.{ℕ, suc, _≤_, _<_}
-use mathlib.Core.List.{List, [], _∷_}
 use mathlib.Core.Path.{_≡_}
 use lib.ListN.{length, getD}
 use lib.IntN.{pos, natAbs}
+use Rattle.ground.specs.Limits.{lastDay}
 use Rattle.curve.specs.declared.Node.{Node}
 use Rattle.curve.specs.declared.Curve.{Curve}
 use Rattle.curve.specs.declared.Component.{Component}
@@ -16,16 +16,11 @@ highestRate = 1000000
 
 -- a node: day at or below 10,950, rate 0 to 1,000,000, components −1,000,000 to 1,000,000
 pub record Limits (n : Node) : Type 0 where
-  pub day : n .day ≤ 10950
+  pub day : n .day ≤ lastDay
   pub rate : n .rate ≤ highestRate
   pub first : natAbs (n .first) ≤ 1000000
   pub second : natAbs (n .second) ≤ 1000000
   pub third : natAbs (n .third) ≤ 1000000
-
--- every node of a list is such
-abbrev pub Each : (Node → Type 0) → List Node → Type 0
-Each P [] = Unit {0}
-Each P (n ∷ ns) = P n × Each P ns
 
 -- what a lookup past the end of a list of nodes answers
 abbrev pub zeroNode : Node

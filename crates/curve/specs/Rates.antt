@@ -1,4 +1,4 @@
--- The rate of a curve on a day (document 01, "Rates and scenarios"). Assumes nothing.
+-- The rate of a curve on a day (document 01, "Rates and scenarios").
 use Prim.Native.Nat.{ℕ, _≤_, _<_}
 use mathlib.Core.Bool.{cond}
 use mathlib.Core.List.{List, [], _∷_}

@@ -1,4 +1,4 @@
--- The scenarios of a curve, in order (document 01, "Rates and scenarios"). Assumes nothing.
+-- The scenarios of a curve, in order (document 01, "Rates and scenarios").
 use Prim.Native.Nat.{ℕ, _+_, _*_}
 use mathlib.Core.Bool.{cond}
 use mathlib.Core.List.{List, map, flatMap}

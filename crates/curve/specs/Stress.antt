@@ -1,4 +1,4 @@
--- Nodes and curves under a scenario (document 01, "Rates and scenarios"). Assumes nothing.
+-- Nodes and curves under a scenario (document 01, "Rates and scenarios").
 use Prim.Native.Nat.{ℕ, min}
 use mathlib.Core.List.{map, _++_}
 use lib.ListN.{drop}

@@ -1,4 +1,4 @@
--- What a curve block that nothing breaks gives its user: a curve and components in their limits. Assumes nothing.
+-- What a curve block that nothing breaks gives its user: a curve and components in their limits.
 use mathlib.Core.Path.{_≡_, _∙_, ap}
 use mathlib.Core.Bool.{true, false, _&&_, _||_}
 use mathlib.Core.List.{List}
@@ -16,14 +16,15 @@ use Rattle.laws.proofs.Tests.{all-at}
 use Rattle.laws.proofs.Every.{every-at}
 use Rattle.laws.proofs.Walk.{length-table, getD-table}
 use Rattle.ground.specs.declared.Verdict.the-variants.{Accepted}
+use Rattle.ground.specs.Limits.{lastDay}
 use Rattle.layout.specs.Check.{breaksCheck, breaksPlace}
-use Rattle.ground.proofs.Verdicts.{unless-accepted}
+use Rattle.ground.proofs.Verdicts.{unbroken}
 use Rattle.curve.specs.declared.Node.{Node}
 use Rattle.curve.specs.declared.Component.{Component}
 use Rattle.curve.specs.Limits.{Limits, Proper, ComponentLimits, ProperComponents, zeroNode}
 use Rattle.curve_block.specs.Parts.{idOf, currencyOf, nodeCount, nodeAt, curveOf, componentsOf}
 use Rattle.curve_block.specs.Rules.{stepsSound, numberTests, numbersSound, unnamedZero, breaksCurve, componentSound, nodeTests, nodeSound, dayBefore, soundAt, breaksNode}
-use Rattle.curve_block.specs.Verdict.{curveVerdict}
+use Rattle.curve_block.specs.Verdict.{curveRules, curveVerdict}
 
 -- ---- ground 5
 
@@ -54,7 +55,7 @@ module _ (i before : ℕ) (n : Node) (h : nodeSound i before n ≡ true) where
   node-kept =
       let at = all-at (nodeTests i before n) h in
       record {
-        day = leb-true (n .day) 10950 (at 1);
+        day = leb-true (n .day) lastDay (at 1);
         rate = leb-true (n .rate) 1000000 (at 2);
         first = component-kept (n .first) (at 3);
         second = component-kept (n .second) (at 4);
@@ -106,7 +107,7 @@ proper-components b k h =
     }
 
 -- of curve block k
-pub record Sound (b : List ℕ) (k : ℕ) : Type 0 where
+pub record SoundCurve (b : List ℕ) (k : ℕ) : Type 0 where
   pub check : breaksCheck b ≡ false
   pub place : breaksPlace b 2 k ≡ false
   pub id : idOf b ≡ k
@@ -115,21 +116,18 @@ pub record Sound (b : List ℕ) (k : ℕ) : Type 0 where
   pub curve : Proper (curveOf b)
   pub components : ProperComponents (componentsOf b)
 
-pub accepted-curve : (b : List ℕ) (k : ℕ) → curveVerdict b k ≡ Accepted → Sound b k
+pub accepted-curve : (b : List ℕ) (k : ℕ) → curveVerdict b k ≡ Accepted → SoundCurve b k
 unfolding curveVerdict numbersSound
 accepted-curve b k h =
-    let first = unless-accepted (breaksCheck b) _ k _ h in
-    let second = unless-accepted (breaksPlace b 2 k) _ k _ (first .1) in
-    let third = unless-accepted (breaksCurve b k) _ k _ (second .1) in
-    let fourth = unless-accepted (breaksNode b) _ k _ (third .1) in
-    let numbers = numbers-kept b k (third .0) in
+    let kept = unbroken k (curveRules b k) h in
+    let numbers = numbers-kept b k (kept 2) in
     let at = all-at (numberTests b k) numbers in
     record {
-      check = first .0;
-      place = second .0;
+      check = kept 0;
+      place = kept 1;
       id = eqb-true (idOf b) k (at 0);
       least = leb-true 1 (currencyOf b) (at 1);
       most = leb-true (currencyOf b) 3 (at 2);
-      curve = proper-curve b k numbers (fourth .0);
+      curve = proper-curve b k numbers (kept 3);
       components = proper-components b k numbers;
     }

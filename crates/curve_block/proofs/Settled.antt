@@ -1,6 +1,6 @@
--- No byte of an accepted curve block is left open: its number, currency, components and nodes settle them all. Assumes nothing.
+-- No byte of an accepted curve block is left open: its number, currency, components and nodes settle them all.
 use mathlib.Core.Path.{_≡_, refl, sym, _∙_, ap}
-use mathlib.Core.Bool.{true, _&&_}
+use mathlib.Core.Bool.{true}
 use mathlib.Core.List.{List}
 use Prim.Native.Nat.{ℕ, zero, suc, _+_, _-_, _≤_, _<_}
 use native.Mathlib.Decide.{decLt}
@@ -14,18 +14,17 @@ use Rattle.laws.proofs.Every.{every-at}
 use Rattle.ground.specs.declared.Verdict.the-variants.{Accepted}
 use Rattle.layout.specs.Bytes.{byteAt, AreBytes, zeros}
 use Rattle.layout.specs.Field.{numberAt, u16At, u32At, i32At}
-use Rattle.layout.specs.Check.{breaksCheck, breaksPlace}
 use Rattle.layout.proofs.Bytes.{zeros-at}
 use Rattle.layout.proofs.Field.{field-byte, field-bound, field-settles, signed-settles}
 use Rattle.layout.proofs.Sealed.{check-kept, check-same, place-kept}
-use Rattle.ground.proofs.Verdicts.{unless-accepted}
+use Rattle.ground.proofs.Verdicts.{unbroken}
 use Rattle.curve.specs.declared.Node.{Node}
 use Rattle.curve.specs.declared.Curve.{Curve}
 use Rattle.curve.specs.declared.Components.{Components}
 use Rattle.curve.specs.Limits.{zeroNode}
 use Rattle.curve_block.specs.Parts.{currencyOf, nodeCount, nodePlace, nodeAt, curveOf, componentsOf}
 use Rattle.curve_block.specs.Rules.{numbersSound, gapZero, gapsZero, unnamedTests, unnamedZero, breaksCurve}
-use Rattle.curve_block.specs.Verdict.{curveVerdict}
+use Rattle.curve_block.specs.Verdict.{curveRules, curveVerdict}
 use Rattle.curve_block.proofs.Accepted.{accepted-curve, place}
 
 -- ---- the bytes that the layout does not name
@@ -52,10 +51,7 @@ unnamed-kept b h =
 pub accepted-unnamed : (b : List ℕ) (k : ℕ) → curveVerdict b k ≡ Accepted → Unnamed b
 unfolding curveVerdict breaksCurve
 accepted-unnamed b k h =
-    let first = unless-accepted (breaksCheck b) _ k _ h in
-    let second = unless-accepted (breaksPlace b 2 k) _ k _ (first .1) in
-    let third = unless-accepted (breaksCurve b k) _ k _ (second .1) in
-    unnamed-kept b (both (numbersSound b k) (unnamedZero b) (not-false (numbersSound b k && unnamedZero b) (third .0)) .1)
+    unnamed-kept b (both (numbersSound b k) (unnamedZero b) (not-false _ (unbroken k (curveRules b k) h 2)) .1)
 
 -- ---- two blocks, byte by byte
 
@@ -101,7 +97,7 @@ module _ (b c : List ℕ) (hb : AreBytes b) (hc : AreBytes c) where
 -- ---- the block
 
 -- what two curve blocks hold alike
-pub record Alike (b c : List ℕ) : Type 0 where
+pub record SameParts (b c : List ℕ) : Type 0 where
   pub currency : currencyOf b ≡ currencyOf c
   pub components : componentsOf b ≡ componentsOf c
   pub curve : curveOf b ≡ curveOf c
@@ -114,7 +110,7 @@ node-alike : (b c : List ℕ) → curveOf b ≡ curveOf c → (i : ℕ) → i < 
 unfolding curveOf
 node-alike b c e i l = sym (place b i l) ∙ ap (λ (x : Curve). getD (x .nodes) i zeroNode) e ∙ place c i l
 
-module _ (b c : List ℕ) (k : ℕ) (hb : AreBytes b) (hc : AreBytes c) (vb : curveVerdict b k ≡ Accepted) (vc : curveVerdict c k ≡ Accepted) (alike : Alike b c) where
+module _ (b c : List ℕ) (k : ℕ) (hb : AreBytes b) (hc : AreBytes c) (vb : curveVerdict b k ≡ Accepted) (vc : curveVerdict c k ≡ Accepted) (alike : SameParts b c) where
   head : Same b c hb hc 20
   unfolding componentsOf
   head =
@@ -159,8 +155,8 @@ module _ (b c : List ℕ) (k : ℕ) (hb : AreBytes b) (hc : AreBytes c) (vb : cu
           let e = count-alike b c (alike .curve) in
           accepted-unnamed b k vb .behind j (omega arith) l ∙ sym (accepted-unnamed c k vc .behind j (omega arith) l)
 
-  pub settled : length b ≡ 512 → length c ≡ 512 → b ≡ c
-  settled lb lc =
+  pub bytes-settled : length b ≡ 512 → length c ≡ 512 → b ≡ c
+  bytes-settled lb lc =
       let same = check-same b c up-to-check in
       let kept = check-kept b (accepted-curve b k vb .check) ∙ same ∙ sym (check-kept c (accepted-curve c k vc .check)) in
       let whole = field b c hb hc 4 508 512 refl up-to-check kept in

@@ -1,4 +1,4 @@
--- What a curve block holds (document 01, "Curve (kind 2, blocks 1 to C)"). Assumes nothing.
+-- What a curve block holds (document 01, "Curve (kind 2, blocks 1 to C)").
 use Prim.Native.Nat.{ℕ, _+_, _*_}
 use mathlib.Core.List.{List}
 use Rattle.laws.specs.Walk.{table}

@@ -1,4 +1,4 @@
--- The rules of a curve block (document 01, grounds 5 and 6). Assumes nothing.
+-- The rules of a curve block (document 01, grounds 5 and 6).
 use Prim.Native.Nat.{ℕ, zero, suc, _+_}
 use mathlib.Core.Bool.{Bool, not, _&&_, _||_}
 use mathlib.Core.List.{List, [], _∷_}
@@ -7,6 +7,7 @@ use lib.IntN.{ℤ, pos, negsuc}
 use lib.Signed.{leZ}
 use Rattle.laws.specs.Every.{every}
 use Rattle.laws.specs.Tests.{all}
+use Rattle.ground.specs.Limits.{lastDay}
 use Rattle.layout.specs.Bytes.{byteAt, zeros}
 use Rattle.layout.specs.Field.{u16At}
 use Rattle.curve.specs.declared.Node.{Node}
@@ -69,7 +70,7 @@ componentSound z = leZ (negsuc 999999) z && leZ z (pos 1000000)
 abbrev pub nodeTests : ℕ → ℕ → Node → List Bool
 nodeTests i before n =
     (eqb i 0 || ltb before (n .day))
-    ∷ leb (n .day) 10950
+    ∷ leb (n .day) lastDay
     ∷ leb (n .rate) 1000000
     ∷ componentSound (n .first)
     ∷ componentSound (n .second)

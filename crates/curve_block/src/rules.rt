@@ -7,6 +7,7 @@ use crate::node_place;
 use curve::Component;
 use curve::Node;
 use ground::Ground;
+use ground::LAST_DAY;
 use ground::Verdict;
 use layout::check::breaks_check;
 use layout::check::breaks_place;
@@ -96,7 +97,7 @@ fn node_sound(i: usize, before: u64, n: Node) -> bool
     ensures { λ r. ⌜ r ≡ nodeSound i before n ⌝ }
 {
     ((i == 0) | (before < n.day))
-        & (n.day <= 10_950)
+        & (n.day <= LAST_DAY)
         & (n.rate <= 1_000_000)
         & component_sound(n.first)
         & component_sound(n.second)
@@ -122,22 +123,17 @@ pub fn breaks_node(b: &[u8]) -> bool
     false
 }
 
-// The verdict on curve block k: grounds 2, 3, 5 and 6.
+// The verdict on curve block k: grounds 2, 3, 5 and 6, whose test needs the node count that 5 allows.
 pub fn curve_verdict(b: &[u8], k: u64) -> Verdict
     requires { ⌜ length (now b) ≡ 512 ⌝ }
     ensures { λ r. ⌜ r ≡ curveVerdict (now (b .entry)) k ⌝ }
 {
-    if breaks_check(b) {
-        return Verdict::Refused(Ground::Check, k);
+    let v = Verdict::Accepted
+        .or_if(breaks_check(b), Ground::Check, k)
+        .or_if(breaks_place(b, 2, k), Ground::Place, k)
+        .or_if(breaks_curve(b, k), Ground::Curve, k);
+    if !v.is_accepted() {
+        return v;
     }
-    if breaks_place(b, 2, k) {
-        return Verdict::Refused(Ground::Place, k);
-    }
-    if breaks_curve(b, k) {
-        return Verdict::Refused(Ground::Curve, k);
-    }
-    if breaks_node(b) {
-        return Verdict::Refused(Ground::Node, k);
-    }
-    Verdict::Accepted
+    v.or_if(breaks_node(b), Ground::Node, k)
 }

@@ -1,32 +1,29 @@
 -- Ground 15 is given only where a new block is needed and none is to be had: the book's own grounds, and a record's, are 1 to 12.
 use mathlib.Core.Path.{_≡_, refl}
 use mathlib.Core.Logic.{_⊎_}
-use mathlib.Core.Bool.{Bool, true, false, cond}
-use mathlib.Core.List.{List}
+use mathlib.Core.Bool.{Bool, true, false, _&&_, cond}
+use mathlib.Core.List.{List, [], _∷_}
 use Prim.Native.Nat.{ℕ, zero, suc, _+_, _/_, _%_, _≤_, _<_}
 use native.Mathlib.Omega.{arith}
 use lib.Dec.{eqb, leb}
+use borrow.Author.Tests.{leb-true}
 use lib.ListN.{length}
 use Rattle.laws.specs.Walk.{over}
+use Rattle.laws.proofs.Bools.{both}
 use Rattle.ground.specs.declared.Ground.{Ground}
-use Rattle.ground.specs.declared.Ground.the-variants.{Length, Check, Place, Header, Curve, Node, TradeBlock, Form, Days, Amounts, Currency, FlowLimit, BookSpace}
+use Rattle.ground.specs.declared.Ground.the-variants.{Length, BookSpace}
 use Rattle.ground.specs.declared.Verdict.{Verdict}
 use Rattle.ground.specs.declared.Verdict.the-variants.{Accepted, Refused}
 use Rattle.ground.specs.Number.{numberOf}
-use Rattle.ground.specs.Verdicts.{orElse, unless}
-use Rattle.layout.specs.Check.{breaksCheck, breaksPlace}
-use Rattle.curve_block.specs.Rules.{breaksCurve, breaksNode}
-use Rattle.curve_block.specs.Verdict.{curveVerdict}
+use Rattle.ground.specs.Verdicts.{orElse, unless, Rule, firstBroken}
+use Rattle.curve_block.specs.Verdict.{curveRules, curveVerdict}
 use Rattle.record.specs.declared.Curves.{Curves}
 use Rattle.record.specs.declared.Fields.{Fields}
 use Rattle.record.specs.Bytes.{fieldsOf}
-use Rattle.record.specs.Rules.{breaksForm, breaksDays, breaksAmounts, breaksCurrency}
-use Rattle.trade.specs.Read.{tradeOf}
-use Rattle.flows.specs.Legs.{breaksFlowLimit}
-use Rattle.flows.specs.Verdict.{recordVerdict}
+use Rattle.flows.specs.Verdict.{recordRules, recordVerdict}
 use Rattle.book.specs.Parts.{blockAt, curveCount, curvesOf, recordCount, recordIn, tradeCount}
-use Rattle.book.specs.Rules.{breaksLength, breaksHeader, breaksTradeBlock}
-use Rattle.book.specs.Verdict.{firstOf, bytesVerdict, headerVerdict, recordsVerdict, tradesVerdict, blockVerdict, verdict}
+use Rattle.book.specs.Rules.{breaksLength}
+use Rattle.book.specs.Verdict.{firstOf, bytesVerdict, headerRules, headerVerdict, recordsVerdict, tradesRules, tradesVerdict, blockVerdict, verdict}
 use Rattle.edit.specs.declared.Edited.the-variants as edited
 use Rattle.edit.specs.Refusals.{blockOf, breaksBookSpace, newRecordVerdict, appendVerdict}
 use Rattle.edit.specs.Edits.{answerOf, appendedBook, appendAnswer}
@@ -61,35 +58,35 @@ unfolding firstOf over
 first-tested f h i zero = pass
 first-tested f h i (suc n) = orElse-tested (f i) _ (h i) (first-tested f h (suc i) n)
 
+-- every ground of the rules is one of 1 to 12
+low : List Rule → Bool
+low [] = true
+low (r ∷ rules) = leb (numberOf (r .1)) 12 && low rules
+
+rules-tested : (k : ℕ) (rules : List Rule) → low rules ≡ true → Tested (firstBroken k rules)
+unfolding low
+rules-tested k [] h = pass
+rules-tested k (r ∷ rules) h =
+    let p = both (leb (numberOf (r .1)) 12) (low rules) h in
+    unless-tested (r .0) (r .1) k (firstBroken k rules) (leb-true (numberOf (r .1)) 12 (p .0)) (rules-tested k rules (p .1))
+
 record-tested : (curves : Curves) (f : Fields) (k : ℕ) → Tested (recordVerdict curves f k)
-unfolding recordVerdict
-record-tested curves f k =
-    unless-tested (breaksForm curves (f .form)) Form k _ (omega arith)
-    (unless-tested (breaksDays (f .form) (f .days)) Days k _ (omega arith)
-    (unless-tested (breaksAmounts (f .form) (f .days) (f .amounts)) Amounts k _ (omega arith)
-    (unless-tested (breaksCurrency curves (f .form)) Currency k _ (omega arith)
-    (unless-tested (breaksFlowLimit (tradeOf f)) FlowLimit k Accepted (omega arith) pass))))
+unfolding recordVerdict low
+record-tested curves f k = rules-tested k (recordRules curves f) refl
 
 header-tested : (b : List ℕ) (n : ℕ) → Tested (headerVerdict b n)
-unfolding headerVerdict
-header-tested b n =
-    unless-tested (breaksCheck b) Check 0 _ (omega arith)
-    (unless-tested (breaksPlace b 1 0) Place 0 _ (omega arith) (unless-tested (breaksHeader b n) Header 0 Accepted (omega arith) pass))
+unfolding headerVerdict low
+header-tested b n = rules-tested 0 (headerRules b n) refl
 
 curve-tested : (b : List ℕ) (k : ℕ) → Tested (curveVerdict b k)
-unfolding curveVerdict
-curve-tested b k =
-    unless-tested (breaksCheck b) Check k _ (omega arith)
-    (unless-tested (breaksPlace b 2 k) Place k _ (omega arith)
-    (unless-tested (breaksCurve b k) Curve k _ (omega arith) (unless-tested (breaksNode b) Node k Accepted (omega arith) pass)))
+unfolding curveVerdict low
+curve-tested b k = rules-tested k (curveRules b k) refl
 
 trades-tested : (curves : Curves) (b : List ℕ) (k : ℕ) (last : Bool) → Tested (tradesVerdict curves b k last)
-unfolding tradesVerdict recordsVerdict
+unfolding tradesVerdict recordsVerdict low
 trades-tested curves b k last =
-    unless-tested (breaksCheck b) Check k _ (omega arith)
-    (unless-tested (breaksPlace b 3 k) Place k _ (omega arith)
-    (unless-tested (breaksTradeBlock b last) TradeBlock k _ (omega arith)
-    (first-tested (λ (i : ℕ). bytesVerdict curves (recordIn b i) k) (λ i. record-tested curves (fieldsOf (recordIn b i)) k) 0 (recordCount b))))
+    orElse-tested (firstBroken k (tradesRules b k last)) _ (rules-tested k (tradesRules b k last) refl)
+    (first-tested (λ (i : ℕ). bytesVerdict curves (recordIn b i) k) (λ i. record-tested curves (fieldsOf (recordIn b i)) k) 0 (recordCount b))
 
 at-block : (s : List ℕ) (n k : ℕ) → Tested (blockVerdict s n k)
 unfolding blockVerdict

@@ -1,5 +1,4 @@
 -- What refuses a read, an append or a strike (document 01, "Grounds of refusal"): the book's own grounds, then a new record's, then 14 and 15.
--- Assumes nothing.
 use Prim.Native.Nat.{ℕ, _+_, _/_, _%_}
 use mathlib.Core.Bool.{Bool, not, _&&_, _||_}
 use mathlib.Core.List.{List}

@@ -33,15 +33,10 @@ pub fn position_verdict(book: &[u8], used: usize, position: usize) -> Verdict
     ensures { λ r. ⌜ r ≡ positionVerdict (now (book .entry)) used position ⌝ }
 {
     let v = book::check(book, used);
-    match v {
-        Verdict::Refused(g, k) => Verdict::Refused(g, k),
-        Verdict::Accepted => {
-            if breaks_position(book, position) {
-                return Verdict::Refused(Ground::Position, 0);
-            }
-            Verdict::Accepted
-        }
+    if !v.is_accepted() {
+        return v;
     }
+    v.or_if(breaks_position(book, position), Ground::Position, 0)
 }
 
 // A new record of an accepted book: 8 to 12, of the block that it would take, then 15.
@@ -53,15 +48,11 @@ fn new_record_verdict(book: &[u8], used: usize, r: [u8; 56]) -> Verdict
     let number = (1 + curve_count(book) + trades / 9) as u64;
     let f = record::bytes::fields_of(&r);
     let v = flows::verdict::record_verdict(curves_of(book), f, number);
-    match v {
-        Verdict::Refused(g, k) => Verdict::Refused(g, k),
-        Verdict::Accepted => {
-            if breaks_book_space(trades, used, book.len()) {
-                return Verdict::Refused(Ground::BookSpace, 0);
-            }
-            Verdict::Accepted
-        }
-    }
+    v.or_if(
+        breaks_book_space(trades, used, book.len()),
+        Ground::BookSpace,
+        0,
+    )
 }
 
 // An append: the book's own grounds, then the new record's.
@@ -69,8 +60,8 @@ pub fn append_verdict(book: &[u8], used: usize, r: [u8; 56]) -> Verdict
     ensures { λ v. ⌜ v ≡ appendVerdict (now (book .entry)) used r ⌝ }
 {
     let v = book::check(book, used);
-    match v {
-        Verdict::Refused(g, k) => Verdict::Refused(g, k),
-        Verdict::Accepted => new_record_verdict(book, used, r),
+    if !v.is_accepted() {
+        return v;
     }
+    new_record_verdict(book, used, r)
 }

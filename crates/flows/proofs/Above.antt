@@ -1,4 +1,4 @@
--- A flow above the largest amount, found in a leg and in a list. Assumes nothing.
+-- A flow above the largest amount, found in a leg and in a list.
 use mathlib.Core.Path.{_≡_, refl, sym, ap, _∙_}
 use mathlib.Core.Bool.{Bool, true, false, _&&_, _||_, cond, or-assoc}
 use mathlib.Core.List.{List, [], _∷_, _++_}

@@ -1,23 +1,24 @@
--- What the rules leave of a record's trade: numbers that keep their limits. Assumes nothing.
+-- What the rules leave of a record's trade: numbers that keep their limits.
 use mathlib.Core.Path.{_≡_, refl, sym, ap, subst}
 use mathlib.Core.Bool.{Bool, true, false}
 use Prim.Native.Nat.{ℕ, zero, suc, _≤_}
 use native.Mathlib.Omega.{arith}
+use Rattle.ground.specs.Limits.{lastDay}
 use Rattle.record.specs.declared.Curves.{Curves}
 use Rattle.record.specs.declared.Fields.{Fields}
 use Rattle.record.specs.Uses.{isOutright, hasSettled, hasCoupons}
-use Rattle.record.specs.Rules.{lastDay, breaksForm, breaksDays, breaksAmounts}
-use Rattle.record.proofs.Facts.{Kind, outright, pool, specified, Formed, formed, Dated, dated, Priced, priced}
+use Rattle.record.specs.Rules.{breaksForm, breaksDays, breaksAmounts}
+use Rattle.record.proofs.Facts.{Kind, outright, pool, specified, Formed, formed, DaysKept, days-kept, Priced, priced}
 use Rattle.trade.specs.Read.{securityOf, outrightOf, repoOf, pickTrade, couponBondOf, tradeOf}
 use Rattle.flows.specs.Limits.{BondLimits, SecurityLimits, OutrightLimits, RepoLimits, TradeLimits}
 
 -- what the rules 8, 9 and 10 say
-pub record Sound (curves : Curves) (f : Fields) : Type 0 where
+pub record SoundRecord (curves : Curves) (f : Fields) : Type 0 where
   pub form : Formed curves (f .form)
-  pub days : Dated (f .form) (f .days)
+  pub days : DaysKept (f .form) (f .days)
   pub amounts : Priced (f .form) (f .days) (f .amounts)
 
-module _ {curves : Curves} (f : Fields) (r : Sound curves f) where
+module _ {curves : Curves} (f : Fields) (r : SoundRecord curves f) where
   bond : hasCoupons (f .form .security) ≡ true → BondLimits (couponBondOf f)
   bond e =
       let c = r .days .coupons e in
@@ -76,10 +77,10 @@ module _ {curves : Curves} (f : Fields) (r : Sound curves f) where
   trade-limits = limits-at (r .form .kinds)
 
 -- where none of the rules 8 to 10 is broken
-pub sound : (curves : Curves) (f : Fields) → breaksForm curves (f .form) ≡ false → breaksDays (f .form) (f .days) ≡ false
-    → breaksAmounts (f .form) (f .days) (f .amounts) ≡ false → Sound curves f
-sound curves f form days amounts = record {
+pub sound-record : (curves : Curves) (f : Fields) → breaksForm curves (f .form) ≡ false → breaksDays (f .form) (f .days) ≡ false
+    → breaksAmounts (f .form) (f .days) (f .amounts) ≡ false → SoundRecord curves f
+sound-record curves f form days amounts = record {
   form = formed curves (f .form) form;
-  days = dated (f .form) (f .days) days;
+  days = days-kept (f .form) (f .days) days;
   amounts = priced (f .form) (f .days) (f .amounts) amounts;
 }

@@ -1,4 +1,4 @@
--- The flows of an accepted record: few, none above the largest amount, all on days in reach and on curves of the book. Assumes nothing.
+-- The flows of an accepted record: few, none above the largest amount, all on days in reach and on curves of the book.
 use mathlib.Core.Path.{_≡_, refl, subst}
 use mathlib.Core.Bool.{Bool, true, false, cond}
 use mathlib.Core.Logic.{_⊎_, inl, inr, ⊎-elim}
@@ -15,13 +15,13 @@ use Rattle.laws.proofs.Bools.{neither}
 use Rattle.decimal.specs.Product.{unit}
 use Rattle.discount.specs.declared.Flow.{Flow}
 use Rattle.ground.specs.declared.Verdict.the-variants.{Accepted}
-use Rattle.ground.specs.declared.Ground.the-variants.{Form, Days, Amounts, Currency, FlowLimit}
-use Rattle.ground.proofs.Verdicts.{unless-accepted}
+use Rattle.ground.specs.Limits.{lastDay}
+use Rattle.ground.proofs.Verdicts.{unbroken}
 use Rattle.record.specs.declared.Curves.{Curves}
 use Rattle.record.specs.declared.Fields.{Fields}
 use Rattle.record.specs.Uses.{hasSettled}
-use Rattle.record.specs.Rules.{lastDay, breaksForm, breaksDays, breaksAmounts, breaksCurrency}
-use Rattle.record.proofs.Limits.{Within}
+use Rattle.record.specs.Rules.{breaksForm, breaksDays, breaksAmounts, breaksCurrency}
+use Rattle.record.proofs.Limits.{InLimits}
 use Rattle.record.proofs.Facts.{Kind, outright, pool, specified}
 use Rattle.trade.specs.Prices.{dirtyOf}
 use Rattle.trade.specs.Read.{securityOf, outrightOf, repoOf, tradeOf}
@@ -33,15 +33,15 @@ use Rattle.flows.specs.Signs.{isAhead, aheadSigns, settledSigns, noSigns
 use Rattle.flows.specs.Amounts.{settlementCash, secondLegCash}
 use Rattle.flows.specs.Legs.{oneFlow, paymentsOf, nominalOf, signedLeg, outrightLegs, repoLegs, legsOf, flowOf, legFlows, legsFlows, flowsOf, anyAbove, breaksFlowLimit}
 use Rattle.flows.specs.Limits.{LegLimits, LegsLimits, Valued}
-use Rattle.flows.specs.Verdict.{recordVerdict}
-use Rattle.flows.proofs.Accepted.{Sound, sound, trade-limits, by-kind}
+use Rattle.flows.specs.Verdict.{recordRules, recordVerdict}
+use Rattle.flows.proofs.Accepted.{SoundRecord, sound-record, trade-limits, by-kind}
 use Rattle.flows.proofs.Numbered.{length-legs}
 use Rattle.flows.proofs.Reach.{trade-reach, span}
 
 -- ---- from the verdict
 
 pub record AcceptedRecord (curves : Curves) (f : Fields) : Type 0 where
-  pub sound : Sound curves f
+  pub sound : SoundRecord curves f
   pub form : breaksForm curves (f .form) ≡ false
   pub days : breaksDays (f .form) (f .days) ≡ false
   pub amounts : breaksAmounts (f .form) (f .days) (f .amounts) ≡ false
@@ -51,19 +51,15 @@ pub record AcceptedRecord (curves : Curves) (f : Fields) : Type 0 where
 pub accepted : (curves : Curves) (f : Fields) (block : ℕ) → recordVerdict curves f block ≡ Accepted → AcceptedRecord curves f
 unfolding recordVerdict
 accepted curves f block h =
-    let p = unless-accepted (breaksForm curves (f .form)) Form block _ h in
-    let q = unless-accepted (breaksDays (f .form) (f .days)) Days block _ (p .1) in
-    let r = unless-accepted (breaksAmounts (f .form) (f .days) (f .amounts)) Amounts block _ (q .1) in
-    let s = unless-accepted (breaksCurrency curves (f .form)) Currency block _ (r .1) in
-    let t = unless-accepted (breaksFlowLimit (tradeOf f)) FlowLimit block _ (s .1) in
-    let all = sound curves f (p .0) (q .0) (r .0) in
+    let kept = unbroken block (recordRules curves f) h in
+    let all = sound-record curves f (kept 0) (kept 1) (kept 2) in
     record {
       sound = all;
-      form = p .0;
-      days = q .0;
-      amounts = r .0;
-      currency = s .0;
-      valued = record { limits = trade-limits f all; within = t .0 };
+      form = kept 0;
+      days = kept 1;
+      amounts = kept 2;
+      currency = kept 3;
+      valued = record { limits = trade-limits f all; within = kept 4 };
     }
 
 -- ---- amounts
@@ -81,11 +77,11 @@ all-below (f ∷ fs) h =
 
 -- a leg that has flows stands on a curve of the book
 abbrev Held : ℕ → Leg → Type 0
-Held count l = 0 < l .count → Within 1 (l .curve) count
+Held count l = 0 < l .count → InLimits 1 (l .curve) count
 
 record Placed (count : ℕ) (f : Flow) : Type 0 where
   day : f .day ≤ lastDay
-  curve : Within 1 (f .curve) count
+  curve : InLimits 1 (f .curve) count
 
 leg-placed : (count : ℕ) (l : Leg) → LegLimits l → Held count l → All (Placed count) (legFlows l)
 unfolding legFlows
@@ -102,7 +98,7 @@ record LegsHeld (count : ℕ) (l : Legs) : Type 0 where
   second : Held count (l .second)
   payments : Held count (l .payments)
 
-module _ {curves : Curves} (f : Fields) (r : Sound curves f) where
+module _ {curves : Curves} (f : Fields) (r : SoundRecord curves f) where
   payments-at : (number : ℕ) → f .form .security ≡ number → number ≤ 3 → Held (curves .count) (paymentsOf (securityOf f))
   unfolding securityOf
   payments-at zero e h = rw e (λ some. absurd (omega arith))
@@ -144,7 +140,7 @@ module _ {curves : Curves} (f : Fields) (r : Sound curves f) where
 pub record FlowBounds (count : ℕ) (f : Flow) : Type 0 where
   pub amount : f .amount ≤ unit
   pub day : f .day ≤ lastDay
-  pub curve : Within 1 (f .curve) count
+  pub curve : InLimits 1 (f .curve) count
 
 pub flows-bounded : {curves : Curves} (f : Fields) → AcceptedRecord curves f → All (FlowBounds (curves .count)) (flowsOf (tradeOf f))
 unfolding breaksFlowLimit flowsOf legsFlows
@@ -187,7 +183,7 @@ one-empty false true settled false = inr refl
 one-empty false false true false = inl refl
 one-empty false false false false = inl refl
 
-module _ {curves : Curves} (f : Fields) (r : Sound curves f) where
+module _ {curves : Curves} (f : Fields) (r : SoundRecord curves f) where
   bought-few : (s : Signs) → LegsLimits (outrightLegs s (outrightOf f)) → length (legsFlows (outrightLegs s (outrightOf f))) ≤ 121
   unfolding outrightLegs
   bought-few s l =

@@ -1,4 +1,4 @@
--- How large the amounts of flows can be. Assumes nothing.
+-- How large the amounts of flows can be.
 use Prim.Native.Nat.{ℕ, _*_, _≤_}
 use native.Mathlib.Nat.{mul-le-mul}
 use native.Mathlib.Omega.{arith}

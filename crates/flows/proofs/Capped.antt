@@ -1,4 +1,4 @@
--- Legs by their signs, and with their amounts capped. Assumes nothing.
+-- Legs by their signs, and with their amounts capped.
 use mathlib.Core.Path.{_≡_, refl, sym}
 use mathlib.Core.Bool.{Bool, true, false, cond, true≢false, false≢true}
 use Prim.Native.Nat.{ℕ, zero, suc, _+_, _≤_, _<_}

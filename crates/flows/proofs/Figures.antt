@@ -1,4 +1,4 @@
--- The repo figures that document 01 marks to be proved ("Checked figures"). Assumes nothing.
+-- The repo figures that document 01 marks to be proved ("Checked figures").
 use mathlib.Core.Path.{_≡_, refl}
 use Rattle.decimal.specs.HalfUp.{halfUp, interestOn, withholdingOn}
 use Rattle.flows.specs.Amounts.{secondLegCash}

@@ -1,9 +1,9 @@
--- The legs of a trade that keeps its limits: few flows, on days in reach. Assumes nothing.
+-- The legs of a trade that keeps its limits: few flows, on days in reach.
 use Prim.Native.Nat.{ℕ, zero, suc, _+_, _-_, _*_, _≤_, _<_}
 use native.Mathlib.Nat.{mul-le-mul-right}
 use native.Mathlib.Omega.{arith}
 use lib.IntN.{ℤ, pos, negsuc}
-use Rattle.record.specs.Rules.{lastDay}
+use Rattle.ground.specs.Limits.{lastDay}
 use Rattle.trade.specs.declared.Security.{Security}
 use Rattle.trade.specs.declared.Security.the-variants.{Nothing, Single, Coupons, Indexed}
 use Rattle.trade.specs.declared.Trade.{Trade}

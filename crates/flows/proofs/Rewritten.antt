@@ -1,4 +1,4 @@
--- An accepted record, read as a trade and written again, is the same 56 bytes. Assumes nothing.
+-- An accepted record, read as a trade and written again, is the same 56 bytes.
 use mathlib.Core.Path.{_≡_}
 use mathlib.Core.List.{List}
 use Prim.Native.Nat.{ℕ}

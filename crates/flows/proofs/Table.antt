@@ -1,4 +1,4 @@
--- The table of signs, and its rule, tested once over the whole table. Assumes nothing.
+-- The table of signs, and its rule, tested once over the whole table.
 use mathlib.Core.Path.{_≡_, refl, ap}
 use mathlib.Core.Bool.{Bool, true, false, _&&_, false≢true}
 use mathlib.Core.List.{List, [], _∷_}

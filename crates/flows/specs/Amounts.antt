@@ -1,4 +1,4 @@
--- The amounts of a trade's flows (document 01, "Flows"). Assumes nothing.
+-- The amounts of a trade's flows (document 01, "Flows").
 use Prim.Native.Nat.{ℕ, _+_, _-_}
 use Rattle.decimal.specs.HalfUp.{millionthsOf, interestOn, withholdingOn, indexedBy}
 use Rattle.trade.specs.declared.price.Dirty.{Dirty}

@@ -1,5 +1,5 @@
 -- What the code makes of a trade's legs before the limit is tested: an amount above the largest, which may not fit 64 bits, stands as one
--- above the largest. Assumes nothing.
+-- above the largest.
 use Prim.Native.Nat.{ℕ, _+_}
 use mathlib.Core.Bool.{cond}
 use lib.Dec.{leb}

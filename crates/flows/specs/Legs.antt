@@ -1,4 +1,4 @@
--- The flows of a trade (document 01, "Flows"): its first leg, second leg and payments. Assumes nothing.
+-- The flows of a trade (document 01, "Flows"): its first leg, second leg and payments.
 use Prim.Native.Nat.{ℕ, zero, suc, _+_, _*_}
 use mathlib.Core.Bool.{Bool, true, false, cond, _||_}
 use mathlib.Core.List.{List, [], _∷_, _++_}
@@ -106,10 +106,6 @@ flowOf l k = record {
   received = l .received;
   amount = cond (eqb (k + 1) (l .count)) (l .last) (l .each);
 }
-
--- what stands past the last flow
-abbrev pub noFlow : Flow
-noFlow = record { curve = 0; day = 0; received = true; amount = 0 }
 
 unfoldable pub legFlows : Leg → List Flow
 legFlows l = table (flowOf l) 0 (l .count)

@@ -1,9 +1,9 @@
--- What the numbers of a trade keep to, where the rules 8, 9 and 10 are not broken: none of its amounts then overflows. Assumes nothing.
+-- What the numbers of a trade keep to, where the rules 8, 9 and 10 are not broken: none of its amounts then overflows.
 use Prim.Native.Nat.{ℕ, _+_, _-_, _*_, _≤_, _<_}
 use mathlib.Core.Path.{_≡_}
 use mathlib.Core.Bool.{false}
 use Rattle.decimal.specs.Product.{unit}
-use Rattle.record.specs.Rules.{lastDay}
+use Rattle.ground.specs.Limits.{lastDay}
 use Rattle.trade.specs.declared.SinglePayment.{SinglePayment}
 use Rattle.trade.specs.declared.CouponBond.{CouponBond}
 use Rattle.trade.specs.declared.IndexedBond.{IndexedBond}

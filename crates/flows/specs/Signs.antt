@@ -1,9 +1,9 @@
--- Which flows a trade has (document 01, "Flows"): the sign of its first leg, second leg and payments, 1 in, −1 out, 0 none. Assumes nothing.
+-- Which flows a trade has (document 01, "Flows"): the sign of its first leg, second leg and payments, 1 in, −1 out, 0 none.
 use Prim.Native.Nat.{ℕ}
 use mathlib.Core.Bool.{Bool, _&&_, _||_, cond}
 use lib.Dec.{eqb}
 use lib.IntN.{pos, negsuc, negℤ}
-use Rattle.record.specs.Uses.{within, isOutright, isPool, isSpecified, hasSettled}
+use Rattle.record.specs.Uses.{inLimits, isOutright, isPool, isSpecified, hasSettled}
 use Rattle.flows.specs.declared.signs.Signs.{Signs}
 
 -- what a trade can be: "phase (0 outright, ..)"; "Pool phases 1, 2 and specified 1"
@@ -11,7 +11,7 @@ abbrev pub isBought : ℕ → ℕ → Bool
 isBought kind phase = isOutright kind && eqb phase 0
 
 abbrev pub isAhead : ℕ → ℕ → Bool
-isAhead kind phase = isPool kind && within 1 phase 2 || isSpecified kind && eqb phase 1
+isAhead kind phase = isPool kind && inLimits 1 phase 2 || isSpecified kind && eqb phase 1
 
 -- "Buyer: settlement cash out on value day 1, payments in."
 abbrev pub boughtSigns : Signs

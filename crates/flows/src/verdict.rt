@@ -8,26 +8,32 @@ use record::rules;
 ghost use mathlib.Core.Path.{_≡_};
 ghost use Rattle.flows.specs.Verdict.{recordVerdict};
 
+// The amounts of 12 are worked out only where the other rules have said that they do not overflow.
 pub fn record_verdict(curves: Curves, f: Fields, block: u64) -> Verdict
     ensures { λ r. ⌜ r ≡ recordVerdict curves f block ⌝ }
 {
     let form = f.form;
     let days = f.days;
     let amounts = f.amounts;
-    if rules::breaks_form(curves, form) {
-        return Verdict::Refused(Ground::Form, block);
+    let v = Verdict::Accepted
+        .or_if(rules::breaks_form(curves, form), Ground::Form, block)
+        .or_if(rules::breaks_days(form, days), Ground::Days, block)
+        .or_if(
+            rules::breaks_amounts(form, days, amounts),
+            Ground::Amounts,
+            block,
+        )
+        .or_if(
+            rules::breaks_currency(curves, form),
+            Ground::Currency,
+            block,
+        );
+    if !v.is_accepted() {
+        return v;
     }
-    if rules::breaks_days(form, days) {
-        return Verdict::Refused(Ground::Days, block);
-    }
-    if rules::breaks_amounts(form, days, amounts) {
-        return Verdict::Refused(Ground::Amounts, block);
-    }
-    if rules::breaks_currency(curves, form) {
-        return Verdict::Refused(Ground::Currency, block);
-    }
-    if walk::breaks_flow_limit(trade::read::trade_of(f)) {
-        return Verdict::Refused(Ground::FlowLimit, block);
-    }
-    Verdict::Accepted
+    v.or_if(
+        walk::breaks_flow_limit(trade::read::trade_of(f)),
+        Ground::FlowLimit,
+        block,
+    )
 }

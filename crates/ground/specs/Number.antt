@@ -1,4 +1,4 @@
--- The number of each ground (document 01, "Grounds of refusal"). Assumes nothing.
+-- The number of each ground (document 01, "Grounds of refusal").
 use Prim.Native.Nat.{ℕ}
 use Rattle.ground.specs.declared.Ground.{Ground}
 use Rattle.ground.specs.declared.Ground.the-variants.{Length, Check, Place, Header, Curve, Node, TradeBlock, Form, Days, Amounts, Currency, FlowLimit, ReportSpace, Position, BookSpace, ValueRange}

@@ -1,7 +1,13 @@
-// The grounds on which a call is refused: a case for each rule of document 01.
+// The grounds on which a call is refused, the verdict, and a limit that several crates share.
 ghost use mathlib.Core.Path.{_≡_};
 ghost use Rattle.ground.specs.Number.{numberOf};
+ghost use Rattle.ground.specs.declared.Verdict.the-variants.{Accepted};
+ghost use Rattle.ground.specs.Verdicts.{orElse, unless, isAccepted};
 
+// The last day of a field or flow.
+pub const LAST_DAY: u64 = 10_950;
+
+// A case for each rule of document 01.
 pub enum Ground {
     Length,
     Check,
@@ -25,6 +31,32 @@ pub enum Ground {
 pub enum Verdict {
     Accepted,
     Refused(Ground, u64),
+}
+
+impl Verdict {
+    pub fn is_accepted(self) -> bool
+        ensures { λ r. ⌜ r ≡ isAccepted self ⌝ }
+    {
+        match self {
+            Verdict::Accepted => true,
+            Verdict::Refused(_, _) => false,
+        }
+    }
+
+    // This verdict; where it finds nothing, refused by a further rule that is broken.
+    pub fn or_if(self, broken: bool, ground: Ground, block: u64) -> Verdict
+        ensures { λ r. ⌜ r ≡ orElse self (unless broken ground block Accepted) ⌝ }
+    {
+        match self {
+            Verdict::Refused(g, k) => Verdict::Refused(g, k),
+            Verdict::Accepted => {
+                if broken {
+                    return Verdict::Refused(ground, block);
+                }
+                Verdict::Accepted
+            }
+        }
+    }
 }
 
 // The ground's number in document 01.

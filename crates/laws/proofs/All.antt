@@ -1,4 +1,4 @@
--- The laws of `All`: joined lists, lists by index, and an element by its number. Assumes nothing.
+-- The laws of `All`: joined lists, and lists by index.
 use mathlib.Core.List.{List, [], _∷_, _++_}
 use Prim.Native.Nat.{ℕ, zero, suc, _+_, _≤_, _<_}
 use native.Mathlib.Omega.{arith}
@@ -16,10 +16,9 @@ module _ {A : Type 0} (P : A → Type 0) where
   all-table f i zero h = tt
   all-table f i (suc n) h = (h i (omega arith) (omega arith), all-table f (suc i) n (λ k l m. h k (omega arith) (omega arith)))
 
-  pub all-at : (xs : List A) → All P xs → (k : ℕ) (d : A) → k < length xs → P (getD xs k d)
-  all-at [] h k d l = absurd (omega arith)
-  all-at (x ∷ xs) h zero d l = h .0
-  all-at (x ∷ xs) h (suc k) d l = all-at xs (h .1) k d (omega arith)
+  pub all-of : (xs : List A) (d : A) → ((i : ℕ) → i < length xs → P (getD xs i d)) → All P xs
+  all-of [] d h = tt
+  all-of (x ∷ xs) d h = (h 0 (omega arith), all-of xs d (λ i l. h (suc i) (omega arith)))
 
 -- two facts of each element, as one
 pub all-both : {A : Type 0} (P Q R : A → Type 0) → ((x : A) → P x → Q x → R x) → (xs : List A) → All P xs → All Q xs → All R xs

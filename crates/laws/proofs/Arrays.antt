@@ -1,4 +1,4 @@
--- Arrays of structs, as a function holds them. Assumes nothing.
+-- Arrays of structs, as a function holds them.
 use mathlib.Core.Path.{_≡_, sym, _∙_}
 use mathlib.Core.List.{List, map}
 use Prim.Native.Nat.{ℕ}

@@ -1,4 +1,4 @@
--- What a test made of tests says of its parts. Assumes nothing.
+-- What a test made of tests says of its parts.
 use mathlib.Core.Path.{_≡_, refl}
 use mathlib.Core.Bool.{Bool, true, false, _&&_, _||_, not, cond, true≢false, false≢true}
 use mathlib.Core.Logic.{_⊎_, inl, inr}

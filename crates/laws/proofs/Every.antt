@@ -1,4 +1,4 @@
--- The laws of `every`: those that a loop with an index i and a bound n cites, and what it says of each number. Assumes nothing.
+-- The laws of `every`: those that a loop with an index i and a bound n cites, and what it says of each number.
 use mathlib.Core.Path.{_≡_, refl, _∙_}
 use mathlib.Core.Bool.{Bool, true, false, _&&_}
 use Prim.Native.Nat.{ℕ, zero, suc, _+_, _-_, _≤_, _<_}

@@ -1,5 +1,5 @@
 -- Integers for `omega`, which reads none: z is `up z` less `down z`, two numbers that stay shut, so that `omega` takes them as unknowns.
--- `omega (int, plus a b)` reads and proves `_≤ℤ_`, `_<ℤ_` and reads `Within`, given the law of each sum that matters. Assumes nothing.
+-- `omega (int, plus a b)` reads and proves `_≤ℤ_`, `_<ℤ_` and reads `Within`, given the law of each sum that matters.
 use mathlib.Core.Path.{_≡_, refl}
 use mathlib.Core.Logic.{_↔_}
 use mathlib.Core.Bool.{Bool, true, false, cond}

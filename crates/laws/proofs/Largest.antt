@@ -1,4 +1,4 @@
--- `worst` over the numbers from 0 on, n of them: it is the first with the largest value, and the only one. Assumes nothing.
+-- `worst` over the numbers from 0 on, n of them: it is the first with the largest value, and the only one.
 use mathlib.Core.Path.{_≡_, refl}
 use mathlib.Core.Bool.{Bool, true, false, cond}
 use mathlib.Core.List.{List, _∷_, List·Memᴰ, List·Memᴰ·head, List·Memᴰ·tail}

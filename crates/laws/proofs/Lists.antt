@@ -1,4 +1,4 @@
--- Lists by index: `map`, `flatMap` of lists that are all of one length, the first n elements one by one, and a list whose elements are changed one by one. Assumes nothing.
+-- Lists by index: `map`, `flatMap` of lists that are all of one length, the first n elements one by one, and a list whose elements are changed one by one.
 use mathlib.Core.Path.{_≡_, refl, sym, _∙_, ap, subst}
 use mathlib.Core.List.{List, [], _∷_, _++_, map, flatMap}
 use Prim.Native.Nat.{ℕ, zero, suc, _+_, _-_, _*_, _/_, _%_, _≤_, _<_}

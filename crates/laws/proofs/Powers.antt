@@ -1,4 +1,4 @@
--- Laws of powers and differences that the native library lacks. Assumes nothing.
+-- Laws of powers and differences that the native library lacks.
 use mathlib.Core.Path.{_≡_, sym, ap, _∙_}
 use Prim.Native.Nat.{ℕ, zero, suc, _-_, _*_, _^_, _≤_, _<_}
 use native.Mathlib.Nat.{mul-zero, mul-suc, mul-sub, mul-comm, mul-mul-mul-comm, pow-zero, pow-suc, pow-lt-pow-left}

@@ -1,5 +1,5 @@
 -- Signed arithmetic at 64 bits. The size of a number, natAbs, is what `omega` reads: a bound on it shows that an operation fits, and that its bits read back
--- are the number again. Then what the code computes is `pos` or `negℤ (pos ..)` of a natural number, by the signs. Assumes nothing.
+-- are the number again. Then what the code computes is `pos` or `negℤ (pos ..)` of a natural number, by the signs.
 use mathlib.Core.Path.{_≡_, refl, sym, _∙_, ap}
 use mathlib.Core.Bool.{Bool, true, false, cond}
 use Prim.Native.Nat.{ℕ, zero, suc, _+_, _-_, _*_, _/_, _^_, _≤_, _<_}

@@ -1,4 +1,4 @@
--- Lists by index, cut and joined: `table`, and lists that are all of one length, one behind the other. Assumes nothing.
+-- Lists by index, cut and joined: `table`, and lists that are all of one length, one behind the other.
 use mathlib.Core.Path.{_≡_, refl, sym, ap, _∙_}
 use mathlib.Core.List.{List, [], _∷_, _++_, flatten, flatMap, append-assoc, append-nil}
 use Prim.Native.Nat.{ℕ, zero, suc, _+_, _-_, _*_, _≤_, _<_, min}

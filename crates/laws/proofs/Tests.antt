@@ -1,4 +1,4 @@
--- What a list of tests says of each of them. Assumes nothing.
+-- What a list of tests says of each of them.
 use mathlib.Core.Path.{_≡_, refl}
 use mathlib.Core.Bool.{Bool, true, _&&_}
 use mathlib.Core.List.{List, [], _∷_}

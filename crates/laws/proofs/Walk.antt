@@ -1,4 +1,4 @@
--- The laws of the walks of specs/Walk.antt that a loop with an index i and a bound n cites. Assumes nothing.
+-- The laws of the walks of specs/Walk.antt that a loop with an index i and a bound n cites.
 use mathlib.Core.Path.{_≡_, refl, ap, _∙_}
 use Prim.Native.Nat.{ℕ, zero, suc, _+_, _-_, _≤_, _<_}
 use native.Mathlib.Nat.{add-zero}

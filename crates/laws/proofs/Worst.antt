@@ -1,4 +1,4 @@
--- The worst scenario by nearly exact losses is nearly the worst by the exact ones. Assumes nothing.
+-- The worst scenario by nearly exact losses is nearly the worst by the exact ones.
 use mathlib.Core.Path.{_≡_, refl}
 use mathlib.Core.Bool.{Bool, true, false, cond}
 use mathlib.Core.List.{List, [], _∷_, List·Memᴰ, List·Memᴰ·head, List·Memᴰ·tail}

@@ -1,4 +1,4 @@
--- Something of every element of a list. Assumes nothing.
+-- Something of every element of a list.
 use mathlib.Core.List.{List, [], _∷_}
 
 abbrev pub All : {A : Type 0} → (A → Type 0) → List A → Type 0

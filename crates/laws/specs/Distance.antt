@@ -1,4 +1,4 @@
--- How far two integers are apart. Assumes nothing.
+-- How far two integers are apart.
 use Prim.Native.Nat.{ℕ}
 use lib.IntN.{ℤ, pos, _+ℤ_}
 use lib.Signed.{_≤ℤ_}

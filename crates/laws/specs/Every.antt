@@ -1,4 +1,4 @@
--- A test of every number from i on, n of them: a loop that stops at the first that fails. Assumes nothing.
+-- A test of every number from i on, n of them: a loop that stops at the first that fails.
 use mathlib.Core.Bool.{Bool, true, _&&_}
 use Prim.Native.Nat.{ℕ}
 use Rattle.laws.specs.Walk.{over}

@@ -1,5 +1,5 @@
 -- The largest number up to a bound that passes a test. It takes as many steps as the bound to compute, so it stays shut: outside this
--- module only its laws are known. Assumes nothing.
+-- module only its laws are known.
 use mathlib.Core.Path.{_≡_, refl}
 use mathlib.Core.Bool.{Bool, true, false, cond}
 use Prim.Native.Nat.{ℕ, zero, suc, _≤_, zero-le}

@@ -1,4 +1,4 @@
--- A list of tests. Assumes nothing.
+-- A list of tests.
 use mathlib.Core.Bool.{Bool, true, _&&_}
 use mathlib.Core.List.{List, [], _∷_}
 

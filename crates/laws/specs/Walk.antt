@@ -1,4 +1,4 @@
--- Walks over the numbers from i on, n of them: what a loop with an index is specified by. Assumes nothing.
+-- Walks over the numbers from i on, n of them: what a loop with an index is specified by.
 use mathlib.Core.List.{List, [], _∷_}
 use Prim.Native.Nat.{ℕ, zero, suc}
 

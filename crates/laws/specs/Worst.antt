@@ -1,4 +1,4 @@
--- The first of several with the largest value. Assumes nothing.
+-- The first of several with the largest value.
 use mathlib.Core.Bool.{cond}
 use mathlib.Core.List.{List, [], _∷_}
 use lib.IntN.{ℤ}

@@ -1,4 +1,4 @@
--- The laws of `put`, `part`, `onBlock` and `zeros`: what is written is read back, and what lies apart stays. Assumes nothing.
+-- The laws of `put`, `part`, `onBlock` and `zeros`: what is written is read back, and what lies apart stays.
 use mathlib.Core.Path.{_≡_, refl, sym, _∙_, ap}
 use mathlib.Core.Logic.{_⊎_, inl, inr}
 use mathlib.Core.Bool.{true}

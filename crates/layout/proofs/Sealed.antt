@@ -1,4 +1,4 @@
--- The laws of the check and of the place. Assumes nothing.
+-- The laws of the check and of the place.
 use mathlib.Core.Path.{_≡_, refl, sym, _∙_}
 use mathlib.Core.Logic.{_⊎_, inl}
 use mathlib.Core.Bool.{false, _&&_}

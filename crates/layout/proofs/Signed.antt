@@ -1,4 +1,4 @@
--- The 64 bits of a signed number, by the code's test of its sign. Assumes nothing.
+-- The 64 bits of a signed number, by the code's test of its sign.
 use mathlib.Core.Path.{_≡_, refl, _∙_, ap}
 use mathlib.Core.Bool.{true, false, true≢false}
 use Prim.Native.Nat.{suc, _-_, _^_, _<_}

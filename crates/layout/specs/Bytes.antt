@@ -1,4 +1,4 @@
--- Bytes of a list by their place: read, tested for zeros, written over. Assumes nothing.
+-- Bytes of a list by their place: read, tested for zeros, written over.
 use Prim.Native.Nat.{ℕ, suc, _-_, _<_}
 use mathlib.Core.Bool.{Bool}
 use mathlib.Core.List.{List, [], _∷_}

@@ -1,4 +1,4 @@
--- The check of a block, and its place (document 01, "Blocks of the book"). Assumes nothing.
+-- The check of a block, and its place (document 01, "Blocks of the book").
 use Prim.Native.Nat.{ℕ, zero, suc, _+_, _*_, _%_, _^_}
 use mathlib.Core.Bool.{Bool, not, _&&_}
 use mathlib.Core.List.{List}

@@ -1,4 +1,4 @@
--- Fields (document 01: "Fields are little-endian, unsigned unless marked i."). Assumes nothing.
+-- Fields (document 01: "Fields are little-endian, unsigned unless marked i.").
 use Prim.Native.Nat.{ℕ, zero, suc, _+_, _-_, _*_, _/_, _%_, _^_}
 use mathlib.Core.Bool.{cond}
 use mathlib.Core.List.{List, [], _∷_}

@@ -7,12 +7,13 @@ use mathlib.Core.Path.{refl}
 use Prim.Native.Nat.{ℕ, _+_, _*_, _-_, _<_}
 use lib.Dec.{eqb}
 use lib.IntN.{ℤ, negℤ, _+ℤ_, _-ℤ_}
+use Rattle.laws.specs.All.{All}
 use Rattle.laws.specs.Distance.{Below, Within}
 use Rattle.laws.proofs.Integer.{int, plus, up-neg, down-neg, up-pos, down-pos}
 use Rattle.laws.proofs.Worst.{max-within, worst-near}
 use Rattle.laws.proofs.Largest.{upFrom, numbered}
 use Rattle.curve.specs.declared.Node.{Node}
-use Rattle.curve.specs.Limits.{Limits, Each}
+use Rattle.curve.specs.Limits.{Limits}
 use Rattle.curve.specs.Rates.{rateAt}
 use Rattle.curve.specs.Scenarios.{scenarioCount, scenarioAt}
 use Rattle.curve.specs.Stress.{stressed}
@@ -39,13 +40,13 @@ plus-within a b c d s t h k = omega (int, plus a c, plus b d)
 
 -- ---- the flows of a curve, at any nodes in their limits
 
-rated : (nodes : List Node) → Each Limits nodes → (fs : List Flow) → Rated (rateAt nodes) fs
+rated : (nodes : List Node) → All Limits nodes → (fs : List Flow) → Rated (rateAt nodes) fs
 unfolding million
 rated nodes h [] = tt
 rated nodes h (f ∷ fs) = (rate-limit nodes (f .day) h, rated nodes h fs)
 
-module _ (e : Exposure) (h : Each Limits (e .nodes)) where
-  value-within : (nodes : List Node) → Each Limits nodes
+module _ (e : Exposure) (h : All Limits (e .nodes)) where
+  value-within : (nodes : List Node) → All Limits nodes
       → Within (valueOn flowValue nodes (e .flows)) (valueOn flowExact nodes (e .flows)) (toleranceOf e)
   value-within nodes p = flows-within (rateAt nodes) (e .flows) (rated nodes p (e .flows))
 
@@ -86,7 +87,7 @@ module _ (e : Exposure) (h : Each Limits (e .nodes)) where
 -- the nodes of every exposure are in their limits
 abbrev pub AllLimits : List Exposure → Type 0
 AllLimits [] = Unit {0}
-AllLimits (e ∷ es) = Each Limits (e .nodes) × AllLimits es
+AllLimits (e ∷ es) = All Limits (e .nodes) × AllLimits es
 
 module _ (currency : ℕ) where
   sums-within : (es : List Exposure) → AllLimits es

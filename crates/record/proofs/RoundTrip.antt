@@ -1,4 +1,4 @@
--- The bytes of a record's fields are the record's bytes, and fields that were written are read back. Assumes nothing.
+-- The bytes of a record's fields are the record's bytes, and fields that were written are read back.
 use mathlib.Core.Path.{_≡_, refl, sym, _∙_, ap}
 use mathlib.Core.List.{List}
 use Prim.Native.Nat.{ℕ, _%_, _^_, _<_}
@@ -174,6 +174,6 @@ narrow b bytes = record {
   issue = field-bound 4 b 52 bytes;
 }
 
-pub length-record : (f : Fields) → length (recordBytes f) ≡ 56
+pub length-recordBytes : (f : Fields) → length (recordBytes f) ≡ 56
 unfolding recordBytes formBytes daysBytes amountsBytes bytesOf
-length-record f = refl
+length-recordBytes f = refl

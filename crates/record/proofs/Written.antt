@@ -1,4 +1,4 @@
--- Fields written one behind the other are written at once. Assumes nothing.
+-- Fields written one behind the other are written at once.
 use mathlib.Core.Path.{_≡_, refl}
 use mathlib.Core.List.{List}
 use Prim.Native.Nat.{ℕ}

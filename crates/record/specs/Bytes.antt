@@ -1,4 +1,4 @@
--- The 56 bytes of a record (document 01, "Record"), read as fields and written from them. Assumes nothing.
+-- The 56 bytes of a record (document 01, "Record"), read as fields and written from them.
 use Prim.Native.Nat.{ℕ}
 use mathlib.Core.List.{List, _++_}
 use Rattle.layout.specs.Bytes.{byteAt}

@@ -1,14 +1,15 @@
--- The rules 8 to 11 of document 01 on the fields of one record: each is true where it is broken. Assumes nothing.
+-- The rules 8 to 11 of document 01 on the fields of one record: each is true where it is broken.
 use Prim.Native.Nat.{ℕ, _+_, _-_, _*_}
 use mathlib.Core.Bool.{Bool, _&&_, _||_, not, cond}
 use lib.Dec.{eqb, leb, ltb}
 use lib.ListN.{getD}
+use Rattle.ground.specs.Limits.{lastDay}
 use Rattle.decimal.specs.Product.{unit}
 use Rattle.record.specs.declared.Form.{Form}
 use Rattle.record.specs.declared.Days.{Days}
 use Rattle.record.specs.declared.Amounts.{Amounts}
 use Rattle.record.specs.declared.Curves.{Curves}
-use Rattle.record.specs.Uses.{within, usedWithin, asked, isOutright, isPool, isSpecified, hasSettled, hasSecurity, hasCoupons, isIndexed}
+use Rattle.record.specs.Uses.{inLimits, usedInLimits, asked, isOutright, isPool, isSpecified, hasSettled, hasSecurity, hasCoupons, isIndexed}
 
 -- ---- 8. A record's kind, side, phase, security or curve id is none of those allowed together.
 
@@ -16,40 +17,37 @@ use Rattle.record.specs.Uses.{within, usedWithin, asked, isOutright, isP
 abbrev pub phaseFits : ℕ → ℕ → Bool
 phaseFits kind phase =
     isOutright kind && eqb phase 0
-    || isPool kind && within 1 phase 3
-    || isSpecified kind && within 1 phase 2
+    || isPool kind && inLimits 1 phase 3
+    || isSpecified kind && inLimits 1 phase 2
 
 -- "Pool phase 1 has security 0; every other trade has 1, 2 or 3."
 abbrev pub securityFits : Form → Bool
-securityFits f = usedWithin (not (isPool (f .kind) && eqb (f .phase) 1)) 1 (f .security) 3
+securityFits f = usedInLimits (not (isPool (f .kind) && eqb (f .phase) 1)) 1 (f .security) 3
 
 -- both curves are the book's; "security 0 has no security curve"
 abbrev pub curvesFit : ℕ → Form → Bool
-curvesFit count f = within 1 (f .cashcurve) count && usedWithin (hasSecurity (f .security)) 1 (f .securitycurve) count
+curvesFit count f = inLimits 1 (f .cashcurve) count && usedInLimits (hasSecurity (f .security)) 1 (f .securitycurve) count
 
 unfoldable pub breaksForm : Curves → Form → Bool
 breaksForm curves f = not (
     phaseFits (f .kind) (f .phase)
-    && within 1 (f .side) 2
+    && inLimits 1 (f .side) 2
     && securityFits f
     && curvesFit (curves .count) f)
 
 -- ---- 9. A day, period, payment count or term that the record uses breaks its rule.
 
 -- "All days, payments' too, are at most 10,950."
-abbrev pub lastDay : ℕ
-lastDay = 10950
-
 abbrev pub inReach : ℕ → Bool
 inReach day = leb day lastDay
 
 -- "In pool phases 1, 2 and specified phase 1, value day 1 is before value day 2 and the term is their difference."
 abbrev pub legsAhead : Days → Bool
-legsAhead d = within 1 (d .term) 730 && ltb (d .day1) (d .day2) && eqb (d .day2 - d .day1) (d .term) && inReach (d .day2)
+legsAhead d = inLimits 1 (d .term) 730 && ltb (d .day1) (d .day2) && eqb (d .day2 - d .day1) (d .term) && inReach (d .day2)
 
 -- "In pool phase 3 and specified phase 2 the first leg has settled: value day 1 is unused, value day 2 is at most the term."
 abbrev pub secondLegAhead : Days → Bool
-secondLegAhead d = within 1 (d .term) 730 && leb (d .day2) (d .term)
+secondLegAhead d = inLimits 1 (d .term) 730 && leb (d .day2) (d .term)
 
 abbrev pub valueDaysFit : Form → Days → Bool
 valueDaysFit f d = cond (isOutright (f .kind)) (inReach (d .day1)) (cond (hasSettled (f .kind) (f .phase)) (secondLegAhead d) (legsAhead d))
@@ -60,7 +58,7 @@ firstPaymentFits f d = cond (isOutright (f .kind)) (ltb (d .day1) (d .first)) (l
 
 -- "period (1 to 366)", "payments (1 to 120)"
 abbrev pub countsFit : ℕ → ℕ → Bool
-countsFit period payments = within 1 period 366 && within 1 payments 120
+countsFit period payments = inLimits 1 period 366 && inLimits 1 payments 120
 
 -- and the last payment's day
 abbrev pub couponDaysFit : ℕ → ℕ → ℕ → Bool
@@ -86,24 +84,24 @@ unusedDaysFit f d =
 -- "nominal", "repo cash (each 1 to 10^12)"
 abbrev pub principalsFit : Form → Amounts → Bool
 principalsFit f a =
-    usedWithin (hasSecurity (f .security)) 1 (a .nominal) unit
-    && usedWithin (not (isOutright (f .kind))) 1 (a .cash) unit
+    usedInLimits (hasSecurity (f .security)) 1 (a .nominal) unit
+    && usedInLimits (not (isOutright (f .kind))) 1 (a .cash) unit
 
 -- "clean price (1 to 4,000,000) or repo rate (0 to 1,000,000)"
 abbrev pub priceFits : Form → Amounts → Bool
-priceFits f a = cond (isOutright (f .kind)) (within 1 (a .price) 4000000) (leb (a .price) 1000000)
+priceFits f a = cond (isOutright (f .kind)) (inLimits 1 (a .price) 4000000) (leb (a .price) 1000000)
 
 -- "accrued (0 to 1,000,000)", which a repo has not; "coupon per period (0 to 1,000,000)"
 abbrev pub couponsFit : Form → Amounts → Bool
 couponsFit f a =
-    usedWithin (isOutright (f .kind)) 0 (a .accrued) 1000000
-    && usedWithin (hasCoupons (f .security)) 0 (a .coupon) 1000000
+    usedInLimits (isOutright (f .kind)) 0 (a .accrued) 1000000
+    && usedInLimits (hasCoupons (f .security)) 0 (a .coupon) 1000000
 
 -- "index at settlement, 52-55 at issue (1 to 10,000,000 each)"; "only indexed coupons have indices"
 abbrev pub indicesFit : Form → Amounts → Bool
 indicesFit f a =
-    usedWithin (isIndexed (f .security)) 1 (a .index) 10000000
-    && usedWithin (isIndexed (f .security)) 1 (a .issue) 10000000
+    usedInLimits (isIndexed (f .security)) 1 (a .index) 10000000
+    && usedInLimits (isIndexed (f .security)) 1 (a .issue) 10000000
 
 unfoldable pub breaksAmounts : Form → Days → Amounts → Bool
 breaksAmounts f d a = not (
@@ -117,9 +115,9 @@ breaksAmounts f d a = not (
 -- ---- 11. The two curves, where both are used, differ in currency.
 
 -- the currency of a curve id, which stands at id - 1; 0 for an id that no book has
-abbrev pub currencyOf : Curves → ℕ → ℕ
-currencyOf curves id = cond (within 1 id 8) (getD (curves .currency) (id - 1) 0) 0
+abbrev pub currencyOfId : Curves → ℕ → ℕ
+currencyOfId curves id = cond (inLimits 1 id 8) (getD (curves .currency) (id - 1) 0) 0
 
 unfoldable pub breaksCurrency : Curves → Form → Bool
 breaksCurrency curves f =
-    hasSecurity (f .security) && not (eqb (currencyOf curves (f .securitycurve)) (currencyOf curves (f .cashcurve)))
+    hasSecurity (f .security) && not (eqb (currencyOfId curves (f .securitycurve)) (currencyOfId curves (f .cashcurve)))

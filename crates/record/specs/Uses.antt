@@ -1,14 +1,14 @@
--- Which fields a record uses, by its kind, phase and security (document 01, "Record" and "Fields a record doesn't use are 0"). Assumes nothing.
+-- Which fields a record uses, by its kind, phase and security (document 01, "Record" and "Fields a record doesn't use are 0").
 use Prim.Native.Nat.{ℕ}
 use mathlib.Core.Bool.{Bool, _&&_, _||_, not, cond}
 use lib.Dec.{eqb, leb}
 
-abbrev pub within : ℕ → ℕ → ℕ → Bool
-within least x most = leb least x && leb x most
+abbrev pub inLimits : ℕ → ℕ → ℕ → Bool
+inLimits least x most = leb least x && leb x most
 
 -- a number that is used keeps its limits; one that is not is 0
-abbrev pub usedWithin : Bool → ℕ → ℕ → ℕ → Bool
-usedWithin used least x most = cond used (within least x most) (eqb x 0)
+abbrev pub usedInLimits : Bool → ℕ → ℕ → ℕ → Bool
+usedInLimits used least x most = cond used (inLimits least x most) (eqb x 0)
 
 -- a rule that is asked only of some records
 abbrev pub asked : Bool → Bool → Bool
@@ -33,7 +33,7 @@ abbrev pub hasSecurity : ℕ → Bool
 hasSecurity security = not (eqb security 0)
 
 abbrev pub hasCoupons : ℕ → Bool
-hasCoupons security = within 2 security 3
+hasCoupons security = inLimits 2 security 3
 
 abbrev pub isIndexed : ℕ → Bool
 isIndexed security = eqb security 3

@@ -5,9 +5,6 @@ pub mod rules;
 // The largest amount.
 pub const LARGEST: u64 = 1_000_000_000_000;
 
-// The last day.
-pub const LAST_DAY: u64 = 10_950;
-
 // What kind of trade it is, and the curves that it stands on; `blank` is bytes 6-7.
 pub struct Form {
     pub kind: u64,

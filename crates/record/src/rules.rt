@@ -4,18 +4,18 @@ use crate::Curves;
 use crate::Days;
 use crate::Form;
 use crate::LARGEST;
-use crate::LAST_DAY;
+use ground::LAST_DAY;
 ghost use mathlib.Core.Path.{_≡_};
 ghost use mathlib.Core.Bool.{true, cond};
 ghost use Prim.Native.Nat.{_+_, _-_, _*_};
-ghost use Rattle.record.specs.Uses.{within, usedWithin, asked, isOutright, isPool, isSpecified, hasSettled, hasSecurity, hasCoupons, isIndexed};
+ghost use Rattle.record.specs.Uses.{inLimits, usedInLimits, asked, isOutright, isPool, isSpecified, hasSettled, hasSecurity, hasCoupons, isIndexed};
 ghost use Rattle.record.specs.Rules.{phaseFits, securityFits, curvesFit, breaksForm};
 ghost use Rattle.record.specs.Rules.{inReach, legsAhead, secondLegAhead, valueDaysFit, firstPaymentFits, countsFit, couponDaysFit, breaksDays};
 ghost use Rattle.record.specs.Rules.{unusedDaysFit, principalsFit, priceFits, couponsFit, indicesFit, breaksAmounts};
-ghost use Rattle.record.specs.Rules.{currencyOf, breaksCurrency};
+ghost use Rattle.record.specs.Rules.{currencyOfId, breaksCurrency};
 
-fn within(least: u64, x: u64, most: u64) -> bool
-    ensures { λ r. ⌜ r ≡ within least x most ⌝ }
+fn in_limits(least: u64, x: u64, most: u64) -> bool
+    ensures { λ r. ⌜ r ≡ inLimits least x most ⌝ }
 {
     (least <= x) & (x <= most)
 }
@@ -26,10 +26,10 @@ fn pick(test: bool, yes: bool, no: bool) -> bool
     test & yes | !test & no
 }
 
-fn used_within(used: bool, least: u64, x: u64, most: u64) -> bool
-    ensures { λ r. ⌜ r ≡ usedWithin used least x most ⌝ }
+fn used_in_limits(used: bool, least: u64, x: u64, most: u64) -> bool
+    ensures { λ r. ⌜ r ≡ usedInLimits used least x most ⌝ }
 {
-    pick(used, within(least, x, most), x == 0)
+    pick(used, in_limits(least, x, most), x == 0)
 }
 
 fn asked(used: bool, rule: bool) -> bool
@@ -71,7 +71,7 @@ fn has_security(security: u64) -> bool
 fn has_coupons(security: u64) -> bool
     ensures { λ r. ⌜ r ≡ hasCoupons security ⌝ }
 {
-    within(2, security, 3)
+    in_limits(2, security, 3)
 }
 
 fn is_indexed(security: u64) -> bool
@@ -86,27 +86,28 @@ fn phase_fits(kind: u64, phase: u64) -> bool
     ensures { λ r. ⌜ r ≡ phaseFits kind phase ⌝ }
 {
     is_outright(kind) & (phase == 0)
-        | is_pool(kind) & within(1, phase, 3)
-        | is_specified(kind) & within(1, phase, 2)
+        | is_pool(kind) & in_limits(1, phase, 3)
+        | is_specified(kind) & in_limits(1, phase, 2)
 }
 
 fn security_fits(f: Form) -> bool
     ensures { λ r. ⌜ r ≡ securityFits f ⌝ }
 {
-    used_within(!(is_pool(f.kind) & (f.phase == 1)), 1, f.security, 3)
+    used_in_limits(!(is_pool(f.kind) & (f.phase == 1)), 1, f.security, 3)
 }
 
 fn curves_fit(count: u64, f: Form) -> bool
     ensures { λ r. ⌜ r ≡ curvesFit count f ⌝ }
 {
-    within(1, f.cashcurve, count) & used_within(has_security(f.security), 1, f.securitycurve, count)
+    in_limits(1, f.cashcurve, count)
+        & used_in_limits(has_security(f.security), 1, f.securitycurve, count)
 }
 
 pub fn breaks_form(curves: Curves, f: Form) -> bool
     ensures { λ r. ⌜ r ≡ breaksForm curves f ⌝ }
 {
     !(phase_fits(f.kind, f.phase)
-        & within(1, f.side, 2)
+        & in_limits(1, f.side, 2)
         & security_fits(f)
         & curves_fit(curves.count, f))
 }
@@ -129,7 +130,7 @@ fn minus(a: u64, b: u64) -> u64
 fn legs_ahead(d: Days) -> bool
     ensures { λ r. ⌜ r ≡ legsAhead d ⌝ }
 {
-    within(1, d.term, 730)
+    in_limits(1, d.term, 730)
         & (d.day1 < d.day2)
         & (minus(d.day2, d.day1) == d.term)
         & in_reach(d.day2)
@@ -138,7 +139,7 @@ fn legs_ahead(d: Days) -> bool
 fn second_leg_ahead(d: Days) -> bool
     ensures { λ r. ⌜ r ≡ secondLegAhead d ⌝ }
 {
-    within(1, d.term, 730) & (d.day2 <= d.term)
+    in_limits(1, d.term, 730) & (d.day2 <= d.term)
 }
 
 fn value_days_fit(f: Form, d: Days) -> bool
@@ -164,7 +165,7 @@ fn first_payment_fits(f: Form, d: Days) -> bool
 fn counts_fit(period: u64, payments: u64) -> bool
     ensures { λ r. ⌜ r ≡ countsFit period payments ⌝ }
 {
-    within(1, period, 366) & within(1, payments, 120)
+    in_limits(1, period, 366) & in_limits(1, payments, 120)
 }
 
 // The span from the first payment to the last.
@@ -216,8 +217,8 @@ fn unused_days_fit(f: Form, d: Days) -> bool
 fn principals_fit(f: Form, a: Amounts) -> bool
     ensures { λ r. ⌜ r ≡ principalsFit f a ⌝ }
 {
-    used_within(has_security(f.security), 1, a.nominal, LARGEST)
-        & used_within(!is_outright(f.kind), 1, a.cash, LARGEST)
+    used_in_limits(has_security(f.security), 1, a.nominal, LARGEST)
+        & used_in_limits(!is_outright(f.kind), 1, a.cash, LARGEST)
 }
 
 fn price_fits(f: Form, a: Amounts) -> bool
@@ -225,7 +226,7 @@ fn price_fits(f: Form, a: Amounts) -> bool
 {
     pick(
         is_outright(f.kind),
-        within(1, a.price, 4_000_000),
+        in_limits(1, a.price, 4_000_000),
         a.price <= 1_000_000,
     )
 }
@@ -233,15 +234,15 @@ fn price_fits(f: Form, a: Amounts) -> bool
 fn coupons_fit(f: Form, a: Amounts) -> bool
     ensures { λ r. ⌜ r ≡ couponsFit f a ⌝ }
 {
-    used_within(is_outright(f.kind), 0, a.accrued, 1_000_000)
-        & used_within(has_coupons(f.security), 0, a.coupon, 1_000_000)
+    used_in_limits(is_outright(f.kind), 0, a.accrued, 1_000_000)
+        & used_in_limits(has_coupons(f.security), 0, a.coupon, 1_000_000)
 }
 
 fn indices_fit(f: Form, a: Amounts) -> bool
     ensures { λ r. ⌜ r ≡ indicesFit f a ⌝ }
 {
-    used_within(is_indexed(f.security), 1, a.index, 10_000_000)
-        & used_within(is_indexed(f.security), 1, a.issue, 10_000_000)
+    used_in_limits(is_indexed(f.security), 1, a.index, 10_000_000)
+        & used_in_limits(is_indexed(f.security), 1, a.issue, 10_000_000)
 }
 
 pub fn breaks_amounts(f: Form, d: Days, a: Amounts) -> bool
@@ -258,10 +259,10 @@ pub fn breaks_amounts(f: Form, d: Days, a: Amounts) -> bool
 // ---- 11
 
 // A curve id's currency, 0 for an id that no book has.
-fn currency_of(curves: Curves, id: u64) -> u64
-    ensures { λ r. ⌜ r ≡ currencyOf curves id ⌝ }
+fn currency_of_id(curves: Curves, id: u64) -> u64
+    ensures { λ r. ⌜ r ≡ currencyOfId curves id ⌝ }
 {
-    if within(1, id, 8) {
+    if in_limits(1, id, 8) {
         let at = (id - 1) as usize;
         return curves.currency[at];
     }
@@ -272,5 +273,5 @@ pub fn breaks_currency(curves: Curves, f: Form) -> bool
     ensures { λ r. ⌜ r ≡ breaksCurrency curves f ⌝ }
 {
     has_security(f.security)
-        & !(currency_of(curves, f.securitycurve) == currency_of(curves, f.cashcurve))
+        & !(currency_of_id(curves, f.securitycurve) == currency_of_id(curves, f.cashcurve))
 }

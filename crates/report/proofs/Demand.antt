@@ -9,6 +9,7 @@ use lib.Signed.{mag}
 use borrow.Author.Tests.{le-ltb}
 use lib.IntN.{natAbs, _+ℤ_}
 use lib.ListN.{length, getD, drop, replicate, length-append, length-replicate, List·getD-append}
+use Rattle.laws.specs.All.{All}
 use Rattle.laws.specs.Walk.{table}
 use Rattle.laws.proofs.Signed.{fits, abs-add}
 use Rattle.ground.specs.declared.Ground.the-variants.{ReportSpace}
@@ -17,7 +18,7 @@ use Rattle.ground.specs.declared.Verdict.the-variants.{Accepted}
 use Rattle.ground.specs.Verdicts.{unless}
 use Rattle.ground.proofs.Verdicts.{unless-accepted, orElse-accepted}
 use Rattle.decimal.specs.Product.{unit}
-use Rattle.curve.specs.Limits.{Limits, Each}
+use Rattle.curve.specs.Limits.{Limits}
 use Rattle.curve.proofs.Rates.{each-limits}
 use Rattle.curve.proofs.Scenarios.{scenarios-most}
 use Rattle.book.specs.Parts.{curveCount}
@@ -57,7 +58,7 @@ sum-size currency (e ∷ es) h = go (eqb (curveMargin e .currency) currency) (su
 module _ (s : List ℕ) (used : ℕ) (b : Sound s used) where
   -- ---- curve k of the book
 
-  nodes-limits : (k : ℕ) → 1 ≤ k → k ≤ curveCount s → Each Limits (exposureAt s k .nodes)
+  nodes-limits : (k : ℕ) → 1 ≤ k → k ≤ curveCount s → All Limits (exposureAt s k .nodes)
   unfolding exposureAt
   nodes-limits k l m = each-limits _ (block-sound s used b k l m .curve)
 

@@ -62,7 +62,7 @@ module _ (s : List ℕ) (curves : List CurveMargin) (k : ℕ) (h : CurvesPlaced 
 
 module _ (s : List ℕ) (used : ℕ) (b : Sound s used) where
   -- a curve's block breaks nothing
-  pub block-sound : (k : ℕ) → 1 ≤ k → k ≤ curveCount s → block.Sound (blockAt s k) k
+  pub block-sound : (k : ℕ) → 1 ≤ k → k ≤ curveCount s → block.SoundCurve (blockAt s k) k
   block-sound k l m =
       let e : 1 + (k - 1) ≡ k = omega arith in
       block.accepted-curve (blockAt s k) k (ap (λ (j : ℕ). curveVerdict (blockAt s j) j) (sym e) ∙ b .curve (k - 1) (omega arith))

@@ -1,4 +1,4 @@
--- `book::blocks_verdict` meets its contract. Assumes nothing.
+-- `book::blocks_verdict` meets its contract.
 use mathlib.Core.Path.{_≡_, refl, sym, _∙_}
 use Prim.Native.Nat.{_≤_, _-_}
 use native.Mathlib.Omega.{arith}
@@ -20,18 +20,18 @@ loop-holds c = (omega arith, refl)
 
 returns : tie.Need-returns Inv-loop μ-loop
 returns c =
-    let at-loop = c .before .before .before .before in
+    let turn = c .before .before .before in
+    let l = turn .before .loop in
     let e = c .before .before .block-verdict .ensures in
     let stop = rw e at (sym (c .before .is-accepted .ensures) ∙ not-true _ (c .if1 .taken)) in
-    e ∙ sym (at-loop .loop .inv .1 ∙ first-stopped _ (at-loop .loop .k) _ (c .before .before .before .loop-test .taken) stop)
+    e ∙ sym (l .inv .1 ∙ first-stopped _ (l .k) _ (turn .loop-test .taken) stop)
 
 loop-again : tie.Need-loop-again Inv-loop μ-loop
 loop-again c =
-    let at-loop = c .before .before .before .before in
-    let pass = rw (c .before .before .block-verdict .ensures) at (sym (c .before .is-accepted .ensures) ∙ not-false _ (c .if1 .left)) in (
-      omega arith,
-      at-loop .loop .inv .1 ∙ first-passed _ (at-loop .loop .k) _ (c .before .before .before .loop-test .taken) pass,
-    )
+    let turn = c .before .before .before in
+    let l = turn .before .loop in
+    let pass = rw (c .before .before .block-verdict .ensures) at (sym (c .before .is-accepted .ensures) ∙ not-false _ (c .if1 .left)) in
+    (omega arith, l .inv .1 ∙ first-passed _ (l .k) _ (turn .loop-test .taken) pass)
 
 returns-2 : tie.Need-returns-2 Inv-loop μ-loop
 returns-2 c = sym (c .before .loop .inv .1 ∙ first-end _ _ _ (c .loop-test .left))

@@ -1,4 +1,4 @@
--- `curve::clamp` meets its contract. Assumes nothing.
+-- `curve::clamp` meets its contract.
 use native.Mathlib.Omega.{arith}
 use mathlib.Core.Bool.{true, false}
 use mathlib.Core.Path.{ap, _∙_}

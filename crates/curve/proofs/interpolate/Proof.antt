@@ -1,4 +1,4 @@
--- `curve::interpolate` meets its contract: proofs/Interpolation.antt names what each operation gives, and its size. Assumes nothing.
+-- `curve::interpolate` meets its contract: proofs/Interpolation.antt names what each operation gives, and its size.
 use borrow.Author.Needs.{needs}
 use native.Mathlib.Omega.{arith}
 use Rattle.laws.proofs.Signed.{fits, to-u64}
@@ -6,26 +6,11 @@ use Rattle.curve.proofs.Interpolation.{run-is, interpolated-is, rise-si
 use Rattle.curve.proofs.interpolate.Statement.{statement}
 use Rattle.curve.proofs.interpolate.Tie as tie
 
-cast-rate : tie.Need-cast-rate
-cast-rate c = search needs
-
-cast-day : tie.Need-cast-day
-cast-day c = search needs
-
-cast-rise : tie.Need-cast-rise
-cast-rise c = search needs
-
 sub-rise : tie.Need-sub-rise
 sub-rise c = let h = c .before .before .before .pre in rw (code-rise _ _ _ h) (fits _ (omega (arith, rise-size _ _ _ h)))
 
-cast-gone : tie.Need-cast-gone
-cast-gone c = search needs
-
 sub-gone : tie.Need-sub-gone
 sub-gone c = let h = c .before .before .before .pre in rw (code-gone _ _ _ h) (fits _ (omega (arith, gone-size _ _ _ h)))
-
-cast-run : tie.Need-cast-run
-cast-run c = search needs
 
 sub-run : tie.Need-sub-run
 sub-run c = let h = c .before .before .before .before .pre in rw (code-run _ _ _ h) (fits _ (omega (arith, run-size _ _ _ h)))
@@ -49,13 +34,13 @@ pub interpolate-spec : {M : Type 1} → statement M
 interpolate-spec =
     tie.close
     (tie.spec
-    cast-rate
-    cast-day
-    cast-rise
+    (λ c. search needs)
+    (λ c. search needs)
+    (λ c. search needs)
     sub-rise
-    cast-gone
+    (λ c. search needs)
     sub-gone
-    cast-run
+    (λ c. search needs)
     sub-run
     mul-result
     div-result

@@ -1,4 +1,4 @@
--- `curve::shift` meets its contract: proofs/Shifting.antt names what each operation gives, and its size. Assumes nothing.
+-- `curve::shift` meets its contract: proofs/Shifting.antt names what each operation gives, and its size.
 use borrow.Author.Needs.{needs}
 use native.Mathlib.Omega.{arith}
 use lib.Dec.{lit<}
@@ -32,9 +32,6 @@ add-sum-2 c =
     let h = c .before .before .before .before .before .before .before .before .before .before .before .before .pre in
     rw (code-three _ _ h) (fits _ (omega (arith, three-size _ _ h)))
 
-cast-result : tie.Need-cast-result
-cast-result c = search needs
-
 div-result : tie.Need-div-result
 div-result c =
     let h = c .before .before .before .before .before .before .before .before .before .before .before .before .before .pre in
@@ -59,7 +56,7 @@ shift-spec =
     add-sum
     mul-sum-3
     add-sum-2
-    cast-result
+    (λ c. search needs)
     div-result
     add-result
     returns)

@@ -1,4 +1,4 @@
--- `curve_block::curve_of` meets its contract. Assumes nothing.
+-- `curve_block::curve_of` meets its contract.
 use mathlib.Core.Path.{_≡_, refl, sym, ap, _∙_}
 use Prim.Native.Nat.{ℕ, _≤_, _<_, _-_}
 use native.Mathlib.Omega.{arith}

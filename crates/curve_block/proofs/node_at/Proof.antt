@@ -1,4 +1,4 @@
--- `curve_block::node_at` meets its contract. Assumes nothing.
+-- `curve_block::node_at` meets its contract.
 use native.Mathlib.Omega.{arith}
 use borrow.Author.Needs.{needs}
 use Rattle.laws.proofs.Signed.{read-is}

@@ -1,4 +1,4 @@
--- `curve_block::node_count` meets its contract. Assumes nothing.
+-- `curve_block::node_count` meets its contract.
 use native.Mathlib.Omega.{arith}
 use borrow.Author.Needs.{needs}
 use Rattle.curve_block.proofs.node_count.Statement.{statement}

@@ -1,4 +1,4 @@
--- `layout::bits_of` meets its contract. Assumes nothing.
+-- `layout::bits_of` meets its contract.
 use native.Mathlib.Omega.{arith}
 use Rattle.layout.proofs.Signed.{code-read, negative-of, natural-of, code-flip, code-back}
 use Rattle.layout.proofs.bits_of.Statement.{statement}

@@ -1,4 +1,4 @@
--- `layout::copy_in` meets its contract: what is copied and what is left to copy are together all. Assumes nothing.
+-- `layout::copy_in` meets its contract: what is copied and what is left to copy are together all.
 use mathlib.Core.Path.{_≡_, refl, sym, _∙_}
 use Prim.Native.Nat.{suc, _+_, _-_, _≤_, _<_}
 use native.Mathlib.Nat.{add-zero}

@@ -1,4 +1,4 @@
--- `layout::i32_at` meets its contract. Assumes nothing.
+-- `layout::i32_at` meets its contract.
 use mathlib.Core.Path.{_≡_, _∙_}
 use Prim.Native.Nat.{ℕ, _<_, _≤_}
 use native.Mathlib.Omega.{arith}

@@ -1,4 +1,4 @@
--- `layout::put_i64` meets its contract. Assumes nothing.
+-- `layout::put_i64` meets its contract.
 use mathlib.Core.Path.{_∙_}
 use borrow.Author.Needs.{needs}
 use Rattle.layout.proofs.Signed.{code-read}

@@ -1,4 +1,4 @@
--- `layout::put_le` meets its contract: what is written and what is left to write are together all. Assumes nothing.
+-- `layout::put_le` meets its contract: what is written and what is left to write are together all.
 use mathlib.Core.Path.{_≡_, refl, sym, _∙_}
 use Prim.Native.Nat.{suc, _+_, _-_, _≤_}
 use native.Mathlib.Omega.{arith}

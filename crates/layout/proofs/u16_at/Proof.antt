@@ -1,4 +1,4 @@
--- `layout::u16_at` meets its contract: a field is its bytes. Assumes nothing.
+-- `layout::u16_at` meets its contract: a field is its bytes.
 use Prim.Native.Nat.{_+_}
 use native.Mathlib.Omega.{arith}
 use borrow.Author.Needs.{needs}

@@ -1,4 +1,4 @@
--- `layout::u64_at` meets its contract: a field is its two halves. Assumes nothing.
+-- `layout::u64_at` meets its contract: a field is its two halves.
 use native.Mathlib.Omega.{arith}
 use borrow.Author.Needs.{needs}
 use Rattle.layout.proofs.Field.{field-add}

@@ -1,4 +1,4 @@
--- `layout::zeros` meets its contract. Assumes nothing.
+-- `layout::zeros` meets its contract.
 use mathlib.Core.Path.{_≡_, refl, sym, _∙_}
 use Prim.Native.Nat.{ℕ, _≤_, _-_}
 use native.Mathlib.Omega.{arith}

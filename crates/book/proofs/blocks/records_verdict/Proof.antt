@@ -1,4 +1,4 @@
--- `book::blocks::records_verdict` meets its contract. Assumes nothing.
+-- `book::blocks::records_verdict` meets its contract.
 use mathlib.Core.Path.{_≡_, sym, _∙_}
 use Prim.Native.Nat.{ℕ, _≤_, _-_}
 use native.Mathlib.Nat.{sub-zero}
@@ -22,21 +22,32 @@ loop-holds : tie.Need-loop-holds Inv-loop μ-loop
 unfolding recordsVerdict
 loop-holds c = (omega arith, rw (sub-zero, c .record-count .ensures .0))
 
+-- a turn: the record's verdict, in the contract's terms
+module _ (c : tie.After-is-accepted Inv-loop μ-loop) where
+  abbrev inside : tie.In-loop Inv-loop μ-loop
+  inside = let f = c .before .before in f .before .before
+
+  judged : let l = inside .before in
+      let a = l .before .before .before .args in
+      c .before .record-verdict .result ≡ bytesVerdict (a .curves) (recordIn (a .b .now) (l .loop .i)) (a .k)
+  judged =
+      let f = c .before .before in
+      rw (f .fields-of .ensures, f .before .record-in .ensures .0) at (c .before .record-verdict .ensures)
+
 returns : tie.Need-returns Inv-loop μ-loop
 returns c =
-    let at-loop = c .before .before .before .before .before .before in
-    let e = rw (c .before .before .before .fields-of .ensures, c .before .before .before .before .record-in .ensures .0) at (c .before .before .record-verdict .ensures) in
+    let turn = inside (c .before) in
+    let l = turn .before .loop in
+    let e = judged (c .before) in
     let stop = rw e at (sym (c .before .is-accepted .ensures) ∙ not-true _ (c .if1 .taken)) in
-    e ∙ sym (at-loop .loop .inv .1 ∙ first-stopped _ (at-loop .loop .i) _ (c .before .before .before .before .before .loop-test .taken) stop)
+    e ∙ sym (l .inv .1 ∙ first-stopped _ (l .i) _ (turn .loop-test .taken) stop)
 
 loop-again : tie.Need-loop-again Inv-loop μ-loop
 loop-again c =
-    let at-loop = c .before .before .before .before .before .before in
-    let e = rw (c .before .before .before .fields-of .ensures, c .before .before .before .before .record-in .ensures .0) at (c .before .before .record-verdict .ensures) in
-    let pass = rw e at (sym (c .before .is-accepted .ensures) ∙ not-false _ (c .if1 .left)) in (
-      omega arith,
-      at-loop .loop .inv .1 ∙ first-passed _ (at-loop .loop .i) _ (c .before .before .before .before .before .loop-test .taken) pass,
-    )
+    let turn = inside (c .before) in
+    let l = turn .before .loop in
+    let pass = rw (judged (c .before)) at (sym (c .before .is-accepted .ensures) ∙ not-false _ (c .if1 .left)) in
+    (omega arith, l .inv .1 ∙ first-passed _ (l .i) _ (turn .loop-test .taken) pass)
 
 returns-2 : tie.Need-returns-2 Inv-loop μ-loop
 returns-2 c = sym (c .before .loop .inv .1 ∙ first-end _ _ _ (c .loop-test .left))

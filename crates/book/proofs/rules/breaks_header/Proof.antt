@@ -1,4 +1,4 @@
--- `book::rules::breaks_header` meets its contract. Assumes nothing.
+-- `book::rules::breaks_header` meets its contract.
 use borrow.Author.Needs.{needs}
 use Rattle.book.specs.Rules.{breaksHeader}
 use Rattle.book.proofs.rules.breaks_header.Statement.{statement}

@@ -1,4 +1,4 @@
--- `book::rules::breaks_length` meets its contract. Assumes nothing.
+-- `book::rules::breaks_length` meets its contract.
 use mathlib.Core.Path.{refl}
 use Rattle.book.specs.Rules.{breaksLength}
 use Rattle.book.proofs.rules.breaks_length.Statement.{statement}

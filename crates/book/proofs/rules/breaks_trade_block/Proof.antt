@@ -1,4 +1,4 @@
--- `book::rules::breaks_trade_block` meets its contract. Assumes nothing.
+-- `book::rules::breaks_trade_block` meets its contract.
 use mathlib.Core.Path.{sym, _∙_}
 use native.Mathlib.Omega.{arith}
 use borrow.Author.Needs.{needs}
@@ -26,10 +26,11 @@ zeros-requires c κs = let f = few (c .before) in (omega arith, omega arith)
 returns-2 : tie.Need-returns-2
 unfolding breaksTradeBlock
 returns-2 c =
+    let fits = c .before .before .before in
     rw (
-      ← c .before .before .before .before .record-count .ensures .0,
-      ← c .before .before .before .count-fits .ensures,
-      not-false (c .before .before .before .count-fits .result) (c .before .before .if1 .left),
+      ← fits .before .record-count .ensures .0,
+      ← fits .count-fits .ensures,
+      not-false (fits .count-fits .result) (c .before .before .if1 .left),
       c .zeros .ensures,
       c .before .record-place .ensures,
     )

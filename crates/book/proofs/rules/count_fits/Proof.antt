@@ -1,4 +1,4 @@
--- `book::rules::count_fits` meets its contract. Assumes nothing.
+-- `book::rules::count_fits` meets its contract.
 use mathlib.Core.Path.{refl}
 use Rattle.book.specs.Rules.{countFits}
 use Rattle.book.proofs.rules.count_fits.Statement.{statement}

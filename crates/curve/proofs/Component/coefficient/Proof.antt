@@ -1,4 +1,4 @@
--- `curve::Component::coefficient` meets its contract. Assumes nothing.
+-- `curve::Component::coefficient` meets its contract.
 use borrow.Author.Needs.{needs}
 use native.Mathlib.Omega.{arith}
 use mathlib.Core.Path.{sym}
@@ -10,17 +10,8 @@ use Rattle.curve.proofs.Component.coefficient.Tie as tie
 returns : tie.Need-returns
 returns c = sym (coefficient-none _ _ (c .if1 .taken))
 
-cast-m : tie.Need-cast-m
-cast-m c = search needs
-
-cast-result : tie.Need-cast-result
-cast-result c = search needs
-
 sub-result : tie.Need-sub-result
 sub-result c = let h = c .before .before .before .pre in rw (code-step _ _ h) (fits _ (omega (arith, step-fits _ _ h)))
-
-cast-result-2 : tie.Need-cast-result-2
-cast-result-2 c = search needs
 
 mul-result : tie.Need-mul-result
 mul-result c = let h = c .before .before .before .before .pre in rw (code-scaled _ _ h) (fits _ (omega (arith, scaled-fits _ _ h)))
@@ -38,4 +29,4 @@ returns-2 c =
 pub coefficient-spec : {M : Type 1} → statement M
 coefficient-spec =
     tie.close
-    (tie.spec returns cast-m cast-result sub-result cast-result-2 mul-result div-result returns-2)
+    (tie.spec returns (λ c. search needs) (λ c. search needs) sub-result (λ c. search needs) mul-result div-result returns-2)

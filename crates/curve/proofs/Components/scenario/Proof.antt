@@ -1,4 +1,4 @@
--- `curve::Components::scenario` meets its contract. Assumes nothing.
+-- `curve::Components::scenario` meets its contract.
 use borrow.Author.Needs.{needs}
 use native.Mathlib.Omega.{arith}
 use mathlib.Core.Path.{_≡_, sym}
@@ -9,12 +9,6 @@ use Rattle.curve.proofs.Coefficients.{coefficient-fits}
 use Rattle.curve.proofs.Scenarios.{fast, slow, slow-some, slow-most, first-in, second-in, third-in, scenario-entry}
 use Rattle.curve.proofs.Components.scenario.Statement.{statement}
 use Rattle.curve.proofs.Components.scenario.Tie as tie
-
-coefficient-count-requires : tie.Need-coefficient-count-requires
-coefficient-count-requires c κs = search needs
-
-coefficient-count-requires-2 : tie.Need-coefficient-count-requires-2
-coefficient-count-requires-2 c κs = search needs
 
 mul-slow : tie.Need-mul-slow
 mul-slow c =
@@ -27,12 +21,6 @@ div-high c =
 rem-rest : tie.Need-rem-rest
 rem-rest c =
     rw (c .coefficient-count2 .ensures, c .before .coefficient-count .ensures) (slow-some (c .before .before .before .before .before .args .self))
-
-div-middle : tie.Need-div-middle
-div-middle c = search needs
-
-rem-low : tie.Need-rem-low
-rem-low c = search needs
 
 coefficient-requires : tie.Need-coefficient-requires
 coefficient-requires c κs =
@@ -69,13 +57,13 @@ pub scenario-spec : {M : Type 1} → statement M
 scenario-spec =
     tie.close
     (tie.spec
-    coefficient-count-requires
-    coefficient-count-requires-2
+    (λ c κs. search needs)
+    (λ c κs. search needs)
     mul-slow
     div-high
     rem-rest
-    div-middle
-    rem-low
+    (λ c. search needs)
+    (λ c. search needs)
     coefficient-requires
     coefficient-requires-2
     coefficient-requires-3

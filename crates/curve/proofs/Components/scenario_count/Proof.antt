@@ -1,22 +1,13 @@
--- `curve::Components::scenario_count` meets its contract. Assumes nothing.
+-- `curve::Components::scenario_count` meets its contract.
 use borrow.Author.Needs.{needs}
 use native.Mathlib.Omega.{arith}
 use Rattle.curve.proofs.Scenarios.{two-most, scenarios-most}
 use Rattle.curve.proofs.Components.scenario_count.Statement.{statement}
 use Rattle.curve.proofs.Components.scenario_count.Tie as tie
 
-coefficient-count-requires : tie.Need-coefficient-count-requires
-coefficient-count-requires c κs = search needs
-
-coefficient-count-requires-2 : tie.Need-coefficient-count-requires-2
-coefficient-count-requires-2 c κs = search needs
-
 mul-result : tie.Need-mul-result
 mul-result c =
     rw (c .before .coefficient-count .ensures, c .coefficient-count2 .ensures) (record { fits = omega (arith, two-most _ (c .before .before .before .before .before .pre)) })
-
-coefficient-count-requires-3 : tie.Need-coefficient-count-requires-3
-coefficient-count-requires-3 c κs = search needs
 
 mul-result-2 : tie.Need-mul-result-2
 mul-result-2 c =
@@ -30,9 +21,9 @@ pub scenario-count-spec : {M : Type 1} → statement M
 scenario-count-spec =
     tie.close
     (tie.spec
-    coefficient-count-requires
-    coefficient-count-requires-2
+    (λ c κs. search needs)
+    (λ c κs. search needs)
     mul-result
-    coefficient-count-requires-3
+    (λ c κs. search needs)
     mul-result-2
     returns)

@@ -1,4 +1,4 @@
--- `curve::Curve::rate_at` meets its contract. Assumes nothing.
+-- `curve::Curve::rate_at` meets its contract.
 use borrow.Author.Needs.{needs}
 use mathlib.Core.Path.{sym, _∙_}
 use Prim.Native.Nat.{_-_}
@@ -12,20 +12,11 @@ Inv-loop t self a₀ n i₀ a i = Passed self t a i
 abbrev μ-loop : tie.MeasureT-loop
 μ-loop t self a₀ n i₀ a i = n - i
 
-element-copy-out-a : tie.Need-element-copy-out-a Inv-loop μ-loop
-element-copy-out-a c = search needs
-
 returns : tie.Need-returns Inv-loop μ-loop
 returns c = sym (before-all _ _ (c .before .before .before .pre) (c .if1 .taken))
 
 loop-holds : tie.Need-loop-holds Inv-loop μ-loop
 loop-holds c = passed-first _ _ (c .before .before .before .pre) (c .if1 .left)
-
-mul-b : tie.Need-mul-b Inv-loop μ-loop
-mul-b c = search needs
-
-element-copy-out-b : tie.Need-element-copy-out-b Inv-loop μ-loop
-element-copy-out-b c = search needs
 
 interpolate-requires : tie.Need-interpolate-requires Inv-loop μ-loop
 interpolate-requires c κs =
@@ -37,12 +28,6 @@ returns-2 c =
     let l = c .before .before .before .before .before in
     c .interpolate .ensures
     ∙ sym (passed-interpolated _ _ (l .before .before .before .before .pre) _ _ (l .loop .inv) (search needs) (c .before .if2 .taken))
-
-add-i : tie.Need-add-i Inv-loop μ-loop
-add-i c = search needs
-
-loop-less : tie.Need-loop-less Inv-loop μ-loop
-loop-less c = search needs
 
 loop-again : tie.Need-loop-again Inv-loop μ-loop
 loop-again c =
@@ -60,14 +45,14 @@ rate-at-spec =
     (tie.spec
     Inv-loop
     μ-loop
-    element-copy-out-a
+    (λ c. search needs)
     returns
     loop-holds
-    mul-b
-    element-copy-out-b
+    (λ c. search needs)
+    (λ c. search needs)
     interpolate-requires
     returns-2
-    add-i
-    loop-less
+    (λ c. search needs)
+    (λ c. search needs)
     loop-again
     returns-3)

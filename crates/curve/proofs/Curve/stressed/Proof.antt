@@ -1,4 +1,4 @@
--- `curve::Curve::stressed` meets its contract. Assumes nothing.
+-- `curve::Curve::stressed` meets its contract.
 use borrow.Author.Needs.{needs}
 use Prim.Native.Nat.{_-_}
 use Rattle.curve.proofs.Stress.{Partly, partly-none, partly-limits, partly-next, partly-all}
@@ -14,28 +14,10 @@ abbrev μ-loop : tie.MeasureT-loop
 loop-holds : tie.Need-loop-holds Inv-loop μ-loop
 loop-holds c = partly-none _ _
 
-mul-a : tie.Need-mul-a Inv-loop μ-loop
-mul-a c = search needs
-
-element-copy-out-a : tie.Need-element-copy-out-a Inv-loop μ-loop
-element-copy-out-a c = search needs
-
 stressed-requires : tie.Need-stressed-requires Inv-loop μ-loop
 stressed-requires c κs =
     let l = c .before .before in
     (partly-limits _ _ (l .before .pre .0) _ _ (l .loop .inv) (search needs), l .before .pre .1)
-
-mul-b : tie.Need-mul-b Inv-loop μ-loop
-mul-b c = search needs
-
-element-set-from-b : tie.Need-element-set-from-b Inv-loop μ-loop
-element-set-from-b c = search needs
-
-add-i : tie.Need-add-i Inv-loop μ-loop
-add-i c = search needs
-
-loop-less : tie.Need-loop-less Inv-loop μ-loop
-loop-less c = search needs
 
 loop-again : tie.Need-loop-again Inv-loop μ-loop
 loop-again c =
@@ -54,12 +36,12 @@ stressed-spec =
     Inv-loop
     μ-loop
     loop-holds
-    mul-a
-    element-copy-out-a
+    (λ c. search needs)
+    (λ c. search needs)
     stressed-requires
-    mul-b
-    element-set-from-b
-    add-i
-    loop-less
+    (λ c. search needs)
+    (λ c. search needs)
+    (λ c. search needs)
+    (λ c. search needs)
     loop-again
     returns)

@@ -1,4 +1,4 @@
--- `curve::Node::stressed` meets its contract. Assumes nothing.
+-- `curve::Node::stressed` meets its contract.
 use borrow.Author.Needs.{needs}
 use native.Mathlib.Omega.{arith}
 use mathlib.Core.Path.{_≡_, ap, _∙_}
@@ -8,12 +8,6 @@ use Rattle.curve.specs.Stress.{shifted, clamped}
 use Rattle.curve.proofs.Shifting.{shifted-size}
 use Rattle.curve.proofs.Node.stressed.Statement.{statement}
 use Rattle.curve.proofs.Node.stressed.Tie as tie
-
-shift-requires : tie.Need-shift-requires
-shift-requires c κs = search needs
-
-clamp-requires : tie.Need-clamp-requires
-clamp-requires c κs = search needs
 
 returns : tie.Need-returns
 returns c =
@@ -25,4 +19,4 @@ returns c =
     ap (λ (r : ℕ). record { day = n .day; rate = r; first = n .first; second = n .second; third = n .third }) e
 
 pub stressed-spec : {M : Type 1} → statement M
-stressed-spec = tie.close (tie.spec shift-requires clamp-requires returns)
+stressed-spec = tie.close (tie.spec (λ c κs. search needs) (λ c κs. search needs) returns)

@@ -1,4 +1,4 @@
--- `curve_block::rules::breaks_curve` meets its contract. Assumes nothing.
+-- `curve_block::rules::breaks_curve` meets its contract.
 use mathlib.Core.Path.{sym, _∙_}
 use borrow.Author.Tests.{not-true, not-false}
 use borrow.Author.Needs.{needs}

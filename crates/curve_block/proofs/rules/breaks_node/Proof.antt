@@ -1,4 +1,4 @@
--- `curve_block::rules::breaks_node` meets its contract. Assumes nothing.
+-- `curve_block::rules::breaks_node` meets its contract.
 use mathlib.Core.Path.{_≡_, refl, sym, _∙_}
 use mathlib.Core.Bool.{Bool, not}
 use mathlib.Core.List.{List}

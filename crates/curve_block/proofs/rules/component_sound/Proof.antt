@@ -1,4 +1,4 @@
--- `curve_block::rules::component_sound` meets its contract. Assumes nothing.
+-- `curve_block::rules::component_sound` meets its contract.
 use Rattle.laws.proofs.Signed.{back}
 use Rattle.curve_block.specs.Rules.{componentSound}
 use Rattle.curve_block.proofs.rules.component_sound.Statement.{statement}

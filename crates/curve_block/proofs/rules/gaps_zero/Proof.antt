@@ -1,4 +1,4 @@
--- `curve_block::rules::gaps_zero` meets its contract. Assumes nothing.
+-- `curve_block::rules::gaps_zero` meets its contract.
 use mathlib.Core.Path.{_≡_, sym, _∙_}
 use Prim.Native.Nat.{_+_, _≤_, _-_}
 use native.Mathlib.Nat.{sub-zero}

@@ -1,4 +1,4 @@
--- `curve_block::rules::node_sound` meets its contract. Assumes nothing.
+-- `curve_block::rules::node_sound` meets its contract.
 use mathlib.Core.Path.{_≡_}
 use borrow.Author.Needs.{needs}
 use mir.Syntax.{w64}

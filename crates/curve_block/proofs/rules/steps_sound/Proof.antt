@@ -1,4 +1,4 @@
--- `curve_block::rules::steps_sound` meets its contract. Assumes nothing.
+-- `curve_block::rules::steps_sound` meets its contract.
 use mathlib.Core.Path.{refl}
 use Rattle.curve_block.specs.Rules.{stepsSound}
 use Rattle.curve_block.proofs.rules.steps_sound.Statement.{statement}

@@ -1,4 +1,4 @@
--- `edit::refusals::breaks_book_space` meets its contract. Assumes nothing.
+-- `edit::refusals::breaks_book_space` meets its contract.
 use mathlib.Core.Path.{refl}
 use Rattle.edit.specs.Refusals.{breaksBookSpace}
 use borrow.Author.Needs.{needs}

@@ -1,4 +1,4 @@
--- `edit::refusals::breaks_position` meets its contract. Assumes nothing.
+-- `edit::refusals::breaks_position` meets its contract.
 use Rattle.edit.specs.Refusals.{breaksPosition}
 use borrow.Author.Needs.{needs}
 use Rattle.edit.proofs.refusals.breaks_position.Statement.{statement}

@@ -1,40 +1,40 @@
--- `edit::refusals::position_verdict` meets its contract. Assumes nothing.
+-- `edit::refusals::position_verdict` meets its contract.
 use mathlib.Core.Path.{sym, _∙_}
 use native.Mathlib.Omega.{arith}
+use borrow.Author.Needs.{needs}
+use borrow.Author.Tests.{not-true, not-false}
+use Rattle.ground.specs.declared.Ground.the-variants.{Position}
+use Rattle.ground.proofs.Verdicts.{is-accepted, stops, also}
 use Rattle.book.proofs.Accepted.{sound}
 use Rattle.edit.specs.Refusals.{positionVerdict}
-use borrow.Author.Needs.{needs}
 use Rattle.edit.proofs.refusals.position_verdict.Statement.{statement}
 use Rattle.edit.proofs.refusals.position_verdict.Tie as tie
 
-enum-told : tie.Need-enum-told
-enum-told c = search needs
+returns : tie.Need-returns
+unfolding positionVerdict
+returns c =
+    let e = c .before .before .check .ensures in
+    e ∙ sym (stops _ _ (rw e at (sym (c .before .is-accepted .ensures) ∙ not-true _ (c .if1 .taken))))
 
 breaks-position-requires : tie.Need-breaks-position-requires
 breaks-position-requires c κs =
-    let b = sound _ _ (sym (c .before .before .check .ensures) ∙ c .enum-told .given .1) in
+    let accepted = is-accepted _ (sym (c .before .is-accepted .ensures) ∙ not-false _ (c .if1 .left)) in
+    let b = sound _ _ (sym (c .before .before .check .ensures) ∙ accepted) in
     omega arith
-
-returns : tie.Need-returns
-unfolding positionVerdict
-returns c = rw (← c .before .before .before .before .check .ensures, c .before .before .enum-told .given .1, ← c .before .breaks-position .ensures, c .if1 .taken)
 
 returns-2 : tie.Need-returns-2
 unfolding positionVerdict
-returns-2 c = rw (← c .before .before .before .check .ensures, c .before .v .given .1)
-
-returns-3 : tie.Need-returns-3
-unfolding positionVerdict
-returns-3 c = rw (← c .before .before .before .before .check .ensures, c .before .before .enum-told .given .1, ← c .before .breaks-position .ensures, c .if1 .left)
+returns-2 c =
+    let checked = c .before .before .before .before in
+    also Position 0 (checked .check .ensures) (c .before .breaks-position .ensures) (c .or-if .ensures)
 
 pub position-verdict-spec : {M : Type 1} → statement M
 position-verdict-spec =
     tie.close
     (tie.spec
     (λ c κs. search needs)
-    (λ c. search needs)
-    enum-told
-    breaks-position-requires
+    (λ c κs. search needs)
     returns
-    returns-2
-    returns-3)
+    breaks-position-requires
+    (λ c κs. search needs)
+    returns-2)

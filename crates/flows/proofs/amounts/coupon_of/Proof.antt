@@ -1,4 +1,4 @@
--- `flows::amounts::coupon_of` meets its contract. Assumes nothing.
+-- `flows::amounts::coupon_of` meets its contract.
 use native.Mathlib.Omega.{arith}
 use borrow.Author.Needs.{needs}
 use Rattle.flows.specs.Amounts.{couponOf}

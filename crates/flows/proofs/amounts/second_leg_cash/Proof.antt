@@ -1,4 +1,4 @@
--- `flows::amounts::second_leg_cash` meets its contract. Assumes nothing.
+-- `flows::amounts::second_leg_cash` meets its contract.
 use Prim.Native.Nat.{_*_, _≤_}
 use native.Mathlib.Omega.{arith}
 use borrow.Author.Needs.{needs}

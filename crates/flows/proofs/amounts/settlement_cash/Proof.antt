@@ -1,4 +1,4 @@
--- `flows::amounts::settlement_cash` meets its contract. Assumes nothing.
+-- `flows::amounts::settlement_cash` meets its contract.
 use borrow.Author.Needs.{needs}
 use Rattle.flows.specs.Amounts.{settlementCash}
 use Rattle.flows.proofs.amounts.settlement_cash.Statement.{statement}

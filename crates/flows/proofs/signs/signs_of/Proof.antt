@@ -1,4 +1,4 @@
--- `flows::signs::signs_of` meets its contract: the table's rule is tested over the whole table once. Assumes nothing.
+-- `flows::signs::signs_of` meets its contract: the table's rule is tested over the whole table once.
 use mathlib.Core.Path.{_≡_, _∙_}
 use Prim.Native.Nat.{_+_, _-_, _*_, _/_, _%_}
 use native.Mathlib.Nat.{div-eq-of-lt-le}

@@ -1,4 +1,4 @@
--- `flows::trade_legs::cap` meets its contract. Assumes nothing.
+-- `flows::trade_legs::cap` meets its contract.
 use borrow.Author.Needs.{needs}
 use mathlib.Core.Path.{sym}
 use Rattle.decimal.specs.Product.{unit}

@@ -1,4 +1,4 @@
--- `flows::trade_legs::capped_legs` meets its contract. Assumes nothing.
+-- `flows::trade_legs::capped_legs` meets its contract.
 use mathlib.Core.Path.{subst, _∙_}
 use native.Mathlib.Omega.{arith}
 use Rattle.flows.specs.Limits.{TradeLimits}

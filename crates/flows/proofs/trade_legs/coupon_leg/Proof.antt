@@ -1,4 +1,4 @@
--- `flows::trade_legs::coupon_leg` meets its contract. Assumes nothing.
+-- `flows::trade_legs::coupon_leg` meets its contract.
 use native.Mathlib.Omega.{arith}
 use borrow.Author.Needs.{needs}
 use Rattle.decimal.specs.Product.{unit}
@@ -10,7 +10,9 @@ unfolding unit
 add-cap c = omega (arith, c .before .before .coupon-of .ensures .1, c .before .before .before .pre .nominal)
 
 returns : tie.Need-returns
-returns c = rw (c .bond-leg .ensures, c .before .cap2 .ensures, c .before .before .before .cap .ensures, c .before .before .before .before .coupon-of .ensures .0)
+returns c =
+    let cap = c .before .before .before in
+    rw (c .bond-leg .ensures, c .before .cap2 .ensures, cap .cap .ensures, cap .before .coupon-of .ensures .0)
 
 pub coupon-leg-spec : {M : Type 1} → statement M
 coupon-leg-spec = tie.close (tie.spec (λ c κs. search needs) (λ c κs. search needs) add-cap (λ c κs. search needs) (λ c κs. search needs) returns)

@@ -1,4 +1,4 @@
--- `flows::trade_legs::indexed_leg` meets its contract. Assumes nothing.
+-- `flows::trade_legs::indexed_leg` meets its contract.
 use native.Mathlib.Omega.{arith}
 use borrow.Author.Needs.{needs}
 use Rattle.decimal.specs.Product.{unit}
@@ -10,7 +10,9 @@ unfolding unit
 add-indexed-payment c = omega (arith, c .before .before .coupon-of .ensures .1, c .before .before .before .before .pre .bond .nominal)
 
 returns : tie.Need-returns
-returns c = rw (c .bond-leg .ensures, c .before .indexed-payment2 .ensures, c .before .before .before .indexed-payment .ensures, c .before .before .before .before .coupon-of .ensures .0)
+returns c =
+    let indexed-payment = c .before .before .before in
+    rw (c .bond-leg .ensures, c .before .indexed-payment2 .ensures, indexed-payment .indexed-payment .ensures, indexed-payment .before .coupon-of .ensures .0)
 
 pub indexed-leg-spec : {M : Type 1} → statement M
 indexed-leg-spec = tie.close (tie.spec (λ c κs. search needs) (λ c κs. search needs) add-indexed-payment (λ c κs. search needs) (λ c κs. search needs) returns)

@@ -1,4 +1,4 @@
--- `flows::trade_legs::indexed_payment` meets its contract. Assumes nothing.
+-- `flows::trade_legs::indexed_payment` meets its contract.
 use mathlib.Core.Path.{sym, _∙_}
 use Rattle.decimal.specs.Product.{unit}
 use Rattle.flows.specs.Amounts.{indexedOf}

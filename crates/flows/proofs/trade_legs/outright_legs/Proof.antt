@@ -1,4 +1,4 @@
--- `flows::trade_legs::outright_legs` meets its contract. Assumes nothing.
+-- `flows::trade_legs::outright_legs` meets its contract.
 use native.Mathlib.Omega.{arith}
 use Rattle.laws.proofs.Signed.{back}
 use borrow.Author.Needs.{needs}

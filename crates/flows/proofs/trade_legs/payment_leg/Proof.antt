@@ -1,4 +1,4 @@
--- `flows::trade_legs::payment_leg` meets its contract. Assumes nothing.
+-- `flows::trade_legs::payment_leg` meets its contract.
 use mathlib.Core.Path.{_∙_}
 use Rattle.laws.proofs.Signed.{back}
 use borrow.Author.Needs.{needs}

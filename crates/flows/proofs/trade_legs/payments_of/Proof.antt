@@ -1,4 +1,4 @@
--- `flows::trade_legs::payments_of` meets its contract. Assumes nothing.
+-- `flows::trade_legs::payments_of` meets its contract.
 use mathlib.Core.Path.{sym, subst, _∙_}
 use Rattle.flows.specs.Limits.{SecurityLimits}
 use Rattle.flows.proofs.Capped.{capped-none}

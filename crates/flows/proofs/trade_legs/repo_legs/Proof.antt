@@ -1,4 +1,4 @@
--- `flows::trade_legs::repo_legs` meets its contract. Assumes nothing.
+-- `flows::trade_legs::repo_legs` meets its contract.
 use Rattle.laws.proofs.Signed.{back}
 use borrow.Author.Needs.{needs}
 use Rattle.flows.specs.Legs.{repoLegs}

@@ -1,4 +1,4 @@
--- `flows::walk::breaks_flow_limit` meets its contract. Assumes nothing.
+-- `flows::walk::breaks_flow_limit` meets its contract.
 use Rattle.flows.specs.Legs.{legsOf, flowsOf, breaksFlowLimit}
 use Rattle.flows.proofs.Above.{any-capped, any-legs}
 use borrow.Author.Needs.{needs}

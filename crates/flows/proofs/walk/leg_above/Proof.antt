@@ -1,4 +1,4 @@
--- `flows::walk::leg_above` meets its contract. Assumes nothing.
+-- `flows::walk::leg_above` meets its contract.
 use mathlib.Core.Path.{sym}
 use Rattle.decimal.specs.Product.{unit}
 use Rattle.flows.proofs.Above.{any-leg}

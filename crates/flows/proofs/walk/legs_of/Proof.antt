@@ -1,4 +1,4 @@
--- `flows::walk::legs_of` meets its contract. Assumes nothing.
+-- `flows::walk::legs_of` meets its contract.
 use mathlib.Core.Path.{ap, _∙_}
 use Rattle.flows.specs.Legs.{legsOf, legsFlows, flowsOf, breaksFlowLimit}
 use Rattle.flows.proofs.Above.{legs-capped}

@@ -1,4 +1,4 @@
--- `layout::check::breaks_check` meets its contract. Assumes nothing.
+-- `layout::check::breaks_check` meets its contract.
 use borrow.Author.Needs.{needs}
 use Rattle.layout.specs.Check.{breaksCheck}
 use Rattle.layout.proofs.check.breaks_check.Statement.{statement}

@@ -1,4 +1,4 @@
--- `layout::check::breaks_place` meets its contract. Assumes nothing.
+-- `layout::check::breaks_place` meets its contract.
 use borrow.Author.Needs.{needs}
 use Rattle.layout.specs.Check.{breaksPlace}
 use Rattle.layout.proofs.check.breaks_place.Statement.{statement}

@@ -1,4 +1,4 @@
--- `layout::check::check_of` meets its contract. The loop's invariant: the sum is that of the words passed. Assumes nothing.
+-- `layout::check::check_of` meets its contract. The loop's invariant: the sum is that of the words passed.
 use mathlib.Core.Path.{_≡_, refl, ap, _∙_}
 use Prim.Native.Nat.{_≤_, _-_}
 use native.Mathlib.Numerals.{add-one}

@@ -1,4 +1,4 @@
--- `layout::check::seal` meets its contract. Assumes nothing.
+-- `layout::check::seal` meets its contract.
 use borrow.Author.Needs.{needs}
 use Rattle.layout.specs.Check.{sealed}
 use Rattle.layout.proofs.check.seal.Statement.{statement}

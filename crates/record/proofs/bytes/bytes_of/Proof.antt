@@ -1,4 +1,4 @@
--- `record::bytes::bytes_of` meets its contract. Assumes nothing.
+-- `record::bytes::bytes_of` meets its contract.
 use Rattle.record.proofs.Written.{record-written}
 use borrow.Author.Needs.{needs}
 use Rattle.record.proofs.bytes.bytes_of.Statement.{statement}

@@ -1,4 +1,4 @@
--- `record::bytes::fields_of` meets its contract. Assumes nothing.
+-- `record::bytes::fields_of` meets its contract.
 use Rattle.record.specs.Bytes.{fieldsOf}
 use borrow.Author.Needs.{needs}
 use Rattle.record.proofs.bytes.fields_of.Statement.{statement}

@@ -1,4 +1,4 @@
--- `record::bytes::put_amounts` meets its contract. Assumes nothing.
+-- `record::bytes::put_amounts` meets its contract.
 use Rattle.record.proofs.Written.{amounts-written}
 use borrow.Author.Needs.{needs}
 use Rattle.record.proofs.bytes.put_amounts.Statement.{statement}

@@ -1,4 +1,4 @@
--- `record::bytes::put_days` meets its contract. Assumes nothing.
+-- `record::bytes::put_days` meets its contract.
 use Rattle.record.proofs.Written.{days-written}
 use borrow.Author.Needs.{needs}
 use Rattle.record.proofs.bytes.put_days.Statement.{statement}

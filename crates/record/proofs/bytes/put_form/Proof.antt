@@ -1,4 +1,4 @@
--- `record::bytes::put_form` meets its contract. Assumes nothing.
+-- `record::bytes::put_form` meets its contract.
 use Rattle.record.proofs.Written.{form-written}
 use borrow.Author.Needs.{needs}
 use Rattle.record.proofs.bytes.put_form.Statement.{statement}

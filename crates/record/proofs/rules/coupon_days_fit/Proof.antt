@@ -1,4 +1,4 @@
--- `record::rules::coupon_days_fit` meets its contract. Assumes nothing.
+-- `record::rules::coupon_days_fit` meets its contract.
 use mathlib.Core.Path.{_≡_, sym, _∙_}
 use mathlib.Core.Bool.{true, false, and-false}
 use Prim.Native.Nat.{_+_, _-_, _*_}
@@ -6,8 +6,9 @@ use native.Mathlib.Omega.{arith}
 use lib.Dec.{leb}
 use borrow.Author.Needs.{needs}
 use borrow.Author.Tests.{leb-true, leb-false, lt-leb, not-true, not-false}
-use Rattle.record.specs.Rules.{lastDay, countsFit}
-use Rattle.record.proofs.Limits.{counts}
+use Rattle.ground.specs.Limits.{lastDay}
+use Rattle.record.specs.Rules.{countsFit}
+use Rattle.record.proofs.Limits.{coupon-counts}
 use Rattle.record.proofs.rules.coupon_days_fit.Statement.{statement}
 use Rattle.record.proofs.rules.coupon_days_fit.Tie as tie
 
@@ -35,7 +36,7 @@ span-requires c κs = counted c
 add-in-reach : tie.Need-add-in-reach
 add-in-reach c =
     let a = c .before .before .before .before .before .args in
-    omega (arith, counts (a .period) (a .payments) (counted (c .before)) .span, leb-true (a .first) lastDay (near (c .before)))
+    omega (arith, coupon-counts (a .period) (a .payments) (counted (c .before)) .span, leb-true (a .first) lastDay (near (c .before)))
 
 returns-3 : tie.Need-returns-3
 returns-3 c = rw (counted (c .before .before), c .in-reach2 .ensures, c .before .span .ensures)

@@ -1,4 +1,4 @@
--- `record::rules::has_settled` meets its contract. Assumes nothing.
+-- `record::rules::has_settled` meets its contract.
 use borrow.Author.Needs.{needs}
 use Rattle.record.proofs.rules.has_settled.Statement.{statement}
 use Rattle.record.proofs.rules.has_settled.Tie as tie

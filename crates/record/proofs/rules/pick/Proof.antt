@@ -1,4 +1,4 @@
--- `record::rules::pick` meets its contract. Assumes nothing.
+-- `record::rules::pick` meets its contract.
 use Rattle.laws.proofs.Bools.{choice}
 use Rattle.record.proofs.rules.pick.Statement.{statement}
 use Rattle.record.proofs.rules.pick.Tie as tie

@@ -1,0 +1,13 @@
+-- `ground::Verdict::or_if` meets its contract.
+use borrow.Author.Needs.{needs}
+use Rattle.ground.proofs.Verdict.or_if.Statement.{statement}
+use Rattle.ground.proofs.Verdict.or_if.Tie as tie
+
+returns : tie.Need-returns
+returns c = rw (c .before .enum-told .given .1, c .if1 .taken)
+
+returns-2 : tie.Need-returns-2
+returns-2 c = rw (c .before .self .given .1)
+
+pub or-if-spec : {M : Type 1} → statement M
+or-if-spec = tie.close (tie.spec (λ c. search needs) (λ c. search needs) returns returns-2 (λ c. search needs))
