@@ -18,8 +18,8 @@ use Rattle.flows.proofs.Bounded.{AcceptedRecord, accepted, flows-few}
 use Rattle.book.specs.Parts.{curvesOf, curveCount, tradeCount, recordAt}
 use Rattle.book.proofs.Accepted.{Sound, accepted-record, trade-count-most}
 use Rattle.margin.specs.Exposure.{flowsOn}
-use Rattle.margin.specs.Ladder.{scheduleFlows, ladderFlows, LadderLimits}
-use Rattle.margin.proofs.LadderFlows.{length-schedule}
+use Rattle.ladder.specs.Ladder.{scheduleFlows, ladderFlows, LadderLimits}
+use Rattle.ladder.proofs.LadderFlows.{length-schedule}
 use Rattle.exposure.specs.Growth.{InLimits, Grown}
 use Rattle.exposure.specs.Exposures.{tradeAt, flowsUpTo, flowsIn}
 use Rattle.exposure.proofs.Gathered.{on-append}

@@ -15,7 +15,7 @@ use Rattle.book.specs.Parts.{curvesOf, tradeCount, recordAt}
 use Rattle.book.proofs.Accepted.{Sound, trade-count-most}
 use Rattle.laws.proofs.All.{all-append}
 use Rattle.margin.specs.Exposure.{flowsOn}
-use Rattle.margin.specs.Totals.{FlowLimits, AllFlowLimits}
+use Rattle.ladder.specs.Totals.{FlowLimits, AllFlowLimits}
 use Rattle.margin.proofs.Accounts.{FlowsFit}
 use Rattle.exposure.specs.Exposures.{tradeAt, flowsUpTo, flowsIn, exposureAt}
 use Rattle.exposure.proofs.Collected.{more-flows, no-flows, on-few, few-flows, accepted-at}

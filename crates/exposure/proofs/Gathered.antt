@@ -23,7 +23,7 @@ use Rattle.flows.specs.Legs.{flowOf, legFlows, anyAbove}
 use Rattle.flows.specs.Limits.{LegLimits}
 use Rattle.flows.proofs.Above.{any-leg}
 use Rattle.margin.specs.Exposure.{flowsOn}
-use Rattle.margin.specs.Ladder.{payments, payment, scheduleFlows, ladderFlows, ScheduleLimits}
+use Rattle.ladder.specs.Ladder.{payments, payment, scheduleFlows, ladderFlows, ScheduleLimits}
 use Rattle.exposure.specs.Schedules.{scheduleOf, standsOn, withLeg, countWithLeg}
 
 -- ---- the flows of a leg that stand on a curve: all of them or none

@@ -14,7 +14,7 @@ use Rattle.flows.specs.declared.Legs.{Legs}
 use Rattle.flows.specs.Legs.{legFlows, legsFlows, anyAbove}
 use Rattle.flows.proofs.Above.{any-legs}
 use Rattle.margin.specs.Exposure.{flowsOn}
-use Rattle.margin.specs.Ladder.{ladderFlows}
+use Rattle.ladder.specs.Ladder.{ladderFlows}
 use Rattle.exposure.specs.Schedules.{scheduleOf, standsOn, withLeg, countWithLeg}
 use Rattle.exposure.specs.Growth.{InLimits, Grown, LegsSound}
 use Rattle.exposure.proofs.Gathered.{on-append, amounts, push-flows, push-limits, push-few}

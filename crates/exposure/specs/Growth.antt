@@ -8,7 +8,7 @@ use Rattle.flows.specs.declared.Legs.{Legs}
 use Rattle.flows.specs.Legs.{legsFlows, anyAbove}
 use Rattle.flows.specs.Limits.{LegsLimits}
 use Rattle.margin.specs.Exposure.{flowsOn}
-use Rattle.margin.specs.Ladder.{ladderFlows, ScheduleLimits}
+use Rattle.ladder.specs.Ladder.{ladderFlows, ScheduleLimits}
 
 -- the first n schedules are in their limits
 abbrev pub InLimits : List ℕ → ℕ → Type 0

@@ -8,7 +8,7 @@ ghost use Rattle.flows.specs.Legs.{legsFlows};
 ghost use Rattle.ground.specs.declared.Verdict.the-variants.{Accepted};
 ghost use Rattle.book.specs.Verdict.{verdict};
 ghost use Rattle.margin.specs.Exposure.{flowsOn};
-ghost use Rattle.margin.specs.Ladder.{ladderFlows, LadderLimits};
+ghost use Rattle.ladder.specs.Ladder.{ladderFlows, LadderLimits};
 ghost use Rattle.exposure.specs.Exposures.{flowsIn};
 use flows::Leg;
 use flows::Legs;

@@ -6,7 +6,7 @@ use native.Mathlib.Omega.{arith}
 use lib.ListN.{length, getD, take, replicate}
 use lib.Seq.{getD-take, length-take-le}
 use Rattle.margin.specs.Exposure.{Exposure}
-use Rattle.margin.specs.Totals.{AllFlowLimits, mostFlows}
+use Rattle.ladder.specs.Totals.{AllFlowLimits, mostFlows}
 use Rattle.margin.specs.declared.CurveMargin.{CurveMargin}
 use Rattle.margin.specs.declared.CurrencyMargin.{CurrencyMargin}
 use Rattle.margin.specs.Margins.{curveMargin, currencyMargin, noCurve, assembled, marginOf, MarginLimits, PlacesLimits}

@@ -19,12 +19,12 @@ use Rattle.margin.specs.declared.Position.{Position}
 use Rattle.margin.specs.declared.losses.Loss.{Loss}
 use Rattle.margin.specs.Exposure.{Exposure}
 use Rattle.margin.specs.Losses.{valueOn, baseOf, valueAt, lossAt, worstAt}
-use Rattle.margin.specs.Totals.{mostFlows}
+use Rattle.ladder.specs.Totals.{mostFlows}
 use Rattle.margin.specs.Positions.{exposureOf, PositionLimits}
 use Rattle.margin.specs.Worst.{worseOf, lossOf, ScenarioLoss, worstOf}
 use Rattle.margin.specs.Choice.{Estimates, Least, slackOf, limitOf, WorstKept, sameRates}
 use Rattle.margin.proofs.Discarding.{kept-worst, same-stressed}
-use Rattle.margin.proofs.LadderFlows.{ladder-limits}
+use Rattle.ladder.proofs.LadderFlows.{ladder-limits}
 use Rattle.margin.proofs.Sizes.{value-size}
 
 not-less : (z : ℤ) → ltZ z z ≡ false

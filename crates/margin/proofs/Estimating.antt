@@ -16,12 +16,12 @@ use Rattle.netting.specs.Netting.{noNets, netted, flowReach, OnDays}
 use Rattle.netting.proofs.NettedValue.{netted-within}
 use Rattle.estimate.specs.Values.{ScenarioValues}
 use Rattle.margin.specs.declared.Position.{Position}
-use Rattle.margin.specs.Ladder.{ladderFlows}
-use Rattle.margin.specs.Totals.{AllFlowLimits}
+use Rattle.ladder.specs.Ladder.{ladderFlows}
+use Rattle.ladder.specs.Totals.{AllFlowLimits}
 use Rattle.margin.specs.Choice.{Estimates}
 use Rattle.margin.specs.Positions.{exposureOf, PositionLimits}
-use Rattle.margin.proofs.LadderFlows.{ladder-limits}
-use Rattle.margin.proofs.Netting.{reach-most}
+use Rattle.ladder.proofs.LadderFlows.{ladder-limits}
+use Rattle.ladder.proofs.Netting.{reach-most}
 
 dated : (fs : List Flow) → AllFlowLimits fs → OnDays fs
 dated [] h = tt

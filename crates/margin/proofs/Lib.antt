@@ -1,8 +1,4 @@
 pub mod Bounded
-pub mod Totals
-pub mod LadderFlows
-pub mod Folds
-pub mod DayFactors
 pub mod Sizes
 pub mod Stressing
 pub mod Currencies
@@ -10,5 +6,4 @@ pub mod Places
 pub mod Accounts
 pub mod Discarding
 pub mod Choosing
-pub mod Netting
 pub mod Estimating

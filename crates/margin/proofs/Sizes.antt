@@ -19,10 +19,10 @@ use Rattle.curve.proofs.Scenarios.{scenarios-some}
 use Rattle.margin.specs.Exposure.{Exposure}
 use Rattle.margin.specs.Losses.{valueOn, baseOf, valueAt, lossAt, worstAt}
 use Rattle.margin.specs.Margins.{curveMargin, MarginLimits}
-use Rattle.margin.specs.Totals.{AllFlowLimits, mostFlows}
+use Rattle.ladder.specs.Totals.{AllFlowLimits, mostFlows}
 use Rattle.netting.proofs.Sizes.{signed-size}
-use Rattle.margin.proofs.Folds.{sum-most}
-use Rattle.margin.proofs.Totals.{tolerance-size}
+use Rattle.ladder.proofs.Folds.{sum-most}
+use Rattle.ladder.proofs.Totals.{tolerance-size}
 
 -- ---- sums of flows
 

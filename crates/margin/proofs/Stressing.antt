@@ -15,18 +15,18 @@ use Rattle.curve.specs.Scenarios.{scenarioAt}
 use Rattle.curve.specs.Stress.{stressed, stressedCurve}
 use Rattle.curve.proofs.Stress.{nodes-stressed}
 use Rattle.margin.specs.declared.Position.{Position}
-use Rattle.margin.specs.declared.total.Total.{Total}
+use Rattle.ladder.specs.declared.total.Total.{Total}
 use Rattle.margin.specs.declared.losses.Loss.{Loss}
 use Rattle.margin.specs.Exposure.{Exposure}
 use Rattle.margin.specs.Losses.{valueOn, baseOf, valueAt, lossAt, worstAt}
-use Rattle.margin.specs.Totals.{AllFlowLimits, totalOn}
-use Rattle.margin.specs.Ladder.{ladderFlows}
-use Rattle.margin.specs.Factors.{dayCount, marked}
+use Rattle.ladder.specs.Totals.{AllFlowLimits, totalOn}
+use Rattle.ladder.specs.Ladder.{ladderFlows}
+use Rattle.ladder.specs.Factors.{dayCount, marked}
 use Rattle.margin.specs.Margins.{curveMargin}
 use Rattle.margin.specs.Positions.{exposureOf, PositionLimits, DaysMarked}
 use Rattle.margin.specs.Worst.{worseOf, LossLimits, worstOf}
-use Rattle.margin.proofs.LadderFlows.{ladder-limits}
-use Rattle.margin.proofs.DayFactors.{length-marked, all-marked}
+use Rattle.ladder.proofs.LadderFlows.{ladder-limits}
+use Rattle.ladder.proofs.DayFactors.{length-marked, all-marked}
 use Rattle.margin.proofs.Sizes.{value-size, loss-size, value-fits, loss-fits}
 
 -- ---- what the code's test of two losses says

@@ -15,7 +15,7 @@ use Rattle.curve.specs.Limits.{zeroNode}
 use Rattle.curve.specs.Scenarios.{scenarioCount}
 use Rattle.margin.specs.Exposure.{Exposure}
 use Rattle.margin.specs.Losses.{valueAt}
-use Rattle.margin.specs.Totals.{mostFlows}
+use Rattle.ladder.specs.Totals.{mostFlows}
 use Rattle.margin.specs.declared.losses.Loss.{Loss}
 
 -- an estimate for each scenario: it differs from the scenario's value by at most a reach that is the same for all

@@ -1,11 +1,7 @@
 pub mod Exposure
-pub mod Ladder
 pub mod Losses
-pub mod Totals
-pub mod Factors
 pub mod Worst
 pub mod Positions
 pub mod Margins
 pub mod Demand
 pub mod Choice
-pub mod Netted

@@ -9,7 +9,7 @@ use Rattle.decimal.specs.Product.{unit}
 use Rattle.discount.specs.Flows.{flowValue}
 use Rattle.margin.specs.Exposure.{Exposure}
 use Rattle.margin.specs.Losses.{baseOf, worstAt, worstLoss, toleranceOf}
-use Rattle.margin.specs.Totals.{mostFlows}
+use Rattle.ladder.specs.Totals.{mostFlows}
 use Rattle.margin.specs.declared.margins.Sums.{Sums}
 use Rattle.margin.specs.declared.CurveMargin.{CurveMargin}
 use Rattle.margin.specs.declared.CurrencyMargin.{CurrencyMargin}

@@ -9,7 +9,7 @@ use Rattle.discount.specs.Flows.{flowValue}
 use Rattle.curve.specs.Scenarios.{scenarioCount}
 use Rattle.margin.specs.Exposure.{Exposure}
 use Rattle.margin.specs.Losses.{lossAt, worstAt}
-use Rattle.margin.specs.Totals.{mostFlows}
+use Rattle.ladder.specs.Totals.{mostFlows}
 use Rattle.margin.specs.declared.losses.Loss.{Loss}
 
 -- the worse of two losses, and the first of equal ones

@@ -4,8 +4,8 @@ ghost use lib.ListN.{length};
 ghost use Rattle.margin.specs.Choice.{Estimates};
 ghost use Rattle.margin.specs.Positions.{exposureOf, PositionLimits};
 use super::Position;
-use super::net::net_days;
-use super::net::reach_of;
+use ladder::net::net_days;
+use ladder::net::reach_of;
 use estimate::values::values_of;
 
 // An estimate of each scenario's value. Answers how far each may be off.

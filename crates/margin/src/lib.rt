@@ -2,12 +2,8 @@
 
 pub mod choice;
 pub mod estimates;
-pub mod factors;
-pub mod ladder;
 pub mod losses;
 pub mod margins;
-pub mod net;
-pub mod total;
 
 use curve::Components;
 use curve::Curve;

@@ -6,16 +6,16 @@ ghost use Rattle.curve.specs.Rates.{nodesOf};
 ghost use Rattle.curve.specs.Scenarios.{scenarioCount, scenarioAt};
 ghost use Rattle.curve.specs.Stress.{stressedCurve};
 ghost use Rattle.discount.specs.Flows.{flowValue};
-ghost use Rattle.margin.specs.Ladder.{ladderFlows, LadderLimits};
+ghost use Rattle.ladder.specs.Ladder.{ladderFlows, LadderLimits};
 ghost use Rattle.margin.specs.Losses.{lossAt};
 ghost use Rattle.margin.specs.Positions.{exposureOf, DaysMarked, Based};
-ghost use Rattle.margin.specs.Totals.{totalOn};
+ghost use Rattle.ladder.specs.Totals.{totalOn};
 ghost use Rattle.margin.specs.Worst.{worseOf, LossLimits};
 use super::Position;
 use super::ValuedPosition;
-use super::factors::fill_factors;
-use super::ladder::value_of;
-use super::total::Total;
+use ladder::factors::fill_factors;
+use ladder::total::value_of;
+use ladder::total::Total;
 use curve::Curve;
 
 // The value of a ladder at the rates of a curve, and its tolerance; the days of its flows are marked.

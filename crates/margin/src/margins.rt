@@ -11,7 +11,7 @@ use super::Margin;
 use super::Position;
 use super::ValuedPosition;
 use super::choice::worst_of;
-use super::factors::mark_days;
+use ladder::factors::mark_days;
 use super::losses::value_on;
 
 // The figures of a curve, with a position's ladder on it.

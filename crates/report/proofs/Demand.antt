@@ -27,7 +27,7 @@ use Rattle.book.proofs.Accepted.{Sound, sound}
 use Rattle.margin.specs.declared.CurveMargin.{CurveMargin}
 use Rattle.margin.specs.declared.CurrencyMargin.{CurrencyMargin}
 use Rattle.margin.specs.Exposure.{Exposure}
-use Rattle.margin.specs.Totals.{mostFlows}
+use Rattle.ladder.specs.Totals.{mostFlows}
 use Rattle.margin.specs.Margins.{curveMargin, sumIn, currencyMargin, noCurve, assembled}
 use Rattle.margin.proofs.Sizes.{margin-limits, margin-tolerance, first-largest, value-fits, loss-fits}
 use Rattle.margin.proofs.Accounts.{AllFlowsFit}

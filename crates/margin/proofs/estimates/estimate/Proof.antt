@@ -7,10 +7,10 @@ use lib.ListN.{length, replicate, length-replicate}
 use Rattle.discount.specs.declared.Flow.{Flow}
 use Rattle.curve.proofs.Scenarios.{scenarios-most}
 use Rattle.netting.proofs.Sizes.{nets-length}
-use Rattle.margin.specs.Ladder.{ladderFlows}
+use Rattle.ladder.specs.Ladder.{ladderFlows}
 use Rattle.margin.proofs.Estimating.{estimates}
-use Rattle.margin.proofs.LadderFlows.{ladder-limits}
-use Rattle.margin.proofs.Netting.{nets-none, nets-size}
+use Rattle.ladder.proofs.LadderFlows.{ladder-limits}
+use Rattle.ladder.proofs.Netting.{nets-none, nets-size}
 use borrow.Author.Needs.{needs}
 use Rattle.margin.proofs.estimates.estimate.Statement.{statement}
 use Rattle.margin.proofs.estimates.estimate.Tie as tie

@@ -3,11 +3,11 @@ use mathlib.Core.Path.{sym, _∙_, ap}
 use mathlib.Core.List.{List}
 use Prim.Native.Nat.{ℕ}
 use lib.ListN.{replicate}
-use Rattle.margin.specs.Totals.{plusFlows, noFlows}
-use Rattle.margin.specs.Factors.{factorIn}
-use Rattle.margin.specs.Ladder.{ladderFlows}
-use Rattle.margin.proofs.LadderFlows.{ladder-limits}
-use Rattle.margin.proofs.DayFactors.{factors-limits, total-is}
+use Rattle.ladder.specs.Totals.{plusFlows, noFlows}
+use Rattle.ladder.specs.Factors.{factorIn}
+use Rattle.ladder.specs.Ladder.{ladderFlows}
+use Rattle.ladder.proofs.LadderFlows.{ladder-limits}
+use Rattle.ladder.proofs.DayFactors.{factors-limits, total-is}
 use borrow.Author.Needs.{needs}
 use Rattle.margin.proofs.losses.value_on.Statement.{statement}
 use Rattle.margin.proofs.losses.value_on.Tie as tie

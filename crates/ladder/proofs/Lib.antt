@@ -1,0 +1,5 @@
+pub mod LadderFlows
+pub mod Folds
+pub mod Totals
+pub mod Netting
+pub mod DayFactors

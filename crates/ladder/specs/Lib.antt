@@ -1,0 +1,4 @@
+pub mod Totals
+pub mod Ladder
+pub mod Factors
+pub mod Netted

@@ -1,0 +1,52 @@
+-- A running total of flows: their values at the factors of their days, and their tolerances (document 01, "Which form belongs where").
+use mathlib.Core.List.{List, foldl}
+use Prim.Native.Nat.{ℕ, _+_, _*_, _≤_}
+use lib.IntN.{pos, natAbs, _+ℤ_}
+use Rattle.laws.specs.All.{All}
+use Rattle.decimal.specs.Product.{unit, product}
+use Rattle.discount.specs.declared.Flow.{Flow}
+use Rattle.discount.specs.Flows.{signed, total, sum, flowValue, flowTolerance}
+use Rattle.curve.specs.declared.Node.{Node}
+use Rattle.curve.specs.Rates.{rateAt}
+use Rattle.ladder.specs.declared.total.Total.{Total}
+
+-- the total with one flow more: its amount times the factor of its day, signed
+unfoldable pub plusFlow : Total → Flow → ℕ → Total
+plusFlow t f factor =
+    record {
+      sum = t .sum +ℤ signed (f .received) (product (f .amount) factor);
+      tolerance = t .tolerance + flowTolerance f;
+    }
+
+-- with each flow of a list in turn, given the factor of each day
+abbrev pub plusFlows : (ℕ → ℕ) → Total → List Flow → Total
+plusFlows factorOn t fs = foldl (λ t f. plusFlow t f (factorOn (f .day))) t fs
+
+abbrev pub noFlows : Total
+noFlows = record { sum = pos 0; tolerance = 0 }
+
+-- the value of the flows at the rates that the nodes give, and their tolerance
+abbrev pub totalOn : List Node → List Flow → Total
+totalOn nodes fs = record { sum = total (flowValue (rateAt nodes)) fs; tolerance = sum flowTolerance fs }
+
+-- a flow in its limits
+pub record FlowLimits (f : Flow) : Type 0 where
+  pub amount : f .amount ≤ unit
+  pub day : f .day ≤ 10950
+
+-- every flow of a list is
+abbrev pub AllFlowLimits : List Flow → Type 0
+AllFlowLimits fs = All FlowLimits fs
+
+-- the largest number of flows on a curve: no sum of theirs leaves 64 bits
+abbrev pub mostFlows : ℕ
+mostFlows = 140000
+
+-- a sum of so few flows, each adding at most `each`, that it has room for n more
+pub record RoomFor (each n size : ℕ) : Type 0 where
+  pub fits : size + n * each ≤ mostFlows * each
+
+-- so of a total
+pub record TotalRoom (n : ℕ) (t : Total) : Type 0 where
+  pub value : RoomFor unit n (natAbs (t .sum))
+  pub off : RoomFor 1000 n (t .tolerance)

@@ -1,0 +1,62 @@
+// A ladder's flows netted by day, and how far the value of the net amounts at cheap factors may be off.
+ghost use mathlib.Core.Path.{_≡_};
+ghost use lib.IntN.{natAbs, _+ℤ_};
+ghost use lib.ListN.{length};
+ghost use Rattle.decimal.specs.Product.{unit};
+ghost use Rattle.discount.specs.Flows.{signed, sum};
+ghost use Rattle.netting.specs.Netting.{netted, flowReach};
+ghost use Rattle.ladder.specs.Factors.{dayCount};
+ghost use Rattle.ladder.specs.Ladder.{ladderFlows, LadderLimits};
+ghost use Rattle.ladder.specs.Netted.{NetsRoom};
+ghost use Rattle.ladder.specs.Totals.{FlowLimits, RoomFor};
+use super::payments::Rung;
+use super::payments::payment;
+use discount::Flow;
+use netting::value::reach;
+
+// A net amount with one flow more.
+fn net_with(net: i64, f: Flow) -> i64
+    requires { ⌜ RoomFor unit 1 (natAbs net) × FlowLimits f ⌝ }
+    ensures { λ r. ⌜ r ≡ net +ℤ signed (f .received) (f .amount) ⌝ }
+{
+    let amount = f.amount as i64;
+    if f.received {
+        return net + amount;
+    }
+    net - amount
+}
+
+// Adds the payments of the first schedules to the net amounts of their days.
+pub fn net_days(curve: u64, ladder: &[u64], schedules: usize, nets: &mut [i64])
+    requires { ⌜ LadderLimits (now ladder) schedules × (length (now nets) ≡ dayCount) × NetsRoom (length (ladderFlows curve (now ladder) schedules)) (now nets) ⌝ }
+    ensures { λ _. ⌜ now (nets .exit) ≡ netted (ladderFlows curve (now (ladder .entry)) schedules) (now (nets .entry)) ⌝ }
+{
+    let mut rung = Rung {
+        schedule: 0,
+        payment: 0,
+    };
+    while rung.schedule < schedules {
+        let f = payment(curve, ladder, rung);
+        let day = f.day as usize;
+        nets[day] = net_with(nets[day], f);
+        rung = rung.next(ladder);
+    }
+}
+
+// How far the payments of the first schedules may be off, added up.
+pub fn reach_of(curve: u64, ladder: &[u64], schedules: usize) -> u64
+    requires { ⌜ LadderLimits (now ladder) schedules ⌝ }
+    ensures { λ r. ⌜ r ≡ sum flowReach (ladderFlows curve (now (ladder .entry)) schedules) ⌝ }
+{
+    let mut off: u64 = 0;
+    let mut rung = Rung {
+        schedule: 0,
+        payment: 0,
+    };
+    while rung.schedule < schedules {
+        let f = payment(curve, ladder, rung);
+        off += reach(f.amount, f.day);
+        rung = rung.next(ladder);
+    }
+    off
+}
