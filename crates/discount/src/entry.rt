@@ -5,6 +5,7 @@ use super::factor::Factor;
 use super::value::present_value;
 use super::value::tolerance;
 use ground::Ground;
+use ground::LAST_DAY;
 
 // The present value and its tolerance, or the ground and the block.
 pub enum Valued {
@@ -16,7 +17,7 @@ pub enum Valued {
 fn breaks_value_range(amount: u64, rate: u64, day: u64) -> bool
     ensures { λ r. ⌜ r ≡ breaksValueRange amount rate day ⌝ }
 {
-    (Factor::UNIT < amount) | (Factor::LIMIT < rate) | (10_950 < day)
+    (Factor::UNIT < amount) | (Factor::LIMIT < rate) | (LAST_DAY < day)
 }
 
 // Takes every input.

@@ -1,6 +1,7 @@
 // The factor of a rate and a day, the present value of an amount, and how far that may be off.
 ghost use mathlib.Core.Path.{_≡_};
 ghost use Prim.Native.Nat.{_≤_};
+ghost use Rattle.ground.specs.Limits.{lastDay};
 ghost use Rattle.decimal.specs.Product.{unit};
 ghost use Rattle.discount.specs.Discount.{million, factor, presentValue, tolerance};
 use super::daily::day_power;
@@ -33,7 +34,7 @@ pub fn present_value(amount: u64, rate: u64, days: u64) -> u64
 
 // How far that may be off.
 pub fn tolerance(amount: u64, days: u64) -> u64
-    requires { ⌜ (amount ≤ unit) × (days ≤ 10_950) ⌝ }
+    requires { ⌜ (amount ≤ unit) × (days ≤ lastDay) ⌝ }
     ensures { λ r. ⌜ r ≡ tolerance amount days ⌝ }
 {
     let products = days % YEAR + days / YEAR;

@@ -4,6 +4,7 @@ use mathlib.Core.List.{List, [], _∷_, _++_}
 use lib.ListN.{length, take, drop, replicate}
 use Rattle.ground.specs.declared.Verdict.{Verdict}
 use Rattle.ground.specs.declared.Verdict.the-variants as verdict
+use Rattle.ground.specs.Verdicts.{bytesAfter}
 use Rattle.book.specs.Parts.{headerOf, curveBlocks, recordAt, records}
 use Rattle.book.specs.Encode.{encode}
 use Rattle.edit.specs.declared.Edited.{Edited}
@@ -20,11 +21,6 @@ answerOf (verdict.Refused g k) used = Refused g k
 abbrev pub usedAfter : Edited → ℕ → ℕ
 usedAfter (Used n) used = n
 usedAfter (Refused g k) used = used
-
--- the lent bytes where the call is not refused; "nothing lent is written" where it is
-abbrev pub bytesAfter : Verdict → List ℕ → List ℕ → List ℕ
-bytesAfter verdict.Accepted before after = after
-bytesAfter (verdict.Refused g k) before after = before
 
 -- the book with other records
 abbrev pub bookOf : List ℕ → List (List ℕ) → List ℕ

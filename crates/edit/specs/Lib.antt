@@ -1,3 +1,4 @@
 pub mod Refusals
 pub mod Blocks
 pub mod Edits
+pub mod ReadBack

@@ -4,6 +4,7 @@ use mathlib.Core.Path.{_≡_}
 use mathlib.Core.Bool.{cond}
 use lib.Dec.{leb}
 use lib.IntN.{ℤ, pos, negℤ, natAbs, _+ℤ_, _-ℤ_, _*ℤ_}
+use Rattle.ground.specs.Limits.{lastDay}
 use Rattle.curve.specs.declared.Node.{Node}
 use Rattle.curve.specs.Limits.{highestRate, Limits}
 use Rattle.estimate.specs.declared.lines.Line.{Line}
@@ -57,7 +58,7 @@ steepest = 140000000000000
 
 -- day t is on the line: its rate is one of document 01's, and 64 bits hold it in parts
 pub record Drawn (l : Line) (t : ℕ) : Type 0 where
-  pub day : t ≤ 10950
+  pub day : t ≤ lastDay
   pub start : natAbs (l .start) ≤ 2000000000000000000
   pub slope : natAbs (l .slope) ≤ steepest
   pub above : standsAt l t ≡ pos (natAbs (standsAt l t))

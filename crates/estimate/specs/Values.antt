@@ -7,6 +7,7 @@ use lib.Dec.{ltb}
 use lib.IntN.{ℤ, pos, natAbs, _+ℤ_}
 use lib.ListN.{length, drop, getD}
 use Rattle.laws.specs.All.{All}
+use Rattle.ground.specs.Limits.{dayCount}
 use Rattle.curve.specs.declared.Node.{Node}
 use Rattle.curve.specs.declared.Curve.{Curve}
 use Rattle.curve.specs.declared.Components.{Components}
@@ -67,17 +68,17 @@ pub record Tables (logs middle upper : List ℕ) : Type 0 where
 
 -- the days are those that have a net amount
 pub record Listed (nets : List ℤ) (days : List ℕ) : Type 0 where
-  pub places : length nets ≡ 10951
+  pub places : length nets ≡ dayCount
   pub list : days ≡ listed nets
   pub size : netSize nets (listed nets) ≤ mostSize
 
 -- every day has its place among the net amounts, and those before the line's end are on it
 abbrev pub OnLine : Line → List ℕ → Type 0
-OnLine l ds = All (λ d. (d < 10951) × (d < l .until → Drawn l d)) ds
+OnLine l ds = All (λ d. (d < dayCount) × (d < l .until → Drawn l d)) ds
 
 -- part p can go on along the line, and its value with the amounts to come fits
 pub record Ready (l : Line) (nets : List ℤ) (days : List ℕ) (p : Part) : Type 0 where
-  pub places : length nets ≡ 10951
+  pub places : length nets ≡ dayCount
   pub done : p .done ≤ length days
   pub each : OnLine l (daysLeft days p)
   pub size : natAbs (p .value) + netSize nets (daysLeft days p) ≤ mostSize

@@ -2,6 +2,7 @@
 ghost use mathlib.Core.Path.{_≡_};
 ghost use Prim.Native.Nat.{_≤_};
 ghost use lib.ListN.{length};
+ghost use Rattle.ground.specs.Limits.{dayCount};
 ghost use Rattle.curve.specs.Limits.{Proper, ProperComponents};
 ghost use Rattle.curve.specs.Rates.{nodesOf};
 ghost use Rattle.curve.specs.Scenarios.{scenarioCount};
@@ -70,7 +71,7 @@ fn fill_values(
 
 // In every scenario, in order. The tables of cheap factors and the list of days are made once.
 pub fn values_of(curve: Curve, components: Components, nets: &[i64], values: &mut [i64])
-    requires { ⌜ Proper curve × ProperComponents components × (length (now nets) ≡ 10951) × (netSize (now nets) (listed (now nets)) ≤ 140_000_000_000_000_000) × (scenarioCount components ≤ length (now values)) ⌝ }
+    requires { ⌜ Proper curve × ProperComponents components × (length (now nets) ≡ dayCount) × (netSize (now nets) (listed (now nets)) ≤ 140_000_000_000_000_000) × (scenarioCount components ≤ length (now values)) ⌝ }
     ensures kept { λ _. ⌜ length (now (values .exit)) ≡ length (now (values .entry)) ⌝ }
     ensures each { λ _. ⌜ ScenarioValues curve components (now (nets .entry)) (now (values .exit)) ⌝ }
 {

@@ -23,7 +23,8 @@ use Rattle.discount.specs.Flows.{signed, total, sum, flowValue, flowTolerance}
 use Rattle.curve.specs.declared.Node.{Node}
 use Rattle.curve.specs.Rates.{rateAt}
 use Rattle.ladder.specs.Totals.{plusFlows, noFlows, totalOn, AllFlowLimits}
-use Rattle.ladder.specs.Factors.{dayCount, factorIn, FactorLimits, markDay, marked, AllMarked, NextMarked, factorsOn}
+use Rattle.ground.specs.Limits.{dayCount}
+use Rattle.ladder.specs.Factors.{factorIn, FactorLimits, markDay, marked, AllMarked, NextMarked, factorsOn}
 use Rattle.ladder.proofs.Totals.{plusFlows-none}
 
 -- ---- days marked

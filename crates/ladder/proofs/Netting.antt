@@ -14,7 +14,7 @@ use Rattle.discount.specs.declared.Flow.{Flow}
 use Rattle.discount.specs.Flows.{signed, sum}
 use Rattle.netting.specs.Netting.{noNets, netted, netWith, netOn, listed, netSize, flowReach}
 use Rattle.netting.proofs.Sizes.{signed-more, net-size, net-size-on, reach-size}
-use Rattle.ladder.specs.Factors.{dayCount}
+use Rattle.ground.specs.Limits.{dayCount}
 use Rattle.ladder.specs.Netted.{NetsRoom}
 use Rattle.ladder.specs.Totals.{FlowLimits, AllFlowLimits, mostFlows, RoomFor}
 use Rattle.ladder.proofs.Folds.{sum-most, room-less, room-next}

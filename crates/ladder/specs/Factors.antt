@@ -7,16 +7,13 @@ use Prim.Native.Nat.{ℕ, _≤_, _<_}
 use lib.Dec.{eqb}
 use lib.ListN.{length, getD, set}
 use Rattle.laws.specs.All.{All}
+use Rattle.ground.specs.Limits.{dayCount}
 use Rattle.laws.specs.Walk.{table}
 use Rattle.decimal.specs.Product.{unit}
 use Rattle.discount.specs.Discount.{factor}
 use Rattle.discount.specs.declared.Flow.{Flow}
 use Rattle.curve.specs.declared.Node.{Node}
 use Rattle.curve.specs.Rates.{rateAt}
-
--- days 0 to 10,950
-abbrev pub dayCount : ℕ
-dayCount = 10951
 
 -- the factor of a day, as kept
 abbrev pub factorIn : List ℕ → ℕ → ℕ

@@ -6,6 +6,7 @@ use Prim.Native.Nat.{ℕ, suc, _+_, _-_, _*_, _≤_, _<_}
 use lib.Dec.{eqb}
 use lib.ListN.{length, getD}
 use Rattle.laws.specs.Walk.{table}
+use Rattle.ground.specs.Limits as limits
 use Rattle.decimal.specs.Product.{unit}
 use Rattle.discount.specs.declared.Flow.{Flow}
 use Rattle.ladder.specs.declared.payments.Rung.{Rung}
@@ -51,7 +52,7 @@ ladderFlows curve ladder schedules = flatMap (scheduleFlows curve ladder) (table
 pub record ScheduleLimits (ladder : List ℕ) (i : ℕ) : Type 0 where
   pub some : 1 ≤ payments ladder i
   pub most : payments ladder i ≤ 120
-  pub lastDay : firstDay ladder i + (payments ladder i - 1) * period ladder i ≤ 10950
+  pub lastDay : firstDay ladder i + (payments ladder i - 1) * period ladder i ≤ limits.lastDay
   pub amount : 2 ≤ payments ladder i → amount ladder i ≤ unit
   pub lastAmount : lastAmount ladder i ≤ unit
 

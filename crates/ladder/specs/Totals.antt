@@ -3,6 +3,7 @@ use mathlib.Core.List.{List, foldl}
 use Prim.Native.Nat.{ℕ, _+_, _*_, _≤_}
 use lib.IntN.{pos, natAbs, _+ℤ_}
 use Rattle.laws.specs.All.{All}
+use Rattle.ground.specs.Limits.{lastDay}
 use Rattle.decimal.specs.Product.{unit, product}
 use Rattle.discount.specs.declared.Flow.{Flow}
 use Rattle.discount.specs.Flows.{signed, total, sum, flowValue, flowTolerance}
@@ -32,7 +33,7 @@ totalOn nodes fs = record { sum = total (flowValue (rateAt nodes)) fs; tolerance
 -- a flow in its limits
 pub record FlowLimits (f : Flow) : Type 0 where
   pub amount : f .amount ≤ unit
-  pub day : f .day ≤ 10950
+  pub day : f .day ≤ lastDay
 
 -- every flow of a list is
 abbrev pub AllFlowLimits : List Flow → Type 0

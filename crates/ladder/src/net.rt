@@ -5,7 +5,7 @@ ghost use lib.ListN.{length};
 ghost use Rattle.decimal.specs.Product.{unit};
 ghost use Rattle.discount.specs.Flows.{signed, sum};
 ghost use Rattle.netting.specs.Netting.{netted, flowReach};
-ghost use Rattle.ladder.specs.Factors.{dayCount};
+ghost use Rattle.ground.specs.Limits.{dayCount};
 ghost use Rattle.ladder.specs.Ladder.{ladderFlows, LadderLimits};
 ghost use Rattle.ladder.specs.Netted.{NetsRoom};
 ghost use Rattle.ladder.specs.Totals.{FlowLimits, RoomFor};

@@ -21,7 +21,8 @@ use Rattle.margin.specs.Exposure.{Exposure}
 use Rattle.margin.specs.Losses.{valueOn, baseOf, valueAt, lossAt, worstAt}
 use Rattle.ladder.specs.Totals.{AllFlowLimits, totalOn}
 use Rattle.ladder.specs.Ladder.{ladderFlows}
-use Rattle.ladder.specs.Factors.{dayCount, marked}
+use Rattle.ground.specs.Limits.{dayCount}
+use Rattle.ladder.specs.Factors.{marked}
 use Rattle.margin.specs.Margins.{curveMargin}
 use Rattle.margin.specs.Positions.{exposureOf, PositionLimits, DaysMarked}
 use Rattle.margin.specs.Worst.{worseOf, LossLimits, worstOf}

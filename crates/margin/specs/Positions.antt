@@ -7,7 +7,8 @@ use Rattle.discount.specs.Flows.{flowValue}
 use Rattle.curve.specs.Limits.{Proper, ProperComponents}
 use Rattle.curve.specs.Rates.{nodesOf}
 use Rattle.margin.specs.Exposure.{Exposure}
-use Rattle.ladder.specs.Factors.{dayCount, AllMarked}
+use Rattle.ground.specs.Limits.{dayCount}
+use Rattle.ladder.specs.Factors.{AllMarked}
 use Rattle.ladder.specs.Ladder.{ladderFlows, LadderLimits}
 use Rattle.margin.specs.Losses.{baseOf}
 use Rattle.margin.specs.declared.Position.{Position}

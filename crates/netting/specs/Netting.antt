@@ -7,6 +7,7 @@ use lib.IntN.{ℤ, pos, negℤ, natAbs, _+ℤ_}
 use lib.ListN.{getD, set, replicate}
 use lib.Signed.{ltZ}
 use Rattle.laws.specs.All.{All}
+use Rattle.ground.specs.Limits.{lastDay, dayCount}
 use Rattle.discount.specs.declared.Flow.{Flow}
 use Rattle.discount.specs.Discount.{products}
 use Rattle.discount.specs.Flows.{signed}
@@ -14,7 +15,7 @@ use Rattle.sieve.specs.Cheap.{whole, cheapFactor}
 
 -- a net amount for each of the days 0 to 10,950, none at first
 abbrev pub noNets : List ℤ
-noNets = replicate 10951 (pos 0)
+noNets = replicate dayCount (pos 0)
 
 -- the net amount of a day
 abbrev pub netOn : List ℤ → ℕ → ℤ
@@ -69,4 +70,4 @@ flowReach f = reach (f .amount) (f .day)
 
 -- every flow's day is one of document 01's
 abbrev pub OnDays : List Flow → Type 0
-OnDays fs = All (λ f. f .day ≤ 10950) fs
+OnDays fs = All (λ f. f .day ≤ lastDay) fs

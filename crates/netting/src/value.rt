@@ -2,6 +2,7 @@
 ghost use mathlib.Core.Path.{_≡_};
 ghost use Prim.Native.Nat.{_*_, _/_, _≤_};
 ghost use lib.IntN.{natAbs};
+ghost use Rattle.ground.specs.Limits.{lastDay};
 ghost use Rattle.sieve.specs.Cheap.{whole};
 ghost use Rattle.netting.specs.Netting.{worth, reach};
 
@@ -43,7 +44,7 @@ pub fn worth(net: i64, factor: u64) -> i64
 
 // How far a flow's part in the value of netted flows may be from its present value.
 pub fn reach(amount: u64, day: u64) -> u64
-    requires { ⌜ (amount ≤ 1_000_000_000_000) × (day ≤ 10_950) ⌝ }
+    requires { ⌜ (amount ≤ 1_000_000_000_000) × (day ≤ lastDay) ⌝ }
     ensures { λ r. ⌜ r ≡ reach amount day ⌝ }
 {
     let products = day % 365 + day / 365;

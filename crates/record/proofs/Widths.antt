@@ -1,7 +1,7 @@
 -- Fields that break none of the rules 8, 9 and 10 keep the widths of their places, where the book's curves are so few that their ids do.
 use mathlib.Core.Path.{_≡_, refl}
 use mathlib.Core.Bool.{Bool, true, false}
-use Prim.Native.Nat.{_≤_, _<_, _^_}
+use Prim.Native.Nat.{_≤_, _<_}
 use native.Mathlib.Omega.{arith}
 use Rattle.decimal.specs.Product.{unit}
 use Rattle.record.specs.declared.Curves.{Curves}

@@ -6,8 +6,8 @@ use lib.Dec.{ltb}
 use lib.ListN.{length, drop}
 use Rattle.ground.specs.declared.Ground.the-variants.{ReportSpace}
 use Rattle.ground.specs.declared.Verdict.{Verdict}
-use Rattle.ground.specs.declared.Verdict.the-variants.{Accepted, Refused}
-use Rattle.ground.specs.Verdicts.{orElse, unless}
+use Rattle.ground.specs.declared.Verdict.the-variants.{Accepted}
+use Rattle.ground.specs.Verdicts.{orElse, unless, bytesAfter}
 use Rattle.book.specs.Parts.{headerOf}
 use Rattle.book.specs.Verdict.{verdict}
 use Rattle.margin.specs.declared.Margin.{Margin}
@@ -27,11 +27,6 @@ breaksReportSpace space = ltb space 512
 unfoldable pub marginVerdict : List ℕ → ℕ → ℕ → Verdict
 marginVerdict s used space = orElse (verdict s used) (unless (breaksReportSpace space) ReportSpace 0 Accepted)
 
--- what was lent for the report: written where nothing is refused, and as it was where something is
-abbrev pub writtenIf : Verdict → List ℕ → List ℕ → List ℕ
-writtenIf Accepted new old = new
-writtenIf (Refused g k) new old = old
-
 -- the report in the first 512 bytes, "bytes past it kept"
 unfoldable pub marginBytes : List ℕ → ℕ → List ℕ → List ℕ
-marginBytes s used out = writtenIf (marginVerdict s used (length out)) (reportBytes (marginIn s) ++ drop 512 out) out
+marginBytes s used out = bytesAfter (marginVerdict s used (length out)) out (reportBytes (marginIn s) ++ drop 512 out)

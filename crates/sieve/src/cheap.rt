@@ -2,11 +2,12 @@
 ghost use mathlib.Core.Path.{_≡_};
 ghost use Prim.Native.Nat.{_+_, _*_, _/_, _≤_, _<_};
 ghost use lib.ListN.{length};
+ghost use Rattle.ground.specs.Limits.{lastDay};
 ghost use Rattle.sieve.specs.Cheap.{logAt, antilog, cheapFactor, Logs, Powers};
 
 // The logarithm of a rate and a day. That of the rate stands on the line between two rows of the table, which need reach no further.
 fn exponent(logs: &[u64], rate: u64, day: u64) -> u64
-    requires { ⌜ Logs (now logs) × (rate ≤ 1_000_000) × (day ≤ 10_950) × (rate / 64 + 1 < length (now logs)) ⌝ }
+    requires { ⌜ Logs (now logs) × (rate ≤ 1_000_000) × (day ≤ lastDay) × (rate / 64 + 1 < length (now logs)) ⌝ }
     ensures { λ r. ⌜ r ≡ logAt rate * day / 365 ⌝ }
 {
     let i = (rate / 64) as usize;
@@ -30,7 +31,7 @@ fn antilog(middle: &[u64], upper: &[u64], x: u64) -> u64
 
 // The cheap factor of a rate and a day, in parts of 2^31.
 pub fn factor(logs: &[u64], middle: &[u64], upper: &[u64], rate: u64, day: u64) -> u64
-    requires { ⌜ Logs (now logs) × Powers (now middle) (now upper) × (rate ≤ 1_000_000) × (day ≤ 10_950) × (rate / 64 + 1 < length (now logs)) ⌝ }
+    requires { ⌜ Logs (now logs) × Powers (now middle) (now upper) × (rate ≤ 1_000_000) × (day ≤ lastDay) × (rate / 64 + 1 < length (now logs)) ⌝ }
     ensures { λ r. ⌜ r ≡ cheapFactor rate day ⌝ }
 {
     antilog(middle, upper, exponent(logs, rate, day))

@@ -2,7 +2,8 @@
 use mathlib.Core.Path.{_≡_, sym, _∙_}
 use native.Mathlib.Omega.{arith}
 use lib.ListN.{length}
-use Rattle.ladder.specs.Factors.{dayCount, markDay}
+use Rattle.ground.specs.Limits.{dayCount}
+use Rattle.ladder.specs.Factors.{markDay}
 use Rattle.ladder.specs.Ladder.{RungLimits}
 use Rattle.ladder.specs.Totals.{FlowLimits}
 use Rattle.ladder.proofs.DayFactors.{length-mark}
