@@ -4,9 +4,9 @@ ghost use lib.ListN.{length};
 ghost use Rattle.margin.specs.Choice.{Estimates};
 ghost use Rattle.margin.specs.Positions.{exposureOf, PositionLimits};
 use super::Position;
+use estimate::values::values_of;
 use ladder::net::net_days;
 use ladder::net::reach_of;
-use estimate::values::values_of;
 
 // An estimate of each scenario's value. Answers how far each may be off.
 pub fn estimate(position: Position, ladder: &[u64], values: &mut [i64]) -> u64

@@ -13,10 +13,10 @@ ghost use Rattle.ladder.specs.Totals.{totalOn};
 ghost use Rattle.margin.specs.Worst.{worseOf, LossLimits};
 use super::Position;
 use super::ValuedPosition;
-use ladder::factors::fill_factors;
-use ladder::total::value_of;
-use ladder::total::Total;
 use curve::Curve;
+use ladder::factors::fill_factors;
+use ladder::total::Total;
+use ladder::total::value_of;
 
 // The value of a ladder at the rates of a curve, and its tolerance; the days of its flows are marked.
 pub fn value_on(id: u64, curve: Curve, ladder: &[u64], schedules: usize, marks: &[u64]) -> Total

@@ -11,8 +11,8 @@ use super::Margin;
 use super::Position;
 use super::ValuedPosition;
 use super::choice::worst_of;
-use ladder::factors::mark_days;
 use super::losses::value_on;
+use ladder::factors::mark_days;
 
 // The figures of a curve, with a position's ladder on it.
 pub fn curve_margin(position: Position, ladder: &[u64]) -> CurveMargin
