@@ -56,8 +56,7 @@ module _ (header : Header) (c t : ℕ) where
   is-header = refl
 
   pub length-headerBytes : length named ≡ 8
-  length-headerBytes =
-      simp length-append (omega (arith, length-bytes 4 (header .account), length-bytes 2 c, length-bytes 2 t))
+  length-headerBytes = simp length-append (omega (arith, length-bytes 4 (header .account), length-bytes 2 c, length-bytes 2 t))
 
   short : length named ≤ 504
   short = omega (arith, length-headerBytes)
@@ -74,16 +73,13 @@ module _ (header : Header) (c t : ℕ) where
 
   pub header-read : HeaderFits header → headerOf (headerBlock header c t) ≡ header
   header-read fits =
-      let a = bytesOf 4 (header .account) in
       let e : numberAt 4 (headerBlock header c t) 4 ≡ header .account =
       field-in 4 0 (omega arith)
-      ∙ rw (append-assoc a (bytesOf 2 c) (bytesOf 2 t)) (field-among 4 (header .account) [] (bytesOf 2 c ++ bytesOf 2 t) 0 refl (fits .account-fits)) in
+      ∙ rw (append-assoc (bytesOf 4 (header .account)) (bytesOf 2 c) (bytesOf 2 t)) (field-among 4 (header .account) [] (bytesOf 2 c ++ bytesOf 2 t) 0 refl (fits .account-fits)) in
       rw e
 
   pub header-curves : c < 65536 → curveCount (headerBlock header c t) ≡ c
-  header-curves h =
-      let a = bytesOf 4 (header .account) in
-      field-in 2 4 (omega arith) ∙ field-among 2 c a (bytesOf 2 t) 4 (sym (length-bytes 4 (header .account))) h
+  header-curves h = field-in 2 4 (omega arith) ∙ field-among 2 c (bytesOf 4 (header .account)) (bytesOf 2 t) 4 (sym (length-bytes 4 (header .account))) h
 
   pub header-trades : t < 65536 → tradeBlocks (headerBlock header c t) ≡ t
   header-trades h =

@@ -12,9 +12,9 @@ use Rattle.record.proofs.Facts.{Kind, outright, pool, specified, Formed
 use Rattle.record.proofs.RoundTrip.{Narrow}
 
 -- what holds where a test is passed and where it is not
-by-test : {P : Type 0} (test : Bool) → (test ≡ true → P) → (test ≡ false → P) → P
-by-test true holds fails = holds refl
-by-test false holds fails = fails refl
+either-way : {P : Type 0} (test : Bool) → (test ≡ true → P) → (test ≡ false → P) → P
+either-way true holds fails = holds refl
+either-way false holds fails = fails refl
 
 module _ {curves : Curves} (f : Fields) (few : curves .count < 256) (r : Formed curves (f .form)) (d : Dated (f .form) (f .days)) (a : Priced (f .form) (f .days) (f .amounts)) where
   kinds : Kind (f .form) → (f .form .kind < 256) × (f .form .phase < 256)
@@ -25,7 +25,7 @@ module _ {curves : Curves} (f : Fields) (few : curves .count < 256) (r : Formed 
   -- value day 1 is before value day 2, or unused and 0
   ahead : isOutright (f .form .kind) ≡ false → f .days .day1 ≤ lastDay
   ahead o =
-      by-test (hasSettled (f .form .kind) (f .form .phase)) (λ e. omega (arith, a .settled e)) (λ e. omega (arith, d .ahead o e, d .lent o .1))
+      either-way (hasSettled (f .form .kind) (f .form .phase)) (λ e. omega (arith, a .settled e)) (λ e. omega (arith, d .ahead o e, d .lent o .1))
 
   narrowed : Narrow f
   unfolding unit
@@ -38,23 +38,23 @@ module _ {curves : Curves} (f : Fields) (few : curves .count < 256) (r : Formed 
         kind = kinds (r .kinds) .0;
         side = omega (arith, r .sides .high);
         phase = kinds (r .kinds) .1;
-        securitycurve = by-test paying (λ e. omega (arith, r .held e .high)) (λ e. omega (arith, r .bare e));
+        securitycurve = either-way paying (λ e. omega (arith, r .held e .high)) (λ e. omega (arith, r .bare e));
         cashcurve = omega (arith, r .cash .high);
         security = omega (arith, r .securities);
         blank = omega (arith, a .blank);
-        day1 = by-test o (λ e. omega (arith, d .bought e)) (λ e. omega (arith, ahead e));
-        day2 = by-test o (λ e. omega (arith, a .bought e .0)) (λ e. omega (arith, d .lent e .1));
-        first = by-test paying (λ e. omega (arith, d .paid e)) (λ e. omega (arith, a .bare e .0));
-        period = by-test coupons (λ e. omega (arith, d .coupons e .number .apart .high)) (λ e. omega (arith, a .flat e .0));
-        payments = by-test coupons (λ e. omega (arith, d .coupons e .number .some .high)) (λ e. omega (arith, a .flat e .1 .0));
-        term = by-test o (λ e. omega (arith, a .bought e .1 .0)) (λ e. omega (arith, d .lent e .0));
+        day1 = either-way o (λ e. omega (arith, d .bought e)) (λ e. omega (arith, ahead e));
+        day2 = either-way o (λ e. omega (arith, a .bought e .0)) (λ e. omega (arith, d .lent e .1));
+        first = either-way paying (λ e. omega (arith, d .paid e)) (λ e. omega (arith, a .bare e .0));
+        period = either-way coupons (λ e. omega (arith, d .coupons e .number .apart .high)) (λ e. omega (arith, a .flat e .0));
+        payments = either-way coupons (λ e. omega (arith, d .coupons e .number .some .high)) (λ e. omega (arith, a .flat e .1 .0));
+        term = either-way o (λ e. omega (arith, a .bought e .1 .0)) (λ e. omega (arith, d .lent e .0));
         coupon = omega (arith, a .coupon);
         nominal = omega (arith, a .nominal);
         cash = omega (arith, a .cash);
-        price = by-test o (λ e. omega (arith, a .bought e .1 .1 .1)) (λ e. omega (arith, a .lent e .1));
+        price = either-way o (λ e. omega (arith, a .bought e .1 .1 .1)) (λ e. omega (arith, a .lent e .1));
         accrued = omega (arith, a .accrued);
-        index = by-test indexed (λ e. omega (arith, a .indexed e .0 .high)) (λ e. omega (arith, a .plain e .0));
-        issue = by-test indexed (λ e. omega (arith, a .indexed e .1 .high)) (λ e. omega (arith, a .plain e .1));
+        index = either-way indexed (λ e. omega (arith, a .indexed e .0 .high)) (λ e. omega (arith, a .plain e .0));
+        issue = either-way indexed (λ e. omega (arith, a .indexed e .1 .high)) (λ e. omega (arith, a .plain e .1));
       }
 
 pub rules-narrow : (curves : Curves) (f : Fields) → curves .count < 256 → breaksForm curves (f .form) ≡ false → breaksDays (f .form) (f .days) ≡ false
