@@ -1,14 +1,22 @@
 // What the list program prints for a book.
 use book::parts;
+use ground::Ground;
 use ground::Verdict;
+use layout::copy_in;
 ghost use mathlib.Core.Path.{_≡_};
 ghost use mathlib.Core.List.{_++_};
 ghost use Prim.Native.Nat.{_≤_};
 ghost use lib.ListN.{length, drop};
-ghost use Rattle.account_list.specs.Text.{listText};
+ghost use Rattle.account_list.specs.Text.{listText, listedOf, listedIn};
 
-// Writes the text into the first bytes lent and answers its length; the bytes behind it are kept. Takes every book.
-pub fn list_text(book: &[u8], used: usize, out: &mut [u8]) -> usize
+// The length of the text that was written, or the ground by which none was.
+pub enum Listed {
+    Length(usize),
+    Refused(Ground, u64),
+}
+
+// Writes the text into the first bytes of a space that suffices for any, and answers its length.
+fn put_listing(book: &[u8], used: usize, out: &mut [u8]) -> usize
     requires { ⌜ 1481 ≤ length (now out) ⌝ }
     ensures { λ r. ⌜ r ≡ length (listText (now (book .entry)) used) ⌝ }
     ensures { λ r. ⌜ now (out .exit) ≡ listText (now (book .entry)) used ++ drop r (now (out .entry)) ⌝ }
@@ -22,4 +30,19 @@ pub fn list_text(book: &[u8], used: usize, out: &mut [u8]) -> usize
             listing::write_listing(out, parts::curve_count(book), m)
         }
     }
+}
+
+// Writes the text into the first bytes lent; the bytes past it are kept. Where it does not fit, nothing is written. Takes every input.
+pub fn list_text(book: &[u8], used: usize, out: &mut [u8]) -> Listed
+    ensures { λ r. ⌜ r ≡ listedOf (listText (now (book .entry)) used) (length (now (out .entry))) ⌝ }
+    ensures { λ _. ⌜ now (out .exit) ≡ listedIn (listText (now (book .entry)) used) (now (out .entry)) ⌝ }
+    ensures { λ _. ⌜ length (listText (now (book .entry)) used) ≤ 1481 ⌝ }
+{
+    let mut text = [0u8; 1481];
+    let n = put_listing(book, used, &mut text);
+    if out.len() < n {
+        return Listed::Refused(Ground::ReportSpace, 0);
+    }
+    copy_in(out, 0, &text[..n]);
+    Listed::Length(n)
 }

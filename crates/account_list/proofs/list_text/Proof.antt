@@ -1,59 +1,52 @@
--- `account_list::list_text` meets its contract. Assumes nothing.
-use mathlib.Core.Path.{sym, _∙_}
+-- `account_list::list_text` meets its contract: the text stands in a space of its own first.
+use mathlib.Core.Path.{_≡_, sym}
+use mathlib.Core.List.{List}
+use Prim.Native.Nat.{ℕ}
 use native.Mathlib.Omega.{arith}
 use borrow.Author.Needs.{needs}
-use Rattle.book.proofs.Accepted.{sound}
+use lib.ListN.{length, drop, replicate, length-take}
+use lib.Seq.{length-take-le}
 use Rattle.account_list.specs.Text.{listText}
+use Rattle.account_list.proofs.Fitting.{too-long, copied}
 use Rattle.account_list.proofs.list_text.Statement.{statement}
 use Rattle.account_list.proofs.list_text.Tie as tie
 
-margin-of-book-requires : tie.Need-margin-of-book-requires
-margin-of-book-requires c κs = sym (c .before .before .check .ensures) ∙ c .enum-told .given .1
-
--- an accepted book has its header, and at most eight curves
-curve-count-requires : tie.Need-curve-count-requires
-curve-count-requires c κs =
-    let b = sound _ _ (sym (c .before .before .before .before .check .ensures) ∙ c .before .before .enum-told .given .1) in
-    omega (arith, b .blocks, b .lent)
-
-write-listing-requires : tie.Need-write-listing-requires
-write-listing-requires c κs =
-    let b = sound _ _ (sym (c .before .before .before .before .before .check .ensures) ∙ c .before .before .before .enum-told .given .1) in
-    (omega (arith, b .most, c .curve-count .ensures .0), search needs)
-
 returns : tie.Need-returns
-unfolding listText
 returns c =
     let wrote = c .before .before in
-    let number = wrote .before in
-    let v = number .before .before .before in
-    let e = sym (v .before .before .check .ensures) ∙ v .v .given .1 in
-    let w = wrote .write-refused .ensures in
-    rw (e, ← number .number .ensures) (w .0, (w .1 .0, omega (arith, w .1 .1)))
+    let start = wrote .before .before .before .before in
+    let a = start .args in
+    let e : wrote .put-listing .result ≡ length (listText (a .book .now) (a .used)) = wrote .put-listing .ensures .0 in
+    let p = too-long (listText (a .book .now) (a .used)) (a .out .now) (omega (arith, e, c .if1 .taken)) in
+    (p .0, (p .1, omega (arith, e, wrote .put-listing .ensures .1 .1)))
+
+slice-aggregate-copy-in : tie.Need-slice-aggregate-copy-in
+slice-aggregate-copy-in c = sym (length-take-le _ _ (search needs))
+
+copy-in-requires : tie.Need-copy-in-requires
+copy-in-requires c κs = simp length-take (omega arith)
 
 returns-2 : tie.Need-returns-2
-unfolding listText
 returns-2 c =
-    let wrote = c .before .before in
-    let count = wrote .before in
-    let margin = count .before .before in
-    let told = margin .before in
-    let e = sym (told .before .before .check .ensures) ∙ told .enum-told .given .1 in
-    rw (e, ← count .curve-count .ensures .0, ← margin .margin-of-book .ensures) (wrote .write-listing .ensures)
+    let written = c .before .before in
+    let free = written .before .before .before in
+    let wrote = free .before .before in
+    let start = wrote .before .before .before .before in
+    let a = start .args in
+    let e : wrote .put-listing .result ≡ length (listText (a .book .now) (a .used)) = wrote .put-listing .ensures .0 in
+    let rest : List ℕ = drop (wrote .put-listing .result) (replicate 1481 0) in
+    let p = copied (listText (a .book .now) (a .used)) (a .out .now) rest e (wrote .put-listing .ensures .1 .0) (omega (arith, free .if1 .left)) (written .copy-in .ensures) in
+    (p .0, (p .1, omega (arith, e, wrote .put-listing .ensures .1 .1)))
 
 pub list-text-spec : {M : Type 1} → statement M
 list-text-spec =
     tie.close
     (tie.spec
-    (λ c κs. search needs)
     (λ c. search needs)
     (λ c κs. search needs)
-    (λ c κs. search needs)
-    (λ c. search needs)
-    margin-of-book-requires
-    curve-count-requires
-    write-listing-requires
-    (λ c. search needs)
     returns
+    (λ c. search needs)
+    slice-aggregate-copy-in
+    copy-in-requires
     (λ c. search needs)
     returns-2)
