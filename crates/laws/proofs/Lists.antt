@@ -15,6 +15,11 @@ getD-map-in f [] n d e h = absurd (omega arith)
 getD-map-in f (x ∷ l) zero d e h = refl
 getD-map-in f (x ∷ l) (suc n) d e h = getD-map-in f l n d e (omega arith)
 
+-- two functions that agree on every element
+pub map-same : {A B : Type 0} (f g : A → B) (l : List A) (d : A) → ((k : ℕ) → k < length l → f (getD l k d) ≡ g (getD l k d)) → map f l ≡ map g l
+map-same f g [] d h = refl
+map-same {A} {B} f g (x ∷ l) d h = rw (h 0 (omega arith)) (ap (λ (t : List B). g x ∷ t) (map-same f g l d (λ k m. h (suc k) (omega arith))))
+
 module _ {A B : Type 0} (f : A → List B) (n : ℕ) (some : 0 < n) (long : (x : A) → length (f x) ≡ n) where
   pub length-flatMap : (xs : List A) → length (flatMap f xs) ≡ length xs * n
   unfolding flatMap

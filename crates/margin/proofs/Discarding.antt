@@ -1,8 +1,8 @@
 -- Scenarios that their estimates rule out can be passed over: the first largest loss over the rest is that over all.
 use mathlib.Core.Path.{_≡_, refl, ap}
 use mathlib.Core.Bool.{Bool, true, false, cond}
-use mathlib.Core.List.{List, [], _∷_, map}
-use Prim.Native.Nat.{ℕ, suc, _+_, _-_, _≤_, _<_}
+use mathlib.Core.List.{List, map}
+use Prim.Native.Nat.{ℕ, _+_, _-_, _≤_, _<_}
 use borrow.Author.Count.{below-more}
 use native.Mathlib.Omega.{arith}
 use lib.Dec.{eqb}
@@ -16,7 +16,7 @@ use Rattle.laws.specs.Worst.{worst}
 use Rattle.laws.proofs.Integer.{int, lt-show, plus, up-pos, down-pos, up-neg, down-neg}
 use Rattle.laws.proofs.Largest.{upFrom, Leads, leads-worst}
 use Rattle.laws.proofs.Every.{every-at}
-use Rattle.laws.proofs.Lists.{mapFirst-done}
+use Rattle.laws.proofs.Lists.{map-same, mapFirst-done}
 use Rattle.curve.specs.declared.Node.{Node}
 use Rattle.curve.specs.declared.Curve.{Curve}
 use Rattle.curve.specs.declared.Scenario.{Scenario}
@@ -141,10 +141,6 @@ module _ (values : List ℤ) where
     least-same k = record { within = omega (arith, h .within); least = below-more _ s (h .least) k }
 
 -- ---- two scenarios that give the nodes the same rates
-
-map-same : {A B : Type 0} (f g : A → B) (l : List A) (d : A) → ((k : ℕ) → k < length l → f (getD l k d) ≡ g (getD l k d)) → map f l ≡ map g l
-map-same f g [] d h = refl
-map-same {A} {B} f g (x ∷ l) d h = rw (h 0 (omega arith)) (ap (λ (t : List B). g x ∷ t) (map-same f g l d (λ k m. h (suc k) (omega arith))))
 
 same-node : (a b : Scenario) (n : Node) → stressed a n .rate ≡ stressed b n .rate → stressed a n ≡ stressed b n
 same-node a b n e = ap (λ r. record { day = n .day; rate = r; first = n .first; second = n .second; third = n .third }) e
