@@ -19,15 +19,15 @@ module _ (text out : List ℕ) where
   unfolding listedOf listedIn
   too-long h = (rw (lt-ltb (length out) (length text) h) refl, rw (lt-ltb (length out) (length text) h) refl)
 
-  pub fits : length text ≤ length out → (Length (length text) ≡ listedOf text (length out)) × (put out 0 text ≡ listedIn text out)
+  pub text-fits : length text ≤ length out → (Length (length text) ≡ listedOf text (length out)) × (put out 0 text ≡ listedIn text out)
   unfolding listedOf listedIn
-  fits h = (rw (le-ltb (length out) (length text) h) refl, put-front out text h ∙ rw (le-ltb (length out) (length text) h) refl)
+  text-fits h = (rw (le-ltb (length out) (length text) h) refl, put-front out text h ∙ rw (le-ltb (length out) (length text) h) refl)
 
   -- the first n bytes of a space that holds the text are copied
   pub copied : (rest : List ℕ) {whole after : List ℕ} {n : ℕ} → n ≡ length text → whole ≡ text ++ rest → n ≤ length out → after ≡ put out 0 (take n whole)
       → (Length n ≡ listedOf text (length out)) × (after ≡ listedIn text out)
   copied rest {whole} {after} {n} e w h c =
-      let p = fits (omega arith) in
+      let p = text-fits (omega arith) in
       let first : take n whole ≡ text = rw (w, e) (take-at text rest (length text) refl) in
       (ap Length e ∙ p .0, c ∙ ap (put out 0) first ∙ p .1)
 

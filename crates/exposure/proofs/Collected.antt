@@ -20,14 +20,14 @@ use Rattle.book.proofs.Accepted.{Sound, accepted-record, trade-count-most}
 use Rattle.margin.specs.Exposure.{flowsOn}
 use Rattle.ladder.specs.Ladder.{scheduleFlows, ladderFlows, LadderLimits}
 use Rattle.ladder.proofs.LadderFlows.{length-schedule}
-use Rattle.exposure.specs.Growth.{InLimits, Grown}
+use Rattle.exposure.specs.Growth.{SchedulesInLimits, Grown}
 use Rattle.exposure.specs.Exposures.{tradeAt, flowsUpTo, flowsIn}
 use Rattle.exposure.proofs.Gathered.{on-append}
 
 pub record Collected (s : List ℕ) (curve : ℕ) (ladder : List ℕ) (n i : ℕ) : Type 0 where
   pub few : n ≤ i * 3
   pub flows : ladderFlows curve ladder n ≡ flowsOn curve (flowsUpTo s i)
-  pub limits : InLimits ladder n
+  pub limits : SchedulesInLimits ladder n
 
 pub more-flows : (s : List ℕ) (i : ℕ) → flowsUpTo s (i + 1) ≡ flowsUpTo s i ++ flowsOf (tradeAt s i)
 unfolding flowsUpTo

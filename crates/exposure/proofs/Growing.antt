@@ -16,7 +16,7 @@ use Rattle.flows.proofs.Above.{any-legs}
 use Rattle.margin.specs.Exposure.{flowsOn}
 use Rattle.ladder.specs.Ladder.{ladderFlows}
 use Rattle.exposure.specs.Schedules.{scheduleOf, standsOn, withLeg, countWithLeg}
-use Rattle.exposure.specs.Growth.{InLimits, Grown, LegsSound}
+use Rattle.exposure.specs.Growth.{SchedulesInLimits, Grown, LegsSound}
 use Rattle.exposure.proofs.Gathered.{on-append, amounts, push-flows, push-limits, push-few}
 
 length-withLeg : (curve : ℕ) (l : Leg) (ladder : List ℕ) (n : ℕ) → length (withLeg curve l ladder n) ≡ length ladder
@@ -58,9 +58,9 @@ module _ (curve : ℕ) (legs : Legs) (ladder : List ℕ) (n : ℕ) (room : n * 6
       let f₁ : ladderFlows curve x₁ m₁ ≡ ladderFlows curve ladder n ++ flowsOn curve (legFlows (legs .first)) = rw (c₁, w₁) (push-flows curve (legs .first) ladder n r₁) in
       let f₂ : ladderFlows curve x₂ m₂ ≡ ladderFlows curve x₁ m₁ ++ flowsOn curve (legFlows (legs .second)) = rw (c₂, w₂) (push-flows curve (legs .second) x₁ m₁ s₂) in
       let f₃ : ladderFlows curve x₃ m₃ ≡ ladderFlows curve x₂ m₂ ++ flowsOn curve (legFlows (legs .payments)) = rw (c₃, w₃) (push-flows curve (legs .payments) x₂ m₂ r₃) in
-      let l₁ : InLimits ladder n → InLimits x₁ m₁ = rw (c₁, w₁) (push-limits curve (legs .first) ladder n r₁ (sound .reach .first) (amounts _ (within .0))) in
-      let l₂ : InLimits x₁ m₁ → InLimits x₂ m₂ = rw (c₂, w₂) (push-limits curve (legs .second) x₁ m₁ s₂ (sound .reach .second) (amounts _ (within .1))) in
-      let l₃ : InLimits x₂ m₂ → InLimits x₃ m₃ = rw (c₃, w₃) (push-limits curve (legs .payments) x₂ m₂ r₃ (sound .reach .payments) (amounts _ (within .2))) in
+      let l₁ : SchedulesInLimits ladder n → SchedulesInLimits x₁ m₁ = rw (c₁, w₁) (push-limits curve (legs .first) ladder n r₁ (sound .reach .first) (amounts _ (within .0))) in
+      let l₂ : SchedulesInLimits x₁ m₁ → SchedulesInLimits x₂ m₂ = rw (c₂, w₂) (push-limits curve (legs .second) x₁ m₁ s₂ (sound .reach .second) (amounts _ (within .1))) in
+      let l₃ : SchedulesInLimits x₂ m₂ → SchedulesInLimits x₃ m₃ = rw (c₃, w₃) (push-limits curve (legs .payments) x₂ m₂ r₃ (sound .reach .payments) (amounts _ (within .2))) in
       record {
         flows = rw (f₃, f₂, f₁, all-flows) (simp append-assoc);
         limits = λ h. l₃ (l₂ (l₁ h));

@@ -11,13 +11,13 @@ use Rattle.margin.specs.Exposure.{flowsOn}
 use Rattle.ladder.specs.Ladder.{ladderFlows, ScheduleLimits}
 
 -- the first n schedules are in their limits
-abbrev pub InLimits : List ℕ → ℕ → Type 0
-InLimits ladder n = (i : ℕ) → i < n → ScheduleLimits ladder i
+abbrev pub SchedulesInLimits : List ℕ → ℕ → Type 0
+SchedulesInLimits ladder n = (i : ℕ) → i < n → ScheduleLimits ladder i
 
 -- from n schedules to m, by those of the flows that stand on the curve
 pub record Grown (curve : ℕ) (fs : List Flow) (before : List ℕ) (n : ℕ) (after : List ℕ) (m : ℕ) : Type 0 where
   pub flows : ladderFlows curve after m ≡ ladderFlows curve before n ++ flowsOn curve fs
-  pub limits : InLimits before n → InLimits after m
+  pub limits : SchedulesInLimits before n → SchedulesInLimits after m
   pub few : m ≤ n + 3
 
 -- legs in their limits

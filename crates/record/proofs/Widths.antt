@@ -7,7 +7,8 @@ use Rattle.decimal.specs.Product.{unit}
 use Rattle.record.specs.declared.Curves.{Curves}
 use Rattle.record.specs.declared.Fields.{Fields}
 use Rattle.record.specs.Uses.{isOutright, hasSettled, hasSecurity, hasCoupons, isIndexed}
-use Rattle.record.specs.Rules.{lastDay, breaksForm, breaksDays, breaksAmounts}
+use Rattle.ground.specs.Limits.{lastDay}
+use Rattle.record.specs.Rules.{breaksForm, breaksDays, breaksAmounts}
 use Rattle.record.proofs.Facts.{Kind, outright, pool, specified, Formed, formed, Dated, dated, Priced, priced}
 use Rattle.record.proofs.RoundTrip.{Narrow}
 

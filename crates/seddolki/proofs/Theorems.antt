@@ -14,32 +14,32 @@ use Rattle.edit.specs.declared.Edited.{Edited}
 use Rattle.edit.specs.declared.Edited.the-variants as edited
 use Rattle.seddolki.specs.Answers.{verdictAnswer, editedAnswer, valuedAnswer, valuedTolerance}
 
-pub numbered : (g : Ground) → 0 < numberOf g
-numbered Length = lit< tt
-numbered Check = lit< tt
-numbered Place = lit< tt
-numbered Header = lit< tt
-numbered Curve = lit< tt
-numbered Node = lit< tt
-numbered TradeBlock = lit< tt
-numbered Form = lit< tt
-numbered Days = lit< tt
-numbered Amounts = lit< tt
-numbered Currency = lit< tt
-numbered FlowLimit = lit< tt
-numbered ReportSpace = lit< tt
-numbered Position = lit< tt
-numbered BookSpace = lit< tt
-numbered ValueRange = lit< tt
+pub number-above-zero : (g : Ground) → 0 < numberOf g
+number-above-zero Length = lit< tt
+number-above-zero Check = lit< tt
+number-above-zero Place = lit< tt
+number-above-zero Header = lit< tt
+number-above-zero Curve = lit< tt
+number-above-zero Node = lit< tt
+number-above-zero TradeBlock = lit< tt
+number-above-zero Form = lit< tt
+number-above-zero Days = lit< tt
+number-above-zero Amounts = lit< tt
+number-above-zero Currency = lit< tt
+number-above-zero FlowLimit = lit< tt
+number-above-zero ReportSpace = lit< tt
+number-above-zero Position = lit< tt
+number-above-zero BookSpace = lit< tt
+number-above-zero ValueRange = lit< tt
 
 pub done-accepted : (v : Verdict) → verdictAnswer v .number ≡ 0 → v ≡ verdict.Accepted
 done-accepted verdict.Accepted done = refl
-done-accepted (verdict.Refused g block) done = absurd (omega (arith, numbered g))
+done-accepted (verdict.Refused g block) done = absurd (omega (arith, number-above-zero g))
 
 pub done-used : (e : Edited) → editedAnswer e .number ≡ 0 → e ≡ edited.Used (editedAnswer e .value)
 done-used (edited.Used used) done = refl
-done-used (edited.Refused g block) done = absurd (omega (arith, numbered g))
+done-used (edited.Refused g block) done = absurd (omega (arith, number-above-zero g))
 
 pub done-worth : (v : Valued) → valuedAnswer v .number ≡ 0 → v ≡ valued.Worth (valuedAnswer v .value) (valuedTolerance v)
 done-worth (valued.Worth value tolerance) done = refl
-done-worth (valued.Refused g block) done = absurd (omega (arith, numbered g))
+done-worth (valued.Refused g block) done = absurd (omega (arith, number-above-zero g))

@@ -9,7 +9,7 @@ use Rattle.sieve.proofs.Exponents.{Low, High}
 use Rattle.sieve.proofs.Ratios.{low-product, high-product}
 use Rattle.sieve.proofs.Rows.{whole-is, whole-pos, middle-le, upper-le, power-row-le}
 use Rattle.sieve.proofs.PowerRows.{middle-row-low, middle-row-high, upper-row-low, upper-row-high}
-use Rattle.sieve.proofs.LowDigits.{line-low, line-high}
+use Rattle.sieve.proofs.LowDigits.{digits-low, digits-high}
 
 whole-product-le : (a b : ℕ) → a ≤ whole → b ≤ whole → a * b / 2147483648 ≤ whole
 unfolding whole
@@ -39,7 +39,7 @@ module _ (x : ℕ) where
   unfolding antilog whole
   antilog-low =
       let two = low-product whole whole-pos _ _ _ _ (upper-row-low upper) (middle-row-low middle) in
-      let three = low-product whole whole-pos _ _ _ _ two (line-low lowest (omega arith)) in
+      let three = low-product whole whole-pos _ _ _ _ two (digits-low lowest (omega arith)) in
       rw digits at three
 
   pub antilog-high : upper ≤ 480 → High whole (antilog x + 24) x
@@ -47,5 +47,5 @@ module _ (x : ℕ) where
   antilog-high few =
       let two = high-product whole whole-pos _ _ 5 9 _ _ (power-row-le upperBase upper-le upper) (power-row-le middleBase middle-le middle) (lit≤ tt)
       (upper-row-high upper few) (middle-row-high middle (omega arith)) in
-      let three = high-product whole whole-pos _ _ 16 6 _ _ rows-le (omega arith) (lit≤ tt) two (line-high lowest (omega arith)) in
+      let three = high-product whole whole-pos _ _ 16 6 _ _ rows-le (omega arith) (lit≤ tt) two (digits-high lowest (omega arith)) in
       rw digits at three

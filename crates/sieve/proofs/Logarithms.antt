@@ -8,7 +8,7 @@ use Rattle.discount.specs.Discount.{million}
 use Rattle.sieve.specs.Cheap.{scale, baseNum, baseDen, logOf, logAt}
 use Rattle.sieve.proofs.Exponents.{Logged, scale-is}
 use Rattle.sieve.proofs.Ratios.{ratio-most, ratio-least, logged-none, logged-more, logged-wide}
-use Rattle.sieve.proofs.Rows.{stepOf, step-le, part-le, log-step, row-le}
+use Rattle.sieve.proofs.Rows.{stepOf, step-le, row-part-le, log-step, row-le}
 
 -- ---- what is known of a step d from m
 
@@ -49,7 +49,7 @@ module _ (m d : ℕ) (s : Step m d) where
     part = d * j / 64
 
     part-few : part ≤ 562931939
-    part-few = part-le d j (s .few) l
+    part-few = row-part-le d j (s .few) l
 
     part-cut : part * (2 * m + 64) ≤ 17592186044416 * j
     part-cut =

@@ -40,14 +40,14 @@ module _ (x : ℕ) (l : x < 536870912) where
   left : p + x ≡ 17592186044416
   left = omega arith
 
-  pub line-low : Low whole (2147483647 - x / 4096) x
+  pub digits-low : Low whole (2147483647 - x / 4096) x
   unfolding whole
-  line-low =
+  digits-low =
       scaled-low whole (2147483647 - x / 4096) p (p + 2 * x) x (omega arith) (base-low x p (left ∙ sym scale-is))
       (under-line (2147483647 - x / 4096) (x / 4096) p x (omega arith) left (omega arith) (omega arith))
 
-  pub line-high : High whole (2147483647 - x / 4096 + 6) x
+  pub digits-high : High whole (2147483647 - x / 4096 + 6) x
   unfolding whole
-  line-high =
+  digits-high =
       scaled-high whole (2147483647 - x / 4096 + 6) (16385 + p + 2 * x) (16385 + p) x (omega arith) (base-high x p 16385 (left ∙ sym scale-is) square)
       (over-line (2147483647 - x / 4096) (x / 4096) p x (omega arith) left (omega arith) (omega arith) l)

@@ -87,8 +87,8 @@ log-le zero = zero-le
 log-le (suc i) = omega (arith, log-le i, step-le (million + 64 * i) (omega arith))
 
 -- on the line between two rows
-pub part-le : (d j : ℕ) → d ≤ 562931939 → j < 64 → d * j / 64 ≤ 562931939
-part-le d j l h = div-le-of-le-mul 64 (mul-le-mul l (le-of-lt h))
+pub row-part-le : (d j : ℕ) → d ≤ 562931939 → j < 64 → d * j / 64 ≤ 562931939
+row-part-le d j l h = div-le-of-le-mul 64 (mul-le-mul l (le-of-lt h))
 
 module _ (r : ℕ) (l : r ≤ 1000000) where
   pub row-le : r / 64 ≤ 15625
@@ -99,7 +99,7 @@ module _ (r : ℕ) (l : r ≤ 1000000) where
   unfolding logAt
   log-at-le =
       let i : ℕ = r / 64 in
-      rw log-step (omega (arith, log-le i, row-le, part-le _ (r % 64) (step-le (million + 64 * i) (omega arith)) (omega arith)))
+      rw log-step (omega (arith, log-le i, row-le, row-part-le _ (r % 64) (step-le (million + 64 * i) (omega arith)) (omega arith)))
 
   -- the rows of the table of upper digits are enough
   pub exponent-le : (days : ℕ) → days ≤ 10950 → logAt r * days / 365 / 549755813888 ≤ 480

@@ -48,7 +48,7 @@ trade-fields-trade (Specified t) = rw (repo-security 3 t (t .security) refl)
 -- ---- from fields to a trade and back
 
 -- what the rules 8 and 10 leave
-pub record Sound (curves : Curves) (f : Fields) : Type 0 where
+pub record FormAndAmounts (curves : Curves) (f : Fields) : Type 0 where
   pub form : Formed curves (f .form)
   pub amounts : Priced (f .form) (f .days) (f .amounts)
 
@@ -66,7 +66,7 @@ partIn f = record {
   issue = f .amounts .issue;
 }
 
-module _ {curves : Curves} (f : Fields) (r : Sound curves f) where
+module _ {curves : Curves} (f : Fields) (r : FormAndAmounts curves f) where
   -- the security by its number
   part-at : (number : ℕ) → f .form .security ≡ number → number ≤ 3 → partOf (securityOf f) ≡ partIn f
   unfolding securityOf
@@ -165,7 +165,7 @@ module _ {curves : Curves} (f : Fields) (r : Sound curves f) where
 pub fields-trade-fields : (curves : Curves) (f : Fields) → breaksForm curves (f .form) ≡ false → breaksAmounts (f .form) (f .days) (f .amounts) ≡ false
     → fieldsOfTrade (tradeOf f) ≡ f
 fields-trade-fields curves f form amounts =
-    let r : Sound curves f = record { form = formed curves (f .form) form; amounts = priced (f .form) (f .days) (f .amounts) amounts } in
+    let r : FormAndAmounts curves f = record { form = formed curves (f .form) form; amounts = priced (f .form) (f .days) (f .amounts) amounts } in
     trade-at f r (r .form .kinds)
 
 -- ---- and of the 56 bytes
