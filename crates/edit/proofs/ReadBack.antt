@@ -5,7 +5,7 @@ use Prim.Native.Nat.{ℕ, _+_, _*_, _/_, _%_, _<_}
 use native.Mathlib.Omega.{arith}
 use Rattle.ground.specs.declared.Verdict.the-variants.{Accepted}
 use Rattle.layout.specs.Bytes.{AreBytes}
-use Rattle.record.proofs.RoundTrip.{fields-bytes-fields, length-record}
+use Rattle.record.proofs.RoundTrip.{fields-bytes-fields, length-recordBytes}
 use Rattle.record.proofs.Widths.{rules-narrow}
 use Rattle.trade.specs.declared.Trade.{Trade}
 use Rattle.trade.specs.Write.{fieldsOfTrade}
@@ -32,12 +32,12 @@ trade-reads-back s used t w =
     let narrow = rules-narrow (curvesOf s) f few (rules .form) (rules .days) (rules .amounts) in
     let judged : bytesVerdict (curvesOf s) r (blockOf s (tradeCount s)) ≡ Accepted = rw (fields-bytes-fields f narrow) (w .unbroken) in
     let taken = admits s used r (record { accepted = w .accepted; judged = judged; roomy = w .room }) in
-    let written = append-read-last s used (w .bytes) r (length-record f) taken in
+    let written = append-read-last s used (w .bytes) r (length-recordBytes f) taken in
     record {
       taken = taken;
       written = written;
       same = ap (λ (x : Found). tradeOfRecord (x .bytes)) written ∙ trade-bytes-trade t narrow;
-      earlier = append-read-earlier s used (w .bytes) r (length-record f) taken;
+      earlier = append-read-earlier s used (w .bytes) r (length-recordBytes f) taken;
     }
 
 -- ---- an accepted record rewritten

@@ -9,7 +9,7 @@ use Rattle.record.specs.declared.Fields.{Fields}
 use Rattle.record.specs.Uses.{isOutright, hasSettled, hasSecurity, hasCoupons, isIndexed}
 use Rattle.ground.specs.Limits.{lastDay}
 use Rattle.record.specs.Rules.{breaksForm, breaksDays, breaksAmounts}
-use Rattle.record.proofs.Facts.{Kind, outright, pool, specified, Formed, formed, Dated, dated, Priced, priced}
+use Rattle.record.proofs.Facts.{Kind, outright, pool, specified, Formed, formed, DaysKept, days-kept, Priced, priced}
 use Rattle.record.proofs.RoundTrip.{Narrow}
 
 -- what holds where a test is passed and where it is not
@@ -17,7 +17,7 @@ either-way : {P : Type 0} (test : Bool) → (test ≡ true → P) → (test ≡ 
 either-way true holds fails = holds refl
 either-way false holds fails = fails refl
 
-module _ {curves : Curves} (f : Fields) (few : curves .count < 256) (r : Formed curves (f .form)) (d : Dated (f .form) (f .days)) (a : Priced (f .form) (f .days) (f .amounts)) where
+module _ {curves : Curves} (f : Fields) (few : curves .count < 256) (r : Formed curves (f .form)) (d : DaysKept (f .form) (f .days)) (a : Priced (f .form) (f .days) (f .amounts)) where
   kinds : Kind (f .form) → (f .form .kind < 256) × (f .form .phase < 256)
   kinds (outright k p) = (omega arith, omega arith)
   kinds (pool k p) = (omega (arith, p .high), omega (arith, p .high))
@@ -61,4 +61,4 @@ module _ {curves : Curves} (f : Fields) (few : curves .count < 256) (r : Formed 
 pub rules-narrow : (curves : Curves) (f : Fields) → curves .count < 256 → breaksForm curves (f .form) ≡ false → breaksDays (f .form) (f .days) ≡ false
     → breaksAmounts (f .form) (f .days) (f .amounts) ≡ false → Narrow f
 rules-narrow curves f few form days amounts =
-    narrowed f few (formed curves (f .form) form) (dated (f .form) (f .days) days) (priced (f .form) (f .days) (f .amounts) amounts)
+    narrowed f few (formed curves (f .form) form) (days-kept (f .form) (f .days) days) (priced (f .form) (f .days) (f .amounts) amounts)

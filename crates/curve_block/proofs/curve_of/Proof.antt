@@ -37,7 +37,8 @@ loop-again c =
 returns : tie.Need-returns Inv-loop μ-loop
 unfolding curveOf
 returns c =
-    let b = c .before .before .before .before .args .b .now in
+    let after-shared-slice-known = c .before .before .before in
+    let b = after-shared-slice-known .before .args .b .now in
     let inv = c .before .before .loop .inv in
     let done : c .before .before .loop .i ≡ 24 = omega arith in
     rw (

@@ -7,7 +7,8 @@ use Rattle.layout.proofs.put_i64.Tie as tie
 
 returns : tie.Need-returns
 returns c =
-    let s = c .before .before .before .before .before .before in
+    let after-bits-of = c .before .before .before in
+    let s = after-bits-of .before .before .before in
     c .before .before .put-le .ensures
     ∙ rw (c .before .before .before .bits-of .ensures, code-read (s .args .v) (s .fits .v))
 

@@ -8,8 +8,9 @@ use Rattle.layout.proofs.u16_at.Tie as tie
 
 returns : tie.Need-returns
 returns c =
-    let s = c .before .before .before .before .before .args .s .now in
-    let at = c .before .before .before .before .before .args .at in
+    let after-shared-slice-known2 = c .before .before .before in
+    let s = after-shared-slice-known2 .before .before .args .s .now in
+    let at = after-shared-slice-known2 .before .before .args .at in
     omega (arith, field-add 1 1 s at, field-byte s at, field-byte s (at + 1))
 
 pub u16-at-spec : {M : Type 1} → statement M

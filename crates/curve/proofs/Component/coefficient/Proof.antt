@@ -14,16 +14,21 @@ sub-result : tie.Need-sub-result
 sub-result c = let h = c .before .before .before .pre in rw (code-step _ _ h) (fits _ (omega (arith, step-fits _ _ h)))
 
 mul-result : tie.Need-mul-result
-mul-result c = let h = c .before .before .before .before .pre in rw (code-scaled _ _ h) (fits _ (omega (arith, scaled-fits _ _ h)))
+mul-result c =
+    let after-struct-known = c .before .before .before in
+    let h = after-struct-known .before .pre in
+    rw (code-scaled _ _ h) (fits _ (omega (arith, scaled-fits _ _ h)))
 
 div-result : tie.Need-div-result
 div-result c =
-    let h = c .before .before .before .before .pre in
+    let after-struct-known = c .before .before .before in
+    let h = after-struct-known .before .pre in
     (search needs, rw (code-coefficient _ _ h (search needs)) (fits _ (omega (arith, coefficient-fits _ _ h))))
 
 returns-2 : tie.Need-returns-2
 returns-2 c =
-    let h = c .before .before .before .before .pre in
+    let after-struct-known = c .before .before .before in
+    let h = after-struct-known .before .pre in
     rw (code-coefficient _ _ h (search needs)) (read-is _ (omega (arith, coefficient-fits _ _ h)))
 
 pub coefficient-spec : {M : Type 1} → statement M

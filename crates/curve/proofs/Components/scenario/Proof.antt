@@ -12,35 +12,44 @@ use Rattle.curve.proofs.Components.scenario.Tie as tie
 
 mul-slow : tie.Need-mul-slow
 mul-slow c =
-    rw (c .coefficient-count2 .ensures, c .before .coefficient-count .ensures) (record { fits = omega (arith, slow-most _ (c .before .before .before .before .before .pre .0)) })
+    let after-b = c .before .before .before in
+    rw (c .coefficient-count2 .ensures, c .before .coefficient-count .ensures) (record { fits = omega (arith, slow-most _ (after-b .before .before .pre .0)) })
 
 div-high : tie.Need-div-high
 div-high c =
-    rw (c .coefficient-count2 .ensures, c .before .coefficient-count .ensures) (slow-some (c .before .before .before .before .before .args .self))
+    let after-b = c .before .before .before in
+    rw (c .coefficient-count2 .ensures, c .before .coefficient-count .ensures) (slow-some (after-b .before .before .args .self))
 
 rem-rest : tie.Need-rem-rest
 rem-rest c =
-    rw (c .coefficient-count2 .ensures, c .before .coefficient-count .ensures) (slow-some (c .before .before .before .before .before .args .self))
+    let after-b = c .before .before .before in
+    rw (c .coefficient-count2 .ensures, c .before .coefficient-count .ensures) (slow-some (after-b .before .before .args .self))
 
 coefficient-requires : tie.Need-coefficient-requires
 coefficient-requires c κs =
-    let s = c .before .before .before .before .before in
+    let after-b = c .before .before .before in
+    let s = after-b .before .before in
     rw (c .coefficient-count2 .ensures, c .before .coefficient-count .ensures) (s .pre .0 .first, first-in (s .args .self) _ (s .pre .1))
 
 coefficient-requires-2 : tie.Need-coefficient-requires-2
 coefficient-requires-2 c κs =
-    let s = c .before .before .before .before .before .before in
+    let after-c = c .before .before .before in
+    let s = after-c .before .before .before in
     rw (c .before .coefficient-count2 .ensures, c .before .before .coefficient-count .ensures) (s .pre .0 .second, second-in (s .args .self) _ (s .pre .1))
 
 coefficient-requires-3 : tie.Need-coefficient-requires-3
 coefficient-requires-3 c κs =
-    let s = c .before .before .before .before .before .before .before in
+    let after-coefficient-count = c .before .before .before in
+    let after-a = after-coefficient-count .before .before .before in
+    let s = after-a .before in
     rw (c .before .before .coefficient-count2 .ensures, c .before .before .before .coefficient-count .ensures) (s .pre .0 .third, third-in (s .args .self) _ (s .pre .1))
 
 -- the three coefficients, read back from their bits
 returns : tie.Need-returns
 returns c =
-    let start = c .before .before .before .before .before .before .before .before in
+    let after-coefficient-count2 = c .before .before .before in
+    let after-b = after-coefficient-count2 .before .before .before in
+    let start = after-b .before .before in
     let p = start .pre in
     let x = start .args .self in
     let s = start .args .s in

@@ -7,11 +7,13 @@ use Rattle.curve.proofs.Components.scenario_count.Tie as tie
 
 mul-result : tie.Need-mul-result
 mul-result c =
-    rw (c .before .coefficient-count .ensures, c .coefficient-count2 .ensures) (record { fits = omega (arith, two-most _ (c .before .before .before .before .before .pre)) })
+    let after-b = c .before .before .before in
+    rw (c .before .coefficient-count .ensures, c .coefficient-count2 .ensures) (record { fits = omega (arith, two-most _ (after-b .before .before .pre)) })
 
 mul-result-2 : tie.Need-mul-result-2
 mul-result-2 c =
-    rw (c .before .before .coefficient-count .ensures, c .before .coefficient-count2 .ensures, c .coefficient-count3 .ensures) (record { fits = omega (arith, scenarios-most _ (c .before .before .before .before .before .before .pre)) })
+    let after-c = c .before .before .before in
+    rw (c .before .before .coefficient-count .ensures, c .before .coefficient-count2 .ensures, c .coefficient-count3 .ensures) (record { fits = omega (arith, scenarios-most _ (after-c .before .before .before .pre)) })
 
 returns : tie.Need-returns
 returns c =

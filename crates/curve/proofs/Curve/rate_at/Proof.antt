@@ -20,24 +20,31 @@ loop-holds c = passed-first _ _ (c .before .before .before .pre) (c .if1 .left)
 
 interpolate-requires : tie.Need-interpolate-requires Inv-loop μ-loop
 interpolate-requires c κs =
-    let l = c .before .before .before .before in
-    passed-between _ _ (l .before .before .before .before .pre) _ _ (l .loop .inv) (search needs) (c .if2 .taken)
+    let in-loop = c .before .before .before in
+    let l = in-loop .before in
+    let after-a = l .before .before .before in
+    passed-between _ _ (after-a .before .pre) _ _ (l .loop .inv) (search needs) (c .if2 .taken)
 
 returns-2 : tie.Need-returns-2 Inv-loop μ-loop
 returns-2 c =
-    let l = c .before .before .before .before .before in
+    let after-b = c .before .before .before in
+    let l = after-b .before .before in
+    let after-a = l .before .before .before in
     c .interpolate .ensures
-    ∙ sym (passed-interpolated _ _ (l .before .before .before .before .pre) _ _ (l .loop .inv) (search needs) (c .before .if2 .taken))
+    ∙ sym (passed-interpolated _ _ (after-a .before .pre) _ _ (l .loop .inv) (search needs) (c .before .if2 .taken))
 
 loop-again : tie.Need-loop-again Inv-loop μ-loop
 loop-again c =
-    let l = c .before .before .before .before in
-    passed-next _ _ (l .before .before .before .before .pre) _ _ (l .loop .inv) (search needs) (c .if2 .left)
+    let in-loop = c .before .before .before in
+    let l = in-loop .before in
+    let after-a = l .before .before .before in
+    passed-next _ _ (after-a .before .pre) _ _ (l .loop .inv) (search needs) (c .if2 .left)
 
 returns-3 : tie.Need-returns-3 Inv-loop μ-loop
 returns-3 c =
     let l = c .before in
-    sym (passed-all _ _ (l .before .before .before .before .pre) _ _ (l .loop .inv) (search needs))
+    let after-a = l .before .before .before in
+    sym (passed-all _ _ (after-a .before .pre) _ _ (l .loop .inv) (search needs))
 
 pub rate-at-spec : {M : Type 1} → statement M
 rate-at-spec =

@@ -37,7 +37,8 @@ loop-holds c = (search needs, search needs, refl, rw (sub-zero, c .node-count .e
 
 returns : tie.Need-returns Inv-loop μ-loop
 returns c =
-    let at-loop = c .before .before .before .before in
+    let in-loop = c .before .before .before in
+    let at-loop = in-loop .before in
     let b = at-loop .before .before .before .args .b .now in
     let sound = sound-is b (at-loop .loop .i) _ _ (c .before .node-sound .result) (at-loop .loop .inv .2) (c .before .before .node-at .ensures) (c .before .node-sound .ensures) in
     sym (at-loop .loop .inv .3
@@ -45,7 +46,8 @@ returns c =
 
 loop-again : tie.Need-loop-again Inv-loop μ-loop
 loop-again c =
-    let at-loop = c .before .before .before .before in
+    let in-loop = c .before .before .before in
+    let at-loop = in-loop .before in
     let b = at-loop .before .before .before .args .b .now in
     let sound = sound-is b (at-loop .loop .i) _ _ (c .before .node-sound .result) (at-loop .loop .inv .2) (c .before .before .node-at .ensures) (c .before .node-sound .ensures) in (
       search needs,
@@ -56,7 +58,9 @@ loop-again c =
     )
 
 returns-2 : tie.Need-returns-2 Inv-loop μ-loop
-returns-2 c = sym (c .before .loop .inv .3 ∙ rw (every-end (soundAt (c .before .before .before .before .args .b .now)) _ _ (c .loop-test .left)))
+returns-2 c =
+    let after-shared-slice-known = c .before .before .before in
+    sym (c .before .loop .inv .3 ∙ rw (every-end (soundAt (after-shared-slice-known .before .args .b .now)) _ _ (c .loop-test .left)))
 
 pub breaks-node-spec : {M : Type 1} → statement M
 breaks-node-spec =

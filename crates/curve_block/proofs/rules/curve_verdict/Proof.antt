@@ -13,7 +13,7 @@ use Rattle.curve_block.proofs.rules.curve_verdict.Tie as tie
 
 module _ (c : tie.After-or-if3) where
   abbrev start : tie.Start
-  start = let place = c .before .before .before in place .before .before .before .before
+  start = let place = c .before .before .before in let after-shared-slice-known = place .before .before .before in after-shared-slice-known .before
 
   -- grounds 2, 3 and 5
   so-far : c .or-if3 .result ≡ inTurn Accepted (start .args .k) (take 3 (curveRules (start .args .b .now) (start .args .k)))

@@ -24,7 +24,8 @@ loop-holds c = (search needs, search needs, rw (sub-zero, c .node-count .ensures
 
 returns : tie.Need-returns Inv-loop μ-loop
 returns c =
-    let at-loop = c .before .before .before .before in
+    let in-loop = c .before .before .before in
+    let at-loop = in-loop .before in
     let b = at-loop .before .before .before .args .b .now in
     let i = at-loop .loop .i in
     let e : c .before .u16-at .result ≡ u16At b (nodePlace i + 2) = c .before .u16-at .ensures .0 ∙ rw (c .before .before .node-place .ensures) in
@@ -33,7 +34,8 @@ returns c =
 
 loop-again : tie.Need-loop-again Inv-loop μ-loop
 loop-again c =
-    let at-loop = c .before .before .before .before in
+    let in-loop = c .before .before .before in
+    let at-loop = in-loop .before in
     let b = at-loop .before .before .before .args .b .now in
     let i = at-loop .loop .i in
     let e : c .before .u16-at .result ≡ u16At b (nodePlace i + 2) = c .before .u16-at .ensures .0 ∙ rw (c .before .before .node-place .ensures) in (
@@ -44,7 +46,9 @@ loop-again c =
     )
 
 returns-2 : tie.Need-returns-2 Inv-loop μ-loop
-returns-2 c = sym (c .before .loop .inv .2 ∙ every-end (gapZero (c .before .before .before .before .args .b .now)) _ _ (c .loop-test .left))
+returns-2 c =
+    let after-shared-slice-known = c .before .before .before in
+    sym (c .before .loop .inv .2 ∙ every-end (gapZero (after-shared-slice-known .before .args .b .now)) _ _ (c .loop-test .left))
 
 pub gaps-zero-spec : {M : Type 1} → statement M
 gaps-zero-spec =

@@ -22,7 +22,9 @@ fits-third s = search needs
 returns : tie.Need-returns
 unfolding nodeSound
 returns c =
-    let s = c .before .before .before .before .before .before .before .before .before in
+    let after-struct-told2 = c .before .before .before in
+    let after-struct-known3 = after-struct-told2 .before .before .before in
+    let s = after-struct-known3 .before .before .before in
     let first : read (s .args .n .first) ≡ s .args .n .first = toZ-ofZ (fits-first s) in
     let second : read (s .args .n .second) ≡ s .args .n .second = toZ-ofZ (fits-second s) in
     let third : read (s .args .n .third) ≡ s .args .n .third = toZ-ofZ (fits-third s) in
