@@ -41,12 +41,5 @@ returns-2 c =
 pub list-text-spec : {M : Type 1} → statement M
 list-text-spec =
     tie.close
-    (tie.spec
-    (λ c. search needs)
-    (λ c κs. search needs)
-    returns
-    (λ c. search needs)
-    slice-aggregate-copy-in
-    copy-in-requires
-    (λ c. search needs)
+    (tie.spec (λ c. search needs) (λ c κs. search needs) returns (λ c. search needs) slice-aggregate-copy-in copy-in-requires (λ c. search needs)
     returns-2)

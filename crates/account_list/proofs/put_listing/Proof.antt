@@ -46,16 +46,5 @@ returns-2 c =
 pub put-listing-spec : {M : Type 1} → statement M
 put-listing-spec =
     tie.close
-    (tie.spec
-    (λ c κs. search needs)
-    (λ c. search needs)
-    (λ c κs. search needs)
-    (λ c κs. search needs)
-    (λ c. search needs)
-    margin-of-book-requires
-    curve-count-requires
-    write-listing-requires
-    (λ c. search needs)
-    returns
-    (λ c. search needs)
-    returns-2)
+    (tie.spec (λ c κs. search needs) (λ c. search needs) (λ c κs. search needs) (λ c κs. search needs) (λ c. search needs) margin-of-book-requires
+    curve-count-requires write-listing-requires (λ c. search needs) returns (λ c. search needs) returns-2)
