@@ -15,7 +15,7 @@ use Rattle.curve.specs.declared.Node.{Node}
 use Rattle.curve.specs.declared.Curve.{Curve}
 use Rattle.curve.specs.Rates.{nodesOf, interpolated, Between, rateFrom, rateAt}
 use Rattle.curve.specs.Limits.{highestRate, Limits, Proper, zeroNode}
-use Rattle.curve.proofs.Interpolation.{interpolated-low, interpolated-high, interpolated-monotone}
+use Rattle.curve.proofs.Interpolation.{interpolated-high, interpolated-monotone}
 
 -- ---- what holds of every node's rate, and of what is interpolated between two such, holds on every day
 
@@ -37,9 +37,6 @@ module _ (P : ℕ → Type 0) (closed : (a b : Node) (t : ℕ) → Between a b t
       go : (q : Bool) → ltb t (a .day) ≡ q → P (cond q (a .rate) (rateFrom a ns t))
       go true e = h .0
       go false e = from-such a ns t (h .0) (ltb-false t (a .day) e) (h .1)
-
-pub rate-low : (m : ℕ) (a : Node) (ns : List Node) (t : ℕ) → All (λ n. m ≤ n .rate) (a ∷ ns) → m ≤ rateAt (a ∷ ns) t
-rate-low m a ns t h = rate-such (λ r. m ≤ r) (λ a b t i p q. interpolated-low a b t i m p q) a ns t h
 
 pub rate-high : (m : ℕ) (ns : List Node) (t : ℕ) → All (λ n. n .rate ≤ m) ns → rateAt ns t ≤ m
 unfolding rateAt

@@ -8,7 +8,7 @@ use native.Mathlib.Omega.{arith}
 use lib.Dec.{T, ltb, ltb→lt, nltb→le}
 use lib.IntN.{ℤ, pos, negsuc, negℤ, natAbs, subℕ, _+ℤ_, _-ℤ_, _*ℤ_}
 use lib.Signed.{mag, nonNeg, quotZ}
-use mir.Syntax.{w32, w64}
+use mir.Syntax.{w64}
 use mir.Val.{Fits, SFits, toZ, ofZ}
 use mir.Facts.{toZ-ofZ, toZ-pos}
 
@@ -33,10 +33,6 @@ cast-is n h = toZ-pos w64 h
 
 pub read-is : (z : ℤ) → natAbs z < 2 ^ 63 → read z ≡ z
 read-is z h = toZ-ofZ {w = w64} {z = z} (fits z h)
-
--- what a cast to u32 asks, of a number that is not negative
-pub to-u32 : (z : ℤ) → z ≡ pos (natAbs z) → natAbs z < 2 ^ 32 → T (nonNeg (read z)) × Fits w32 (natAbs (read z))
-to-u32 z e h = rw (read-is z (omega arith)) (rw e tt, record { fits = h })
 
 -- ---- the size of each operation's result
 

@@ -139,12 +139,6 @@ put-whole s bs h =
     let e : length (put s 0 bs) ≡ length bs = length-put s 0 bs ∙ sym h in
     sym (part-all (put s 0 bs)) ∙ rw e (part-put s 0 bs l)
 
--- a part of it
-pub part-of-put : (s : List ℕ) (at : ℕ) (bs : List ℕ) (k n : ℕ) → at + length bs ≤ length s → k + n ≤ length bs → part (put s at bs) (at + k) n ≡ part bs k n
-part-of-put s at bs k n h l =
-    part-same (put s at bs) (at + k) bs k n (rw length-put (omega arith)) l
-    (λ j b. ap (byteAt (put s at bs)) (omega arith) ∙ byte-put s at bs (k + j) h (omega arith))
-
 -- a part apart from it is as it was
 pub part-apart : (s : List ℕ) (at : ℕ) (bs : List ℕ) (k n : ℕ) → k + n ≤ length s → (k + n ≤ at) ⊎ (at + length bs ≤ k) → part (put s at bs) k n ≡ part s k n
 part-apart s at bs k n h apart =
@@ -197,22 +191,10 @@ part-front xs s n h = take-at xs s n h
 -- ---- a block changed
 
 module _ (f : List ℕ → List ℕ) (s : List ℕ) (at : ℕ) where
-  pub length-onBlock : length (onBlock f s at) ≡ length s
-  unfolding onBlock
-  length-onBlock = length-put s at (f (part s at 512))
-
   -- what a call leaves that was lent the block and changed it so
   pub onBlock-lent : at + 512 ≤ length s → length (f (part s at 512)) ≡ 512 → take at s ++ (f (part s at 512) ++ drop 512 (drop at s)) ≡ onBlock f s at
   unfolding onBlock
   onBlock-lent h e = put-lent s at 512 (f (part s at 512)) h e
-
-  pub part-onBlock : at + 512 ≤ length s → length (f (part s at 512)) ≡ 512 → part (onBlock f s at) at 512 ≡ f (part s at 512)
-  unfolding onBlock
-  part-onBlock h e = rw e at (part-put s at (f (part s at 512)) (omega arith))
-
-  pub part-onBlock-apart : (k n : ℕ) → length (f (part s at 512)) ≡ 512 → k + n ≤ length s → (k + n ≤ at) ⊎ (at + 512 ≤ k) → part (onBlock f s at) k n ≡ part s k n
-  unfolding onBlock
-  part-onBlock-apart k n e h apart = part-apart s at (f (part s at 512)) k n h (rw e apart)
 
 -- ---- zeros
 

@@ -10,8 +10,8 @@ use borrow.Author.Tests.{lt-ltb, le-ltb}
 use lib.Dec.{ltb}
 use lib.IntN.{ℤ, pos, negsuc, _-ℤ_}
 use lib.Signed.{mag}
-use lib.ListN.{length, set, drop, List·getD-append}
-use lib.Seq.{getD-drop, getD-append-add, drop-cons}
+use lib.ListN.{length, set, List·getD-append}
+use lib.Seq.{getD-append-add, drop-cons}
 use Rattle.laws.proofs.Signed.{sub-down}
 use Rattle.layout.specs.Bytes.{byteAt, part, put, AreBytes}
 use Rattle.layout.specs.Field.{numberAt, bytesOf, signedOf, twos, i64At}
@@ -55,9 +55,6 @@ pub field-bound : (n : ℕ) (s : List ℕ) (at : ℕ) → AreBytes s → numberA
 unfolding numberAt
 field-bound zero s at h = rw pow-zero (omega arith)
 field-bound (suc n) s at h = rw pow-suc (omega (arith, h at, field-bound n s (suc at) h))
-
-pub field-drop : (n : ℕ) (s : List ℕ) (m k : ℕ) → numberAt n (drop m s) k ≡ numberAt n s (m + k)
-field-drop n s m k = field-same n (drop m s) k s (m + k) (λ j b. getD-drop m s (k + j) 0 ∙ ap (byteAt s) (omega arith))
 
 pub field-part : (n : ℕ) (s : List ℕ) (at m k : ℕ) → k + n ≤ m → numberAt n (part s at m) k ≡ numberAt n s (at + k)
 field-part n s at m k h =

@@ -13,8 +13,8 @@ use Rattle.laws.proofs.Bools.{both}
 use Rattle.layout.specs.Bytes.{byteAt, part, put, AreBytes}
 use Rattle.layout.specs.Field.{numberAt, u16At, u32At, bytesOf}
 use Rattle.layout.specs.Check.{words, checkOf, sealed, breaksCheck, breaksPlace}
-use Rattle.layout.proofs.Bytes.{length-put, byte-apart, part-apart, bytes-put, put-again}
-use Rattle.layout.proofs.Field.{field-same, field-apart, field-put, put-field, length-bytes, bytes-bytes}
+use Rattle.layout.proofs.Bytes.{length-put, byte-apart, part-apart, put-again}
+use Rattle.layout.proofs.Field.{field-same, field-apart, field-put, put-field, length-bytes}
 
 -- ---- what the check reads
 
@@ -54,10 +54,6 @@ pub part-sealed : (b : List ℕ) (k n : ℕ) → 512 ≤ length b → k + n ≤ 
 unfolding sealed
 part-sealed b k n l h = part-apart b 508 (bytesOf 4 (checkOf b)) k n (omega arith) (inl h)
 
-pub bytes-sealed : (b : List ℕ) → AreBytes b → AreBytes (sealed b)
-unfolding sealed
-bytes-sealed b h = bytes-put b 508 (bytesOf 4 (checkOf b)) h (bytes-bytes 4 (checkOf b))
-
 pub check-sealed : (b : List ℕ) → checkOf (sealed b) ≡ checkOf b
 check-sealed b = check-same (sealed b) b (λ k l. byte-sealed b k (inl l))
 
@@ -86,9 +82,6 @@ sealed-again b h = put-again b 508 (bytesOf 4 (checkOf b)) (rw length-bytes h)
 is-sealed : (b : List ℕ) → sealed b ≡ put b 508 (bytesOf 4 (checkOf b))
 unfolding sealed
 is-sealed b = refl
-
-pub sealed-sealed : (b : List ℕ) → 512 ≤ length b → sealed (sealed b) ≡ sealed b
-sealed-sealed b h = is-sealed (sealed b) ∙ rw (check-sealed b) (sealed-again b h)
 
 -- ---- the place
 

@@ -48,9 +48,6 @@ few (keep l) = omega (arith, few l)
 pub listed-below : (nets : List ℤ) → All (λ d. d < length nets) (listed nets)
 listed-below nets = below (length nets) (omega arith) (listing 0 nets)
 
-pub listed-length : (nets : List ℤ) → length (listed nets) ≤ length nets
-listed-length nets = few (listing 0 nets)
-
 -- ---- sums over all days
 
 -- the net amounts xs stand in nets from day i on

@@ -12,7 +12,9 @@ signs-of-requires c κs =
     (omega arith, (omega arith, (omega arith, (l .sides .low, l .sides .high))))
 
 outright-legs-requires : tie.Need-outright-legs-requires
-outright-legs-requires c κs = subst TradeLimits (c .before .before .t .given .1) (c .before .before .before .before .pre)
+outright-legs-requires c κs =
+    let at-match-keys1 = c .before .before .before in
+    subst TradeLimits (c .before .before .t .given .1) (at-match-keys1 .before .pre)
 
 signs-of-requires-2 : tie.Need-signs-of-requires-2
 signs-of-requires-2 c κs =
@@ -20,7 +22,9 @@ signs-of-requires-2 c κs =
     (omega arith, (omega arith, (l .phases, (l .sides .low, l .sides .high))))
 
 repo-legs-requires : tie.Need-repo-legs-requires
-repo-legs-requires c κs = subst TradeLimits (c .before .before .t2 .given .1) (c .before .before .before .before .pre)
+repo-legs-requires c κs =
+    let at-match-keys2 = c .before .before .before in
+    subst TradeLimits (c .before .before .t2 .given .1) (at-match-keys2 .before .pre)
 
 signs-of-requires-3 : tie.Need-signs-of-requires-3
 signs-of-requires-3 c κs =
@@ -28,7 +32,9 @@ signs-of-requires-3 c κs =
     (omega arith, (omega arith, (l .phases, (l .sides .low, l .sides .high))))
 
 repo-legs-requires-2 : tie.Need-repo-legs-requires-2
-repo-legs-requires-2 c κs = subst TradeLimits (c .before .before .t3 .given .1) (c .before .before .before .before .pre)
+repo-legs-requires-2 c κs =
+    let at-match-keys3 = c .before .before .before in
+    subst TradeLimits (c .before .before .t3 .given .1) (at-match-keys3 .before .pre)
 
 returns : tie.Need-returns
 returns c = rw (c .before .before .before .t .given .1) (c .outright-legs .ensures ∙ rw (c .before .signs-of .ensures))

@@ -7,7 +7,9 @@ use Rattle.flows.proofs.trade_legs.indexed_leg.Tie as tie
 
 add-indexed-payment : tie.Need-add-indexed-payment
 unfolding unit
-add-indexed-payment c = omega (arith, c .before .before .coupon-of .ensures .1, c .before .before .before .before .pre .bond .nominal)
+add-indexed-payment c =
+    let after-b = c .before .before .before in
+    omega (arith, c .before .before .coupon-of .ensures .1, after-b .before .pre .bond .nominal)
 
 returns : tie.Need-returns
 returns c =

@@ -10,7 +10,8 @@ use Rattle.flows.proofs.trade_legs.indexed_payment.Tie as tie
 returns : tie.Need-returns
 unfolding indexedOf
 returns c =
-    let a = c .before .before .before .before .args in
+    let after-indexed-by = c .before .before .before in
+    let a = after-indexed-by .before .args in
     capped-within (indexedOf (a .i) (a .payment)) _ (sym (c .before .amount .given .1) ∙ c .before .before .before .indexed-by .ensures)
 
 returns-2 : tie.Need-returns-2

@@ -19,7 +19,8 @@ unfolding outrightLegs
 returns c =
     let paid = c .before .before .before in
     let priced = paid .before .before in
-    let s = priced .before .before .before .before .args .s in
+    let after-price = priced .before .before .before in
+    let s = after-price .before .args .s in
     rw (
       c .payment-leg .ensures,
       c .before .before .no-leg .ensures,

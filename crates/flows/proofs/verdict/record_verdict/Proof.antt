@@ -14,7 +14,7 @@ use Rattle.flows.proofs.verdict.record_verdict.Tie as tie
 
 module _ (c : tie.After-or-if4) where
   abbrev form : tie.After-breaks-form
-  form = let amounts = c .before .before .before in amounts .before .before .before .before
+  form = let amounts = c .before .before .before in let after-or-if = amounts .before .before .before in after-or-if .before
 
   abbrev start : tie.Start
   start = form .before .before .before .before

@@ -8,8 +8,10 @@ use Rattle.flows.proofs.walk.breaks_flow_limit.Tie as tie
 returns : tie.Need-returns
 unfolding breaksFlowLimit flowsOf
 returns c =
-    let legs = c .before .before .before .before .before .before .capped-legs .ensures in
-    let l = legsOf (c .before .before .before .before .before .before .before .args .t) in
+    let after-payments = c .before .before .before in
+    let after-capped-legs = after-payments .before .before .before in
+    let legs = after-payments .before .before .before .capped-legs .ensures in
+    let l = legsOf (after-capped-legs .before .args .t) in
     rw (
       any-legs l,
       c .before .before .leg-above .ensures,

@@ -7,7 +7,9 @@ use Rattle.flows.proofs.walk.leg_above.Tie as tie
 
 returns : tie.Need-returns
 unfolding unit
-returns c = sym (any-leg (c .before .before .before .before .args .l))
+returns c =
+    let after-struct-known = c .before .before .before in
+    sym (any-leg (after-struct-known .before .args .l))
 
 pub leg-above-spec : {M : Type 1} → statement M
 leg-above-spec = tie.close (tie.spec returns)

@@ -18,7 +18,8 @@ returns c = rw (← c .before .counts-fit .ensures, not-true (c .before .counts-
 -- a schedule that starts out of reach does not fit
 returns-2 : tie.Need-returns-2
 returns-2 c =
-    let a = c .before .before .before .before .args in
+    let after-counts-fit = c .before .before .before in
+    let a = after-counts-fit .before .args in
     let e : leb (a .first) lastDay ≡ false = sym (c .before .in-reach .ensures) ∙ not-true _ (c .if2 .taken) in
     let l = leb-false (a .first) lastDay e in
     rw (lt-leb (a .first + (a .payments - 1) * a .period) lastDay (omega arith), and-false)
@@ -35,7 +36,8 @@ span-requires c κs = counted c
 
 add-in-reach : tie.Need-add-in-reach
 add-in-reach c =
-    let a = c .before .before .before .before .before .args in
+    let else1 = c .before .before .before in
+    let a = else1 .before .before .args in
     omega (arith, coupon-counts (a .period) (a .payments) (counted (c .before)) .span, leb-true (a .first) lastDay (near (c .before)))
 
 returns-3 : tie.Need-returns-3
