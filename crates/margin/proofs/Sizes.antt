@@ -17,7 +17,7 @@ use Rattle.curve.specs.Scenarios.{scenarioCount, scenarioAt}
 use Rattle.curve.specs.Stress.{stressed}
 use Rattle.curve.proofs.Scenarios.{scenarios-some}
 use Rattle.margin.specs.Exposure.{Exposure}
-use Rattle.margin.specs.Losses.{valueOn, baseOf, valueAt, lossAt, worstAt}
+use Rattle.margin.specs.Losses.{valueOn, baseOf, valueAt, lossAt, worstAt, toleranceOf}
 use Rattle.margin.specs.Margins.{curveMargin, MarginLimits}
 use Rattle.ladder.specs.Totals.{AllFlowLimits, mostFlows}
 use Rattle.netting.proofs.Sizes.{signed-size}
@@ -53,8 +53,7 @@ module _ (e : Exposure) (h : AllFlowLimits (e .flows)) (few : length (e .flows) 
   unfolding curveMargin
   margin-limits = record { base = value-size (e .nodes); loss = loss-size (worstAt flowValue e) }
 
-  pub margin-tolerance : curveMargin e .tolerance ≤ mostFlows * 1000
-  unfolding curveMargin
+  pub margin-tolerance : toleranceOf e ≤ mostFlows * 1000
   margin-tolerance = le-trans (tolerances-size (e .flows) h) (mul-le-mul-right 1000 few)
 
 -- ---- the scenario shown is one of the list's; no scenario of the list has a larger loss, and none before it has as large a one

@@ -14,7 +14,8 @@ use Rattle.account_list.proofs.list_text.Tie as tie
 returns : tie.Need-returns
 returns c =
     let wrote = c .before .before in
-    let start = wrote .before .before .before .before in
+    let text = wrote .before .before in
+    let start = text .before .before in
     let a = start .args in
     let e : wrote .put-listing .result ≡ length (listText (a .book .now) (a .used)) = wrote .put-listing .ensures .0 in
     let p = too-long (listText (a .book .now) (a .used)) (a .out .now) (omega (arith, e, c .if1 .taken)) in
@@ -31,7 +32,8 @@ returns-2 c =
     let written = c .before .before in
     let free = written .before .before .before in
     let wrote = free .before .before in
-    let start = wrote .before .before .before .before in
+    let text = wrote .before .before in
+    let start = text .before .before in
     let a = start .args in
     let e : wrote .put-listing .result ≡ length (listText (a .book .now) (a .used)) = wrote .put-listing .ensures .0 in
     let rest : List ℕ = drop (wrote .put-listing .result) (replicate 1481 0) in

@@ -27,11 +27,16 @@ grow-requires c κs =
     omega arith
 
 add-result : tie.Need-add-result
-add-result c = let start = c .before .before .before .before .before .before .before .before in let b = sound _ _ (admitted _ _ _ (start .pre) .accepted) in omega arith
+add-result c =
+    let after-grow-arg = c .before .before .before in
+    let after-trade-count-arg = after-grow-arg .before .before .before in
+    let start = after-trade-count-arg .before .before in
+    let b = sound _ _ (admitted _ _ _ (start .pre) .accepted) in omega arith
 
 returns : tie.Need-returns
 returns c =
-    let tested = c .before .before .before .before in
+    let after-grow-arg = c .before .before .before in
+    let tested = after-grow-arg .before in
     let counted = tested .before in
     let start = counted .before .before .before in
     let s = start .args .book .now in
@@ -46,17 +51,27 @@ returns c =
     (sym n, c .before .before .grow .ensures ∙ lengthened-lent s used bytes (w .accepted) r long full space ∙ ap (λ (k : ℕ). appendedBook s r ++ drop k s) (sym n))
 
 sub-put-record : tie.Need-sub-put-record
-sub-put-record c = let start = c .before .before .before .before in let b = sound _ _ (admitted _ _ _ (start .pre) .accepted) in omega arith
+sub-put-record c =
+    let after-slice-known = c .before .before .before in
+    let start = after-slice-known .before in
+    let b = sound _ _ (admitted _ _ _ (start .pre) .accepted) in omega arith
 
 part-put-record-end : tie.Need-part-put-record-end
-part-put-record-end c = let start = c .before .before .before .before in let b = sound _ _ (admitted _ _ _ (start .pre) .accepted) in omega arith
+part-put-record-end c =
+    let after-slice-known = c .before .before .before in
+    let start = after-slice-known .before in
+    let b = sound _ _ (admitted _ _ _ (start .pre) .accepted) in omega arith
 
 put-record-requires : tie.Need-put-record-requires
-put-record-requires c κs = let start = c .before .before .before .before .before in let b = sound _ _ (admitted _ _ _ (start .pre) .accepted) in omega arith
+put-record-requires c κs =
+    let after-trade-count-arg = c .before .before .before in
+    let start = after-trade-count-arg .before .before in
+    let b = sound _ _ (admitted _ _ _ (start .pre) .accepted) in omega arith
 
 returns-2 : tie.Need-returns-2
 returns-2 c =
-    let tested = c .before .before .before .before in
+    let after-put-record-arg = c .before .before .before in
+    let tested = after-put-record-arg .before in
     let counted = tested .before in
     let start = counted .before .before .before in
     let s = start .args .book .now in

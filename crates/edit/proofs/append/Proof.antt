@@ -17,7 +17,8 @@ returns c =
 returns-2 : tie.Need-returns-2
 unfolding appendAnswer appended
 returns-2 c =
-    let told = c .before .before .before .before in
+    let after-add-arg = c .before .before .before in
+    let told = after-add-arg .before in
     let e = sym (told .before .before .append-verdict .ensures) ∙ told .enum-told .given .1 in
     (rw (e, c .before .before .add .ensures .0), rw e (c .before .before .add .ensures .1))
 

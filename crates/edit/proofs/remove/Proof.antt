@@ -22,7 +22,8 @@ sub-left c = let p = has-trade _ _ _ (c .before .before .before .pre) in omega a
 
 close-gap-requires : tie.Need-close-gap-requires
 close-gap-requires c κs =
-    let start = c .before .before .before .before in
+    let after-slice-known = c .before .before .before in
+    let start = after-slice-known .before in
     let p = has-trade _ _ _ (start .pre) in
     let b = sound _ _ (p .accepted) in
     let t = blocks-for _ _ b in
@@ -31,8 +32,10 @@ close-gap-requires c κs =
 
 shrink-requires : tie.Need-shrink-requires
 shrink-requires c κs =
-    let closed = c .before .before .before .before in
-    let start = closed .before .before .before .before .before in
+    let after-book = c .before .before .before in
+    let closed = after-book .before in
+    let after-trade-count-arg = closed .before .before .before in
+    let start = after-trade-count-arg .before .before in
     let p = has-trade _ _ _ (start .pre) in
     let b = sound _ _ (p .accepted) in
     let t = blocks-for _ _ b in
@@ -40,11 +43,17 @@ shrink-requires c κs =
     omega (arith, closed .close-gap .kept .0)
 
 sub-result : tie.Need-sub-result
-sub-result c = let start = c .before .before .before .before .before .before .before .before .before .before .before .before in let b = sound _ _ (has-trade _ _ _ (start .pre) .accepted) in omega arith
+sub-result c =
+    let after-shrink-arg = c .before .before .before in
+    let after-book = after-shrink-arg .before .before .before in
+    let after-trade-count = after-book .before .before .before in
+    let start = after-trade-count .before .before .before in
+    let b = sound _ _ (has-trade _ _ _ (start .pre) .accepted) in omega arith
 
 returns : tie.Need-returns
 returns c =
-    let tested = c .before .before .before .before in
+    let after-shrink-arg = c .before .before .before in
+    let tested = after-shrink-arg .before in
     let gap = tested .before .before .before in
     let counted = gap .before .before in
     let start = counted .before .before .before in
@@ -63,7 +72,8 @@ returns c =
 
 returns-2 : tie.Need-returns-2
 returns-2 c =
-    let counted = c .before .before .before .before .before in
+    let after-close-gap = c .before .before .before in
+    let counted = after-close-gap .before .before in
     let start = counted .before .before .before in
     let s = start .args .book .now in
     let used = start .args .used in

@@ -17,7 +17,8 @@ returns c =
 returns-2 : tie.Need-returns-2
 unfolding strikeAnswer struck
 returns-2 c =
-    let told = c .before .before .before .before in
+    let after-remove-arg = c .before .before .before in
+    let told = after-remove-arg .before in
     let e = sym (told .before .before .position-verdict .ensures) ∙ told .enum-told .given .1 in
     (rw (e, c .before .before .remove .ensures .0), rw e (c .before .before .remove .ensures .1))
 

@@ -33,28 +33,30 @@ loop-holds : tie.Need-loop-holds Inv-loop μ-loop
 loop-holds c = (omega arith, refl, collected-none _ _ _)
 
 -- in the loop: the position is one of the book's
-at : (c : tie.In-loop Inv-loop μ-loop) → let start = c .before .before .before .before .before in c .before .loop .i < tradeCount (start .args .book .now)
+at : (c : tie.In-loop Inv-loop μ-loop) → let after-slice-known = c .before .before .before in let start = after-slice-known .before .before in c .before .loop .i < tradeCount (start .args .book .now)
 at c = omega (arith, c .before .before .trade-count .ensures)
 
 record-at-requires : tie.Need-record-at-requires Inv-loop μ-loop
 record-at-requires c κs =
-    let start = c .before .before .before .before .before in
+    let after-slice-known = c .before .before .before in
+    let start = after-slice-known .before .before in
     let b = here start in
     omega (arith, place-held (start .args .book .now) (start .args .used) b (c .before .loop .i) (at c) .0, b .blocks, b .lent)
 
 fields-of-requires : tie.Need-fields-of-requires Inv-loop μ-loop
 fields-of-requires c κs =
     let turn = c .before .before in
-    let start = turn .before .before .before .before .before in
+    let after-slice-known = turn .before .before .before in
+    let start = after-slice-known .before .before in
     ap length (c .before .record-at .ensures) ∙ length-recordAt (start .args .book .now) (start .args .used) (here start) (turn .before .loop .i) (at turn)
 
 -- after the trade is read: it is the one at the position
 module _ (c : tie.After-trade-of Inv-loop μ-loop) where
   abbrev turn : tie.In-loop Inv-loop μ-loop
-  turn = c .before .before .before .before
+  turn = let after-record-at = c .before .before .before in after-record-at .before
 
   abbrev start : tie.Start Inv-loop μ-loop
-  start = turn .before .before .before .before .before
+  start = let counted = turn .before .before .before in counted .before .before
 
   trade-is : c .trade-of .result ≡ tradeAt (start .args .book .now) (turn .before .loop .i)
   trade-is =
@@ -96,7 +98,8 @@ loop-again c =
 
 returns : tie.Need-returns Inv-loop μ-loop
 returns c =
-    let start = c .before .before .before .before .before in
+    let after-slice-known = c .before .before .before in
+    let start = after-slice-known .before .before in
     let s = start .args .book .now in
     let inv = c .before .loop .inv in
     let e : c .before .loop .i ≡ tradeCount s = omega (arith, c .before .before .trade-count .ensures) in

@@ -15,7 +15,8 @@ returns c =
 
 returns-2 : tie.Need-returns-2
 returns-2 c =
-    let a = c .before .before .before .before .args in
+    let after-slice-known = c .before .before .before in
+    let a = after-slice-known .before .args in
     push-one (a .curve) (a .leg) (a .ladder .now) (a .schedules) (sym (c .before .before .stands-on .ensures) ∙ not-false _ (c .before .if1 .left))
 
 pub push-leg-spec : {M : Type 1} → statement M

@@ -22,9 +22,12 @@ returns : tie.Need-returns
 unfolding currencyFigures ascii
 returns c =
     let total = c .before .before in
-    let variation = total .before .before .before .before .before .before in
-    let initial = variation .before .before .before .before .before .before in
-    let s = initial .before .before .before .before .before in
+    let after-put-signed-arg5 = total .before .before .before in
+    let variation = after-put-signed-arg5 .before .before .before in
+    let after-put-signed-arg3 = variation .before .before .before in
+    let initial = after-put-signed-arg3 .before .before .before in
+    let after-put-signed-arg = initial .before .before .before in
+    let s = after-put-signed-arg .before .before in
     let opened = rw (code-read _ (fits-initial s)) at (initial .put-signed .ensures .0) in
     let varied = and-then opened (rw (code-read _ (fits-variation s)) at (variation .put-signed2 .ensures .0)) in
     (and-then varied (rw (code-read _ (fits-total s)) at (total .put-signed3 .ensures .0)), search needs)

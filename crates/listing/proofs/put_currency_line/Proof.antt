@@ -10,9 +10,12 @@ returns : tie.Need-returns
 unfolding currencyPart currencyLine ascii
 returns c =
     let end = c .before .before in
-    let figures = end .before .before .before .before .before in
-    let currency = figures .before .before .before .before in
-    let word = currency .before .before .before .before in
+    let after-slice-known4 = end .before .before .before in
+    let figures = after-slice-known4 .before .before in
+    let after-out2 = figures .before .before .before in
+    let currency = after-out2 .before in
+    let after-out = currency .before .before .before in
+    let word = after-out .before in
     let has = word .before .before .before in
     let named = and-then (word .put-text .ensures) (currency .put-currency-word .ensures .0) in
     let all = and-then (and-then named (figures .put-currency-figures .ensures .0)) (end .put-text2 .ensures) in

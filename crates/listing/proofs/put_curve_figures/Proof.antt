@@ -19,10 +19,14 @@ returns : tie.Need-returns
 unfolding curveFigures ascii
 returns c =
     let tolerance = c .before .before in
-    let scenario = tolerance .before .before .before .before .before in
-    let loss = scenario .before .before .before .before .before in
-    let base = loss .before .before .before .before .before .before in
-    let s = base .before .before .before .before .before in
+    let after-slice-known4 = tolerance .before .before .before in
+    let scenario = after-slice-known4 .before .before in
+    let after-slice-known3 = scenario .before .before .before in
+    let loss = after-slice-known3 .before .before in
+    let after-put-signed-arg3 = loss .before .before .before in
+    let base = after-put-signed-arg3 .before .before .before in
+    let after-put-signed-arg = base .before .before .before in
+    let s = after-put-signed-arg .before .before in
     let valued = rw (code-read _ (fits-base s)) at (base .put-signed .ensures .0) in
     let lost = and-then valued (rw (code-read _ (fits-loss s)) at (loss .put-signed2 .ensures .0)) in
     (and-then (and-then lost (scenario .put-number .ensures .0)) (tolerance .put-number2 .ensures .0), search needs)

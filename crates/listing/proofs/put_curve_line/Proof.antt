@@ -10,9 +10,12 @@ returns : tie.Need-returns
 unfolding curveLine ascii
 returns c =
     let end = c .before .before in
-    let figures = end .before .before .before .before .before in
-    let currency = figures .before .before .before .before in
-    let number = currency .before .before .before .before in
+    let after-slice-known4 = end .before .before .before in
+    let figures = after-slice-known4 .before .before in
+    let after-out2 = figures .before .before .before in
+    let currency = after-out2 .before in
+    let after-out = currency .before .before .before in
+    let number = after-out .before in
     let named = and-then (number .put-number .ensures .0) (currency .put-currency-word .ensures .0) in
     (and-then (and-then named (figures .put-curve-figures .ensures .0)) (end .put-text .ensures), search needs)
 

@@ -9,14 +9,17 @@ use Rattle.listing.proofs.put_number.Tie as tie
 put-digits-requires : tie.Need-put-digits-requires
 put-digits-requires c κs =
     let word = c .before .before .before in
-    let s = word .before .before .before .before in
+    let after-slice-known = word .before .before .before in
+    let s = after-slice-known .before in
     omega (arith, length-decimal (s .args .n))
 
 returns : tie.Need-returns
 returns c =
     let digits = c .before .before in
-    let word = digits .before .before .before .before in
-    let s = word .before .before .before .before in
+    let after-out = digits .before .before .before in
+    let word = after-out .before in
+    let after-slice-known = word .before .before .before in
+    let s = after-slice-known .before in
     (and-then (word .put-text .ensures) (digits .put-digits .ensures), omega (arith, length-decimal (s .args .n)))
 
 pub put-number-spec : {M : Type 1} → statement M

@@ -8,8 +8,10 @@ use Rattle.listing.proofs.put_signed.Tie as tie
 returns : tie.Need-returns
 returns c =
     let number = c .before .before in
-    let word = number .before .before .before .before in
-    let s = word .before .before .before .before in
+    let after-out = number .before .before .before in
+    let word = after-out .before in
+    let after-slice-known = word .before .before .before in
+    let s = after-slice-known .before in
     (and-then (word .put-text .ensures) (rw (code-read _ (s .fits .v)) at (number .put-integer .ensures .0)), search needs)
 
 pub put-signed-spec : {M : Type 1} → statement M

@@ -12,10 +12,13 @@ returns : tie.Need-returns
 unfolding refusedLine ascii
 returns c =
     let end = c .before .before in
-    let block = end .before .before .before .before .before in
-    let ground = block .before .before .before .before .before in
+    let after-slice-known3 = end .before .before .before in
+    let block = after-slice-known3 .before .before in
+    let after-slice-known2 = block .before .before .before in
+    let ground = after-slice-known2 .before .before in
     let all = and-then (and-then (ground .put-number .ensures .0) (block .put-number2 .ensures .0)) (end .put-text .ensures) in
-    let s = ground .before .before .before .before in
+    let after-slice-known = ground .before .before .before in
+    let s = after-slice-known .before in
     let room : end .put-text .result ≤ 50 =
     omega (arith, s .pre, ground .put-number .ensures .1, block .put-number2 .ensures .1, end .put-text .ensures .place) in
     let front = written-front all (omega (arith, s .pre)) in

@@ -19,9 +19,12 @@ fits-total s = search needs
 returns : tie.Need-returns
 returns c =
     let third = c .before .before in
-    let second = third .before .before .before .before .before in
-    let first = second .before .before .before .before .before in
-    let s = first .before .before .before .before in
+    let after-slice-known3 = third .before .before .before in
+    let second = after-slice-known3 .before .before in
+    let after-slice-known2 = second .before .before .before in
+    let first = after-slice-known2 .before .before in
+    let after-slice-known = first .before .before .before in
+    let s = after-slice-known .before in
     currency-put _ _ _ _ _ (s .args .m)
     (first .put-i64 .ensures ∙ read-back _ _ (s .args .m .initial) (fits-initial s))
     (second .put-i642 .ensures ∙ read-back _ _ (s .args .m .variation) (fits-variation s))

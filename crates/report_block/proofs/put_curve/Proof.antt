@@ -16,11 +16,16 @@ fits-loss s = search needs
 returns : tie.Need-returns
 returns c =
     let fifth = c .before .before in
-    let fourth = fifth .before .before .before .before in
-    let third = fourth .before .before .before .before in
-    let second = third .before .before .before .before in
-    let first = second .before .before .before .before .before in
-    let s = first .before .before .before .before in
+    let after-out4 = fifth .before .before .before in
+    let fourth = after-out4 .before in
+    let after-out3 = fourth .before .before .before in
+    let third = after-out3 .before in
+    let after-out2 = third .before .before .before in
+    let second = after-out2 .before in
+    let after-slice-known2 = second .before .before .before in
+    let first = after-slice-known2 .before .before in
+    let after-slice-known = first .before .before .before in
+    let s = after-slice-known .before in
     curve-put _ _ _ _ _ _ _ (s .args .m)
     (first .put-i64 .ensures ∙ read-back _ _ (s .args .m .base) (fits-base s))
     (second .put-i642 .ensures ∙ read-back _ _ (s .args .m .loss) (fits-loss s))

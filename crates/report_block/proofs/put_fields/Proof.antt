@@ -11,11 +11,16 @@ places s = record { curves = search (needs, length-mapped); currencies = search 
 returns : tie.Need-returns
 returns c =
     let zeros = c .before .before in
-    let currencies = zeros .before .before .before .before in
-    let curves = currencies .before .before .before .before in
-    let account = curves .before .before .before .before in
-    let kind = account .before .before .before .before in
-    let s = kind .before .before .before .before .before in
+    let after-out4 = zeros .before .before .before in
+    let currencies = after-out4 .before in
+    let after-out3 = currencies .before .before .before in
+    let curves = after-out3 .before in
+    let after-out2 = curves .before .before .before in
+    let account = after-out2 .before in
+    let after-out = account .before .before .before in
+    let kind = after-out .before in
+    let after-curves = kind .before .before .before in
+    let s = after-curves .before .before in
     fields-put _ _ _ _ _ _ (s .args .m) (places s)
     (kind .put-le .ensures)
     (account .put-le2 .ensures)

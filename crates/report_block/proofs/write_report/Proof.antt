@@ -11,7 +11,8 @@ places s = record { curves = search (needs, length-mapped); currencies = search 
 returns : tie.Need-returns
 returns c =
     let sealed = c .before .before in
-    let fields = sealed .before .before .before .before in
+    let after-out = sealed .before .before .before in
+    let fields = after-out .before in
     let s = fields .before .before .before in
     rw (sealed .seal .ensures) (report-put (s .args .out .now) _ (s .args .m) (places s) (s .pre) (fields .put-fields .ensures))
 

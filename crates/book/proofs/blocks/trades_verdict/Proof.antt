@@ -13,7 +13,7 @@ use Rattle.book.proofs.blocks.trades_verdict.Tie as tie
 
 module _ (c : tie.After-or-if3) where
   abbrev start : tie.Start
-  start = let place = c .before .before .before in place .before .before .before .before
+  start = let place = c .before .before .before in let after-shared-slice-known = place .before .before .before in after-shared-slice-known .before
 
   -- grounds 2, 3 and 7
   so-far : c .or-if3 .result ≡ firstBroken (start .args .k) (tradesRules (start .args .b .now) (start .args .k) (start .args .last))

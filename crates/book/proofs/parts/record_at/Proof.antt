@@ -9,7 +9,8 @@ use Rattle.book.proofs.parts.record_at.Tie as tie
 returns : tie.Need-returns
 unfolding recordAt
 returns c =
-    let block = c .before .before .before .before in
+    let after-r = c .before .before .before in
+    let block = after-r .before in
     c .before .copy-in .ensures
     ∙ put-whole _ _ (c .before .before .record-in .ensures .1)
     ∙ rw (

@@ -12,7 +12,8 @@ returns c = rw (← c .before .trade-blocks .ensures .0, eq-eqb (c .before .trad
 returns-2 : tie.Need-returns-2
 unfolding tradeCount
 returns-2 c =
-    let trades = c .before .before .before .before in
+    let else1 = c .before .before .before in
+    let trades = else1 .before in
     rw (
       ← trades .trade-blocks .ensures .0,
       ne-eqb (trades .trade-blocks .result) 0 (c .before .before .before .if1 .left),

@@ -14,7 +14,7 @@ returns c =
     rw (← c .before .before .record-count .ensures .0, ← c .before .count-fits .ensures, not-true (c .before .count-fits .result) (c .if1 .taken))
 
 -- past the first test the count is at most 9
-few : (c : tie.Else1) → Counted (c .before .before .record-count .result) (c .before .before .before .before .args .last)
+few : (c : tie.Else1) → let count = c .before .before in Counted (count .record-count .result) (count .before .before .args .last)
 few c = counted _ _ (sym (c .before .count-fits .ensures) ∙ not-false _ (c .if1 .left))
 
 record-place-requires : tie.Need-record-place-requires

@@ -6,11 +6,15 @@ use Rattle.edit.proofs.blocks.close_up.Tie as tie
 
 returns : tie.Need-returns
 returns c =
-    let sealed = c .before .before .before .before .before .before in
+    let after-spare9 = c .before .before .before in
+    let sealed = after-spare9 .before .before .before in
     let third = sealed .before .before .before in
-    let second = third .before .before .before .before in
-    let first = second .before .before .before .before .before in
-    let start = first .before .before .before .before in
+    let after-spare4 = third .before .before .before in
+    let second = after-spare4 .before in
+    let after-spare3 = second .before .before .before in
+    let first = after-spare3 .before .before in
+    let after-slice-known = first .before .before .before in
+    let start = after-slice-known .before in
     by-spare (start .args .b .now) (start .args .t3) (start .args .place) (start .args .count) (start .pre .0)
     (first .copy-in .ensures)
     (second .copy-in2 .ensures)

@@ -9,15 +9,22 @@ use Rattle.edit.proofs.blocks.put_record.Tie as tie
 seal-requires : tie.Need-seal-requires
 seal-requires c κs =
     let copied = c .before .before .before in
-    let start = copied .before .before .before .before in
+    let after-slice-known = copied .before .before .before in
+    let start = after-slice-known .before in
     rw length-set (copied .copy-in .kept .0 ∙ start .pre .0)
 
 same-length : tie.Need-same-length
-same-length c = let copied = c .before .before .before .before .before .before in c .before .before .seal .kept .0 ∙ rw length-set (copied .copy-in .kept .0)
+same-length c =
+    let after-seal-arg = c .before .before .before in
+    let copied = after-seal-arg .before .before .before in
+    c .before .before .seal .kept .0 ∙ rw length-set (copied .copy-in .kept .0)
 
 returns : tie.Need-returns
 unfolding withRecord
-returns c = let copied = c .before .before .before .before .before .before in rw (c .before .before .seal .ensures, copied .copy-in .ensures)
+returns c =
+    let after-seal-arg = c .before .before .before in
+    let copied = after-seal-arg .before .before .before in
+    rw (c .before .before .seal .ensures, copied .copy-in .ensures)
 
 pub put-record-spec : {M : Type 1} → statement M
 put-record-spec =

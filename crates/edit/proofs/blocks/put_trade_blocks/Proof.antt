@@ -6,7 +6,10 @@ use Rattle.edit.proofs.blocks.put_trade_blocks.Tie as tie
 
 returns : tie.Need-returns
 unfolding withTradeBlocks
-returns c = let put = c .before .before .before .before .before .before in rw (c .before .before .seal .ensures, put .put-le .ensures)
+returns c =
+    let after-seal-arg = c .before .before .before in
+    let put = after-seal-arg .before .before .before in
+    rw (c .before .before .seal .ensures, put .put-le .ensures)
 
 pub put-trade-blocks-spec : {M : Type 1} → statement M
 put-trade-blocks-spec = tie.close (tie.spec (λ c κs. search needs) (λ c κs. search needs) (λ c. search needs) returns)

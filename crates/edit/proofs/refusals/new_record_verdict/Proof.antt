@@ -22,7 +22,8 @@ curves-of-requires c κs =
 
 breaks-book-space-requires : tie.Need-breaks-book-space-requires
 breaks-book-space-requires c κs =
-    let curves = c .before .before .before .before in
+    let after-r = c .before .before .before in
+    let curves = after-r .before in
     sound _ _ (curves .before .before .before .pre) .limit
 
 returns : tie.Need-returns

@@ -25,7 +25,8 @@ breaks-position-requires c κs =
 returns-2 : tie.Need-returns-2
 unfolding positionVerdict
 returns-2 c =
-    let checked = c .before .before .before .before in
+    let after-is-accepted = c .before .before .before in
+    let checked = after-is-accepted .before in
     also Position 0 (checked .check .ensures) (c .before .breaks-position .ensures) (c .or-if .ensures)
 
 pub position-verdict-spec : {M : Type 1} → statement M

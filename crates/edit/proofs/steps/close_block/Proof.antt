@@ -8,8 +8,10 @@ use Rattle.edit.proofs.steps.close_block.Tie as tie
 
 returns : tie.Need-returns
 returns c =
-    let nine = c .before .before .before .before in
-    let curves = nine .before .before .before .before in
+    let after-close-up-arg = c .before .before .before in
+    let nine = after-close-up-arg .before in
+    let after-moved-up-arg = nine .before .before .before in
+    let curves = after-moved-up-arg .before in
     let start = curves .before .before .before in
     rw add-sub-cancel-left
     (close-left (start .args .book .now) (start .args .position) (start .args .left) (start .args .j) (omega (arith, start .pre, curves .curve-count .ensures .0))

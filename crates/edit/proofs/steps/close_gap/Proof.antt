@@ -25,7 +25,8 @@ loop-holds c = (omega arith, (omega arith, (refl, (refl, refl))))
 
 loop-again : tie.Need-loop-again Inv-loop μ-loop
 loop-again c =
-    let turn = c .before .before .before .before in
+    let after-close-block-arg = c .before .before .before in
+    let turn = after-close-block-arg .before in
     let at-loop = turn .before in
     let start = at-loop .before .before in
     let inv = at-loop .loop .inv in

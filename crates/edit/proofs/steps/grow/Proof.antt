@@ -7,9 +7,12 @@ use Rattle.edit.proofs.steps.grow.Tie as tie
 
 returns : tie.Need-returns
 returns c =
-    let copied = c .before .before .before .before .before .before in
-    let filled = copied .before .before .before .before in
-    let start = filled .before .before .before .before .before .before in
+    let after-put-trade-blocks-arg = c .before .before .before in
+    let copied = after-put-trade-blocks-arg .before .before .before in
+    let after-b2 = copied .before .before .before in
+    let filled = after-b2 .before in
+    let after-trade-blocks = filled .before .before .before in
+    let start = after-trade-blocks .before .before .before in
     grow-left (start .args .book .now) (start .args .used) (start .args .r) (omega (arith, start .pre))
     (filled .before .before .before .trade-blocks .ensures .0)
     (filled .before .before .bare-block .ensures)

@@ -7,8 +7,10 @@ use Rattle.edit.proofs.steps.shrink.Tie as tie
 
 returns : tie.Need-returns
 returns c =
-    let copied = c .before .before .before .before .before .before in
-    let start = copied .before .before .before .before .before .before in
+    let after-put-trade-blocks-arg = c .before .before .before in
+    let copied = after-put-trade-blocks-arg .before .before .before in
+    let after-trade-blocks = copied .before .before .before in
+    let start = after-trade-blocks .before .before .before in
     shrink-left (start .args .book .now) (start .args .used) (omega (arith, start .pre))
     (copied .before .before .before .trade-blocks .ensures .0)
     (copied .copy-in .ensures)

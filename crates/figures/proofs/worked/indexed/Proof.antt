@@ -16,7 +16,8 @@ indexed-by-requires c κs =
     omega (arith, paid .millionths-of .ensures, millionths-bound (n .result) (r .result) 1 (n .ensures .1) (r .ensures .2))
 
 told : (c : tie.After-indexed-by) →
-    let a = c .before .before .before .before .before .before .args in
+    let paid = c .before .before .before in
+    let a = paid .before .before .before .args in
     c .indexed-by .result ≡ scaledTo (indexedBy (indexIn (a .settlement)) (indexIn (a .issue)) (millionthsOf (amountIn (a .nominal)) (rateIn (a .coupon))))
 told c =
     let paid = c .before .before .before in

@@ -25,7 +25,7 @@ all-places s = factors-none (nodesOf (s .args .curve)) (s .args .marks .now) (s 
 -- with the factor of the day written, all is filled as far as the other day
 module _ (c : tie.After-next-marked2 Inv-loop μ-loop) where
   abbrev start : tie.Start Inv-loop μ-loop
-  start = c .before .before .before .before .before .before
+  start = let after-next-marked = c .before .before .before in after-next-marked .before .before .before
 
   abbrev day : ℕ
   day = c .before .before .loop .day
@@ -78,26 +78,35 @@ fill-pair-requires c κs =
     )
 
 add-next-marked-2 : tie.Need-add-next-marked-2 Inv-loop μ-loop
-add-next-marked-2 c = let other = c .before .before .before .before in omega (arith, other-below other)
+add-next-marked-2 c =
+    let after-fill-pair-arg = c .before .before .before in
+    let other = after-fill-pair-arg .before in
+    omega (arith, other-below other)
 
 next-marked-requires-3 : tie.Need-next-marked-requires-3 Inv-loop μ-loop
-next-marked-requires-3 c κs = let other = c .before .before .before .before in omega (arith, other-below other)
+next-marked-requires-3 c κs =
+    let after-fill-pair-arg = c .before .before .before in
+    let other = after-fill-pair-arg .before in
+    omega (arith, other-below other)
 
 loop-less : tie.Need-loop-less Inv-loop μ-loop
 loop-less c =
-    let at = c .before .before .before .before .before .before in
+    let after-fill-pair = c .before .before .before in
+    let at = after-fill-pair .before .before .before in
     omega (arith, at .before .loop-test .taken, at .next-marked2 .ensures .least, c .next-marked3 .ensures .least)
 
 loop-again : tie.Need-loop-again Inv-loop μ-loop
 loop-again c =
-    let other = c .before .before .before .before .before in
+    let after-fill-pair = c .before .before .before in
+    let other = after-fill-pair .before .before in
     let at = other .before in
     let both = factors-next _ _ _ _ (passed at) (other-below other) (at .next-marked2 .ensures .mark (other-below other)) in
     (rw (c .before .before .before .fill-pair .ensures) (factors-skip _ _ _ _ both _ (c .next-marked3 .ensures)), c .next-marked3 .ensures .mark)
 
 same-length-2 : tie.Need-same-length-2 Inv-loop μ-loop
 same-length-2 c =
-    let s = c .before .before .before .before .before in
+    let after-slice-known = c .before .before .before in
+    let s = after-slice-known .before .before in
     c .before .loop .inv .0 .places ∙ sym (all-places s)
 
 returns-2 : tie.Need-returns-2 Inv-loop μ-loop

@@ -23,7 +23,8 @@ written l t u e f g h = cc
 returns : tie.Need-returns
 returns c =
     let at = c .before .before in
-    let a = at .before .before .before .before .args in
+    let after-slice-known = at .before .before .before in
+    let a = after-slice-known .before .args in
     let both = at .factors .ensures in
     written (a .factors .now) (a .day) (a .other) (at .before .before .rate-at .ensures) (at .before .rate-at2 .ensures) (both .0) (both .2)
 

@@ -24,7 +24,7 @@ loop-holds c = let p = c .before .before .pre in folded-none _ _ _ _ _ (p .0) _ 
 -- in a turn
 module _ (c : tie.Then1 Inv-loop μ-loop) where
   abbrev start : tie.Start Inv-loop μ-loop
-  start = c .before .before .before .before .before
+  start = let after-slice-known = c .before .before .before in after-slice-known .before .before
 
   here : RungLimits (start .args .ladder .now) (c .before .before .loop .rung)
   here = rung-limits (c .before .before .loop .inv) (start .pre .0) (c .if1 .taken)

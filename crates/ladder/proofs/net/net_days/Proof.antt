@@ -27,7 +27,7 @@ loop-holds c = let p = c .before .pre in folded-none _ _ _ _ _ (p .0) _ (p .1, p
 -- in a turn
 module _ (c : tie.Then1 Inv-loop μ-loop) where
   abbrev start : tie.Start Inv-loop μ-loop
-  start = c .before .before .before .before
+  start = let after-shared-slice-known = c .before .before .before in after-shared-slice-known .before
 
   here : RungLimits (start .args .ladder .now) (c .before .before .loop .rung)
   here = rung-limits (c .before .before .loop .inv) (start .pre .0) (c .if1 .taken)
@@ -53,7 +53,8 @@ net-with-requires c κs =
 
 loop-less : tie.Need-loop-less Inv-loop μ-loop
 loop-less c =
-    let turn = c .before .before .before .before in
+    let after-payment = c .before .before .before in
+    let turn = after-payment .before in
     fewer-left (turn .before .before .loop .inv) (start turn .pre .0) (turn .if1 .taken) (c .next .ensures)
 
 loop-again : tie.Need-loop-again Inv-loop μ-loop

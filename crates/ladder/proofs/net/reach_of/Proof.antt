@@ -29,7 +29,7 @@ loop-holds c =
 -- in a turn
 module _ (c : tie.Then1 Inv-loop μ-loop) where
   abbrev start : tie.Start Inv-loop μ-loop
-  start = c .before .before .before .before
+  start = let after-shared-slice-known = c .before .before .before in after-shared-slice-known .before
 
   here : RungLimits (start .args .ladder .now) (c .before .before .loop .rung)
   here = rung-limits (c .before .before .loop .inv) (start .pre) (c .if1 .taken)

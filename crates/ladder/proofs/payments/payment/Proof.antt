@@ -9,9 +9,12 @@ use Rattle.ladder.proofs.payments.payment.Statement.{statement}
 use Rattle.ladder.proofs.payments.payment.Tie as tie
 
 -- the day fits
-day-fits : (c : tie.After-struct-known2) → let a = c .before .before .before .before .args in
+day-fits : (c : tie.After-struct-known2) → let after-struct-known = c .before .before .before in let a = after-struct-known .before .args in
     firstDay (a .ladder .now) (a .rung .schedule) + a .rung .payment * period (a .ladder .now) (a .rung .schedule) ≤ 10950
-day-fits c = let p = c .before .before .before .before .pre in day-most _ _ _ (p .limits) (p .within)
+day-fits c =
+    let after-struct-known = c .before .before .before in
+    let p = after-struct-known .before .pre in
+    day-most _ _ _ (p .limits) (p .within)
 
 mul-day : tie.Need-mul-day-3
 mul-day c = record { fits = omega (arith, day-fits c) }

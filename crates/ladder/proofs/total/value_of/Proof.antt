@@ -25,7 +25,7 @@ loop-holds c =
 -- in a turn
 module _ (c : tie.Then1 Inv-loop μ-loop) where
   abbrev start : tie.Start Inv-loop μ-loop
-  start = c .before .before .before .before .before
+  start = let after-shared-slice-known2 = c .before .before .before in after-shared-slice-known2 .before .before
 
   here : RungLimits (start .args .ladder .now) (c .before .before .loop .rung)
   here = rung-limits (c .before .before .loop .inv) (start .pre .0) (c .if1 .taken)
@@ -46,7 +46,8 @@ with-flow-requires c κs =
 
 loop-less : tie.Need-loop-less Inv-loop μ-loop
 loop-less c =
-    let turn = c .before .before .before .before in
+    let after-payment = c .before .before .before in
+    let turn = after-payment .before in
     fewer-left (turn .before .before .loop .inv) (start turn .pre .0) (turn .if1 .taken) (c .next .ensures)
 
 loop-again : tie.Need-loop-again Inv-loop μ-loop

@@ -25,10 +25,10 @@ returns-2 c =
     rw (lt-leb (a .first + (a .payments - 1) * a .period) lastDay (omega arith), and-false)
 
 module _ (c : tie.Else2) where
-  counted : countsFit (c .before .before .before .before .args .period) (c .before .before .before .before .args .payments) ≡ true
+  counted : let count = c .before .before .before in countsFit (count .before .args .period) (count .before .args .payments) ≡ true
   counted = sym (c .before .before .before .counts-fit .ensures) ∙ not-false _ (c .before .before .if1 .left)
 
-  near : leb (c .before .before .before .before .args .first) lastDay ≡ true
+  near : let count = c .before .before .before in leb (count .before .args .first) lastDay ≡ true
   near = sym (c .before .in-reach .ensures) ∙ not-false _ (c .if2 .left)
 
 span-requires : tie.Need-span-requires

@@ -9,7 +9,9 @@ use Rattle.ladder.proofs.total.Total.with_flow.Tie as tie
 
 -- the flow's value is in its limits
 most : (c : tie.After-multiply) → c .multiply .result ≤ unit
-most c = let s = c .before in rw (c .multiply .ensures) (flow-size (s .args .f) (s .args .factor) (s .pre .1) (s .pre .2))
+most c =
+    let s = c .before in
+    rw (c .multiply .ensures) (flow-size (s .args .f) (s .args .factor) (s .pre .1) (s .pre .2))
 
 cast-value : tie.Need-cast-value
 cast-value c = cast-fits (c .before .args .self .sum) _ (c .before .pre .0 .value) (most c)
@@ -21,25 +23,29 @@ add-off c =
 
 add-sum : tie.Need-add-t8
 add-sum c =
-    let at = c .before .before .before .before .before in
+    let after-struct-known = c .before .before .before in
+    let at = after-struct-known .before .before in
     fits-more (at .before .args .self .sum) _ (at .before .pre .0 .value) (most at)
 
 returns : tie.Need-returns
 unfolding plusFlow
 returns c =
-    let off = c .before .before .before .before in
+    let after-struct-known = c .before .before .before in
+    let off = after-struct-known .before in
     let at = off .before in
     rw (read-more (at .before .args .self .sum) _ (at .before .pre .0 .value) (most at), at .multiply .ensures, off .tolerance .ensures, c .before .before .if1 .taken)
 
 sub-sum : tie.Need-sub-t9
 sub-sum c =
-    let at = c .before .before .before .before .before in
+    let after-struct-known = c .before .before .before in
+    let at = after-struct-known .before .before in
     fits-less (at .before .args .self .sum) _ (at .before .pre .0 .value) (most at)
 
 returns-2 : tie.Need-returns-2
 unfolding plusFlow
 returns-2 c =
-    let off = c .before .before .before .before in
+    let after-struct-known = c .before .before .before in
+    let off = after-struct-known .before in
     let at = off .before in
     rw (read-less (at .before .args .self .sum) _ (at .before .pre .0 .value) (most at), at .multiply .ensures, off .tolerance .ensures, c .before .before .if1 .left)
 
