@@ -10,7 +10,7 @@ use Rattle.laws.proofs.Signed.{cast, read, cast-is, read-is, abs-sub, abs-mul-l
 use Rattle.curve.specs.declared.Node.{Node}
 use Rattle.curve.specs.Rates.{interpolated, Between}
 use Rattle.curve.specs.Limits.{highestRate, Limits}
-use Rattle.curve.proofs.Line.{line, part-le, line-up, line-down, line-high, line-low, line-monotone}
+use Rattle.curve.proofs.Line.{line, part-le, line-up, line-down, line-high, line-monotone}
 
 abbrev rise : Node → Node → ℤ
 rise a b = pos (b .rate) -ℤ pos (a .rate)
@@ -44,10 +44,6 @@ module _ (a b : Node) (t : ℕ) (h : Between a b t) where
 
   pub interpolated-is : interpolated a b t ≡ pos (natAbs (interpolated a b t))
   interpolated-is = rw interpolated-line
-
-  -- it lies between the rates of the two nodes
-  pub interpolated-low : (m : ℕ) → m ≤ a .rate → m ≤ b .rate → m ≤ natAbs (interpolated a b t)
-  interpolated-low m p q = rw interpolated-line (line-low (a .rate) (b .rate) (t - a .day) (b .day - a .day) (omega arith) m p q)
 
   pub interpolated-high : (m : ℕ) → a .rate ≤ m → b .rate ≤ m → natAbs (interpolated a b t) ≤ m
   interpolated-high m p q = rw interpolated-line (line-high (a .rate) (b .rate) (t - a .day) (b .day - a .day) (omega arith) m p q)
