@@ -35,14 +35,6 @@ module _ (r s g n : ℕ) where
         go true e = omega (arith, part-le (s - r) g n l, leb-true)
         go false e = omega arith
 
-    pub line-low : (m : ℕ) → m ≤ r → m ≤ s → m ≤ line r s g n
-    unfolding line
-    line-low m p q = go (leb r s) refl
-      where
-        go : (t : Bool) → leb r s ≡ t → m ≤ cond t (r + (s - r) * g / n) (r - (r - s) * g / n)
-        go true e = omega arith
-        go false e = omega (arith, part-le (r - s) g n l, leb-false)
-
 -- ---- the line does not fall where an end rises. With k days left of n = k + g, n times the exact rate is r * k + s * g.
 
 record Floor (x n v : ℕ) : Type 0 where
