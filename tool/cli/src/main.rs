@@ -1,0 +1,5 @@
+//! Books on the command line.
+
+#![forbid(unsafe_code)]
+
+fn main() {}

@@ -1,0 +1,3 @@
+//! Trades and curves as text.
+
+#![forbid(unsafe_code)]
