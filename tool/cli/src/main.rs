@@ -1,5 +1,46 @@
-//! Books on the command line.
+//! Books on the command line: made, looked at, edited and margined.
 
 #![forbid(unsafe_code)]
 
-fn main() {}
+mod arguments;
+mod books;
+mod chosen;
+mod commands;
+mod curves_text;
+mod differences;
+mod ended;
+mod form;
+mod keyed_twice;
+mod ladder;
+mod outputs;
+mod print;
+mod progress;
+mod refusal;
+mod table;
+mod trade_text;
+mod valued;
+mod words;
+
+use arguments::Arguments;
+use clap::Parser;
+use ended::Ended;
+use std::process::ExitCode;
+
+fn main() -> ExitCode {
+    let ended = match Arguments::try_parse() {
+        Ok(arguments) => commands::run(arguments.command),
+        Err(error) => help_or_misuse(&error),
+    };
+    ExitCode::from(ended.unwrap_or_else(|ended| ended.told()))
+}
+
+/// Help and the version are asked for; all else is wrong usage.
+fn help_or_misuse(error: &clap::Error) -> Result<u8, Ended> {
+    let text = error.to_string();
+    if !error.use_stderr() {
+        print::result(&text)?;
+        return Ok(ended::DONE);
+    }
+    let text = text.trim_end().trim_start_matches("error: ");
+    Err(Ended::Misused(text.to_owned()))
+}

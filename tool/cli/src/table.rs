@@ -1,32 +1,192 @@
-//! Columns of text.
+//! Tables, for people and for programs.
 
-pub enum Align {
-    Left,
-    Right,
+use seddolki_text::decimal::{self, Decimals};
+use serde_json::{Map, Value as Json};
+use unicode_width::UnicodeWidthStr;
+
+/// A cell. A decimal number is whole in units of the last of its places.
+#[derive(Clone, Debug)]
+pub enum Value {
+    Nothing,
+    Text(String),
+    Whole(i128),
+    Decimal(i128, u32),
+    /// A decimal number that shows a plus to people.
+    Signed(i128, u32),
 }
 
-/// Rows of cells, each column as wide as its widest cell and two blanks from
-/// the next.
-pub fn table(alignment: &[Align], rows: &[Vec<String>]) -> String {
+/// Rows under named columns.
+#[derive(Debug)]
+pub struct Table {
+    pub name: &'static str,
+    pub columns: Vec<&'static str>,
+    pub rows: Vec<Vec<Value>>,
+}
+
+impl Value {
+    pub fn text(text: impl Into<String>) -> Self {
+        Value::Text(text.into())
+    }
+
+    pub fn money(amount: impl Into<i128>) -> Self {
+        Value::Decimal(amount.into(), decimal::MONEY)
+    }
+
+    pub fn percent(rate: impl Into<i128>) -> Self {
+        Value::Decimal(rate.into(), decimal::PERCENT)
+    }
+
+    pub fn coefficient(coefficient: impl Into<i128>) -> Self {
+        Value::Signed(coefficient.into(), decimal::COEFFICIENT)
+    }
+
+    pub fn count(number: usize) -> Self {
+        Value::Whole(number as i128)
+    }
+
+    fn for_people(&self) -> String {
+        match self {
+            Value::Nothing => String::new(),
+            Value::Text(text) => crate::print::visible(text).replace('\n', "\\n"),
+            Value::Whole(number) => decimal::format(*number, 0),
+            Value::Decimal(number, places) => decimal::format(*number, *places),
+            Value::Signed(number, places) => decimal::format_signed(*number, *places),
+        }
+    }
+
+    fn plain(&self, decimals: Decimals) -> String {
+        match self {
+            Value::Nothing => String::new(),
+            Value::Text(text) => text.clone(),
+            Value::Whole(number) => number.to_string(),
+            Value::Decimal(number, places) | Value::Signed(number, places) => {
+                decimal::plain(*number, *places, decimals)
+            }
+        }
+    }
+
+    /// Whole numbers are numbers; decimal ones are texts, so that no digit is lost.
+    fn json(&self) -> Json {
+        match self {
+            Value::Nothing => Json::Null,
+            Value::Whole(number) => i64::try_from(*number).map_or(Json::Null, Json::from),
+            other => Json::String(other.plain(Decimals::Point)),
+        }
+    }
+}
+
+impl Table {
+    pub fn new(name: &'static str, columns: &[&'static str]) -> Self {
+        Table {
+            name,
+            columns: columns.to_vec(),
+            rows: vec![],
+        }
+    }
+
+    pub fn push(&mut self, row: Vec<Value>) {
+        debug_assert_eq!(row.len(), self.columns.len());
+        self.rows.push(row);
+    }
+
+    /// The table for people, without the columns that are left out: names on
+    /// the first line, numbers to the right, two blanks between columns.
+    pub fn text_without(&self, left_out: &[&str]) -> String {
+        let places = 0..self.columns.len();
+        let shown: Vec<usize> = places
+            .filter(|&i| !left_out.contains(&self.columns[i]))
+            .collect();
+        let mut lines: Vec<Vec<String>> = vec![shown
+            .iter()
+            .map(|&i| self.columns[i].replace('_', " "))
+            .collect()];
+        let cells = |row: &Vec<Value>| shown.iter().map(|&i| row[i].for_people()).collect();
+        lines.extend(self.rows.iter().map(cells));
+        let left: Vec<bool> = shown.iter().map(|&i| self.is_text(i)).collect();
+        aligned(&left, &lines)
+    }
+
+    pub fn text(&self) -> String {
+        self.text_without(&[])
+    }
+
+    fn is_text(&self, column: usize) -> bool {
+        let mut cells = self.rows.iter().map(|row| &row[column]);
+        cells.any(|cell| matches!(cell, Value::Text(_)))
+    }
+
+    fn objects(&self) -> Json {
+        let object = |row: &Vec<Value>| -> Json {
+            let names = self.columns.iter().map(|name| (*name).to_owned());
+            let pairs = names.zip(row.iter().map(Value::json));
+            Json::Object(pairs.collect::<Map<_, _>>())
+        };
+        self.rows.iter().map(object).collect()
+    }
+}
+
+/// Lines of cells, each column as wide as its widest cell.
+fn aligned(left: &[bool], lines: &[Vec<String>]) -> String {
     let width = |column: usize| {
-        let cells = rows.iter().map(|row| row[column].chars().count());
+        let cells = lines.iter().map(|line| line[column].width());
         cells.max().unwrap_or(0)
     };
-    let widths: Vec<usize> = (0..alignment.len()).map(width).collect();
-    let line = |row: &Vec<String>| {
-        let cells = row.iter().zip(alignment).zip(&widths);
+    let widths: Vec<usize> = (0..left.len()).map(width).collect();
+    let line = |cells: &Vec<String>| {
+        let cells = cells.iter().zip(left).zip(&widths);
         let cells: Vec<String> = cells
-            .map(|((cell, align), &width)| match align {
-                Align::Left => format!("{cell:<width$}"),
-                Align::Right => format!("{cell:>width$}"),
+            .map(|((cell, left), width)| {
+                let blanks = " ".repeat(width - cell.width());
+                if *left {
+                    format!("{cell}{blanks}")
+                } else {
+                    format!("{blanks}{cell}")
+                }
             })
             .collect();
         cells.join("  ").trim_end().to_owned() + "\n"
     };
-    rows.iter().map(line).collect()
+    lines.iter().map(line).collect()
 }
 
-/// A row of cells that are texts already.
-pub fn row(cells: &[&str]) -> Vec<String> {
-    cells.iter().map(|cell| (*cell).to_owned()).collect()
+/// An object with an array for each table, of an object for each row.
+pub fn json(tables: &[Table]) -> String {
+    let pairs = tables.iter().map(|t| (t.name.to_owned(), t.objects()));
+    let object = Json::Object(pairs.collect());
+    format!("{object:#}\n")
+}
+
+/// One line of names, then all rows. Where there are several tables, the
+/// first column says which a row is of, and what its table lacks is empty.
+pub fn csv(tables: &[Table], decimals: Decimals) -> String {
+    let mut names: Vec<&str> = vec![];
+    for name in tables.iter().flat_map(|table| &table.columns) {
+        if !names.contains(name) {
+            names.push(name);
+        }
+    }
+    let separator = decimals.separator();
+    let mut out = csv::WriterBuilder::new()
+        .delimiter(separator)
+        .from_writer(vec![]);
+    let several = tables.len() > 1;
+    let mut lines = vec![line(several.then_some("table"), names.iter().map(|n| (*n).to_owned()))];
+    for table in tables {
+        for row in &table.rows {
+            let cell = |name: &&str| {
+                let place = table.columns.iter().position(|column| column == name);
+                place.map_or(String::new(), |i| row[i].plain(decimals))
+            };
+            lines.push(line(several.then_some(table.name), names.iter().map(cell)));
+        }
+    }
+    for line in lines {
+        out.write_record(line).expect("memory takes every record of one length");
+    }
+    let bytes = out.into_inner().expect("memory is flushed");
+    String::from_utf8(bytes).expect("texts are written as they are")
+}
+
+fn line(table: Option<&str>, cells: impl Iterator<Item = String>) -> Vec<String> {
+    table.map(str::to_owned).into_iter().chain(cells).collect()
 }

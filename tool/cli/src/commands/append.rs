@@ -1,36 +1,40 @@
 //! One trade added.
 
-use crate::columns::{meanings, Column};
-use crate::command::Command;
-use crate::store::edit_book;
-use crate::trade::{append, record_of};
+use crate::arguments::Append;
+use crate::books::{accepted_parts, edit};
+use crate::trade_text::{appended, named_values};
+use crate::ended::{Ended, DONE};
+use crate::keyed_twice::Told;
+use crate::print;
+use seddolki::{doubles_of, Placed};
+use seddolki_store::shown;
+use seddolki_text::trade::record_of;
 
-pub const COMMAND: Command = Command {
-    name: "append",
-    operands: "BOOK COLUMN=VALUE ...",
-    about: "Adds one trade behind the last.",
-    more: || {
-        format!(
-            "Columns that the trade does not use are left out.\n\n{}",
-            meanings()
-        )
-    },
-    run,
-};
-
-fn run(operands: &[String]) -> Result<String, String> {
-    let (path, values) = operands.split_first().ok_or_else(|| COMMAND.misused())?;
-    let values: Vec<(&Column, &str)> = values
-        .iter()
-        .map(|value| named_value(value))
-        .collect::<Result<_, _>>()?;
-    let record = record_of(&values)?;
-    let position = edit_book(path, |book| append(book, &record))?;
-    Ok(format!("{path}: trade {position} is added\n"))
+pub fn run(arguments: &Append) -> Result<u8, Ended> {
+    let name = shown(&arguments.book);
+    let given = named_values(&arguments.values)?;
+    let record = record_of(&given).map_err(|faults| told(&name, &faults))?;
+    let (position, notes) = edit(&arguments.book, arguments.waiting, |name, book| {
+        let parts = accepted_parts(name, book)?;
+        let position = appended(book, &parts.curves, &record)
+            .map_err(|reason| Ended::refused(format!("{name}: {reason}")))?;
+        let named = |trade: &Placed| {
+            if trade.position == position {
+                "the new trade".into()
+            } else {
+                trade.to_string()
+            }
+        };
+        let doubles = doubles_of(&parts.trades, &record);
+        let notes = Told::of(&doubles, arguments.again.again, named)?;
+        Ok((position, notes))
+    })?;
+    print::notice(&format!("{name}: trade {position} is added"));
+    notes.say();
+    Ok(DONE)
 }
 
-fn named_value(text: &str) -> Result<(&'static Column, &str), String> {
-    let (name, value) = text.split_once('=').ok_or_else(|| COMMAND.misused())?;
-    let column = Column::named(name).ok_or_else(|| format!("there is no column {name}"))?;
-    Ok((column, value.trim()))
+fn told(name: &str, faults: &[seddolki_text::Fault]) -> Ended {
+    let lines = faults.iter().map(|fault| format!("{name}: {fault}"));
+    Ended::Refused(lines.collect())
 }

@@ -1,83 +1,97 @@
-//! Trades added from a file of values that commas separate.
+//! Trades added from a CSV file.
 
-use crate::columns::{meanings, Column};
-use crate::command::Command;
-use crate::csv::split;
-use crate::store::{edit_book, read_text};
-use crate::trade::{append, record_of};
+use crate::arguments::Import;
+use crate::books::{accepted_parts, edit, one_stream, text};
+use crate::trade_text::appended;
+use crate::ended::{Ended, DONE};
+use crate::keyed_twice::Told;
+use crate::print;
 use crate::words::count;
-use seddolki::{Book, Record};
+use seddolki::{doubles_among, stands_already, Book, Placed, Record};
+use seddolki_format::block::Curve;
+use seddolki_store::shown;
+use seddolki_text::trades_file;
 
-pub const COMMAND: Command = Command {
-    name: "import",
-    operands: "BOOK TRADES",
-    about: "Adds the trades of a CSV file, all of them or none.",
-    more: || {
-        format!(
-            "The first line names the columns, in any order; each line below is a trade.\n\
-             A value that the trade does not use is left empty.\n\n{}",
-            meanings()
-        )
-    },
-    run,
-};
+pub const FORM: &str = "\
+The first line names the columns, in any order; each line below is a trade. A
+value that the trade does not use is left empty. Commas, semicolons or tabs
+separate values, as the first line has it: with commas numbers have decimal
+points, with semicolons decimal commas; with tabs a number is taken only if it
+can be read in one way. Every wrong line is told, and nothing is added then.
+";
 
-fn run(operands: &[String]) -> Result<String, String> {
-    let [path, trades] = COMMAND.take(operands)?;
-    let text = read_text(trades)?;
-    let lines = records(&text).map_err(|message| format!("{trades}: {message}"))?;
-    edit_book(path, |book| {
-        append_all(book, &lines).map_err(|message| format!("{trades}: {message}"))
-    })?;
-    Ok(format!("{path}: {} added\n", count(lines.len(), "trade")))
+/// The trades of a file, each with its line.
+struct Lines {
+    name: String,
+    numbers: Vec<u64>,
+    records: Vec<Record>,
 }
 
-fn append_all(book: &mut Book, lines: &[(usize, Record)]) -> Result<(), String> {
-    for (line, record) in lines {
-        append(book, record).map_err(|message| format!("line {line}, {message}"))?;
-    }
-    Ok(())
-}
-
-/// The records, each with its line, counted from 1.
-fn records(text: &str) -> Result<Vec<(usize, Record)>, String> {
-    let text = text.trim_start_matches('\u{feff}');
-    let mut lines = (1..)
-        .zip(text.lines())
-        .filter(|(_, line)| !line.trim().is_empty());
-    let (first, names) = lines.next().ok_or("the line of column names is missing")?;
-    let columns = columns(names).map_err(|message| format!("line {first}, {message}"))?;
-    lines
-        .map(|(number, line)| {
-            let record = record(&columns, line);
-            let record = record.map_err(|message| format!("line {number}, {message}"))?;
-            Ok((number, record))
-        })
-        .collect()
-}
-
-fn columns(names: &str) -> Result<Vec<&'static Column>, String> {
-    let mut columns: Vec<&Column> = vec![];
-    for name in split(names)? {
-        let column = Column::named(&name).ok_or_else(|| format!("column {name}: there is none"))?;
-        if columns.iter().any(|earlier| earlier.name == column.name) {
-            return Err(format!("column {name}: it stands twice"));
+pub fn run(arguments: &Import) -> Result<u8, Ended> {
+    let lines = read(arguments)?;
+    let notes = edit(&arguments.book, arguments.waiting, |name, book| {
+        let parts = accepted_parts(name, book)?;
+        if !arguments.again.again {
+            lines.not_there_already(name, &parts.trades)?;
         }
-        columns.push(column);
-    }
-    Ok(columns)
+        append_all(book, &parts.curves, &lines)?;
+        let doubles = doubles_among(&parts.trades, &lines.records);
+        let named = |trade: &Placed| lines.named(trade, parts.trades.len());
+        Told::of(&doubles, arguments.again.again, named)
+    })?;
+    let (name, added) = (shown(&arguments.book), count(lines.records.len(), "trade"));
+    print::notice(&format!("{name}: {added} added"));
+    notes.say();
+    Ok(DONE)
 }
 
-fn record(columns: &[&Column], line: &str) -> Result<Record, String> {
-    let values = split(line)?;
-    if values.len() != columns.len() {
-        let (due, found) = (count(columns.len(), "value"), values.len());
-        return Err(format!("{due} due by the column names, {found} found"));
+fn read(arguments: &Import) -> Result<Lines, Ended> {
+    one_stream([arguments.book.as_path(), &arguments.trades])?;
+    let name = shown(&arguments.trades);
+    let read = trades_file::read(&text(&arguments.trades)?.bytes);
+    let told = |faults: Vec<seddolki_text::Fault>| {
+        let lines = faults.iter().map(|fault| format!("{name}: {fault}"));
+        Ended::Refused(lines.collect())
+    };
+    let (numbers, records) = read.map_err(told)?.into_iter().unzip();
+    Ok(Lines {
+        name,
+        numbers,
+        records,
+    })
+}
+
+/// Appends all records, or tells every one that is refused.
+fn append_all(book: &mut Book, curves: &[Curve], lines: &Lines) -> Result<(), Ended> {
+    let mut refused = vec![];
+    for (line, record) in lines.numbers.iter().zip(&lines.records) {
+        if let Err(reason) = appended(book, curves, record) {
+            refused.push(format!("{}: line {line}, {reason}", lines.name));
+        }
     }
-    let named: Vec<(&Column, &str)> = columns
-        .iter()
-        .copied()
-        .zip(values.iter().map(String::as_str))
-        .collect();
-    record_of(&named)
+    if refused.is_empty() {
+        return Ok(());
+    }
+    Err(Ended::Refused(refused))
+}
+
+impl Lines {
+    /// A trade of the book by its position, one of the file by its line.
+    fn named(&self, trade: &Placed, standing: usize) -> String {
+        match trade.position.checked_sub(standing) {
+            Some(place) => format!("line {} of {}", self.numbers[place], self.name),
+            None => trade.to_string(),
+        }
+    }
+
+    /// Refuses a file that was imported before.
+    fn not_there_already(&self, book: &str, trades: &[Record]) -> Result<(), Ended> {
+        let Some(standing) = stands_already(trades, &self.records) else {
+            return Ok(());
+        };
+        let (name, count) = (&self.name, count(self.records.len(), "trade"));
+        let reason = format!("{name}: imported already: its {count} stand in {book}, {standing}");
+        let meant = "nothing is added; --again takes what is meant";
+        Err(Ended::Refused(vec![reason, meant.into()]))
+    }
 }

@@ -1,96 +1,148 @@
-//! The margin of a book as a dealer reads it.
+//! The margin of books as a dealer reads it.
 
-use crate::command::Command;
-use crate::decimal::{format as decimal, format_signed, COEFFICIENT, MONEY};
-use crate::store::accepted_book;
-use crate::table::{row, table, Align};
-use crate::view::parts;
-use seddolki::{CurveFigures, Report};
+use crate::arguments::Margin;
+use crate::books::{accepted, one_stream, BookFile};
+use crate::ended::Ended;
+use crate::progress::over_books;
+use crate::table::{Table, Value};
+use seddolki::{CurrencyFigures, CurveFigures, Report};
 use seddolki_format::block::Curve;
-use seddolki_format::report::currency_name;
+use seddolki_format::report::{currency_name, CURRENCIES};
 use seddolki_model::scenario::scenarios;
+use std::path::{Path, PathBuf};
 
-pub const COMMAND: Command = Command {
-    name: "margin",
-    operands: "BOOK",
-    about: "Shows the margin by curve and by currency.",
-    more: || {
-        "By curve: the value of its flows today, the largest loss over its scenarios,\n\
-         the scenario of that loss with its three coefficients, and how far the value\n\
-         may be from the exact one. By currency: initial is the sum of the worst\n\
-         losses, variation the sum of the values, total is variation less initial.\n"
-            .into()
-    },
-    run,
-};
+pub const FIGURES: &str = "\
+By curve: the value of its flows today, the largest loss over its scenarios,
+the scenario of that loss with its three coefficients, and how far the value
+may be from the exact one. By currency: initial is the sum of the worst
+losses, variation the sum of the values, total is variation less initial.
+Of several books the currencies are shown, and their totals over all books.";
 
-fn run(operands: &[String]) -> Result<String, String> {
-    let [path] = COMMAND.take(operands)?;
-    let book = accepted_book(path)?;
-    let report = book
-        .margin()
-        .map_err(|refusal| format!("{path}: {refusal}"))?;
-    Ok(format!(
-        "account {}\n\n{}\n{}",
-        report.account,
-        by_curve(&report, &parts(&book).curves),
-        by_currency(&report)
-    ))
+/// A book's report.
+struct Margined {
+    file: BookFile,
+    report: Report,
 }
 
-fn by_curve(report: &Report, curves: &[Curve]) -> String {
-    let mut rows = vec![row(&[
-        "curve",
-        "",
-        "base",
-        "worst loss",
-        "scenario",
-        "coefficients",
-        "tolerance",
-    ])];
-    for ((id, figures), curve) in report.present_curves().zip(curves) {
-        rows.push(curve_cells(id, figures, curve));
+pub fn run(arguments: &Margin) -> Result<u8, Ended> {
+    let paths = &arguments.books.books;
+    one_stream(paths.iter().map(PathBuf::as_path))?;
+    let (margined, worst) = over_books(paths, margined);
+    if margined.is_empty() {
+        return Ok(worst);
     }
-    let right = || Align::Right;
-    table(
-        &[
-            right(),
-            Align::Left,
-            right(),
-            right(),
-            right(),
-            right(),
-            right(),
-        ],
-        &rows,
-    )
+    let several = paths.len() > 1;
+    let tables = [curves(&margined), currencies(&margined), totals(&margined)];
+    arguments.form.print(&tables, |tables| text(tables, several))?;
+    Ok(worst)
 }
 
-fn curve_cells(id: usize, figures: &CurveFigures, curve: &Curve) -> Vec<String> {
-    let coefficients = scenarios(curve)[figures.scenario as usize];
+fn margined(path: &Path) -> Result<Margined, Ended> {
+    let file = accepted(path)?;
+    let report = file.book.margin();
+    let report = report.map_err(|refusal| Ended::refused(format!("{}: {refusal}", file.name)))?;
+    Ok(Margined { file, report })
+}
+
+fn text([curves, currencies, totals]: &[Table; 3], several: bool) -> String {
+    if several {
+        return format!("{}\n{}", currencies.text(), totals.text());
+    }
+    let account = match &curves.rows[0][1] {
+        Value::Whole(account) => account.to_string(),
+        _ => String::new(),
+    };
+    let own = ["book", "account"];
+    let (curves, currencies) = (curves.text_without(&own), currencies.text_without(&own));
+    format!("account {account}\n\n{curves}\n{currencies}")
+}
+
+fn curves(margined: &[Margined]) -> Table {
+    let mut table = Table::new(
+        "curves",
+        &[
+            "book",
+            "account",
+            "curve",
+            "currency",
+            "base",
+            "worst_loss",
+            "scenario",
+            "coefficient_1",
+            "coefficient_2",
+            "coefficient_3",
+            "tolerance",
+        ],
+    );
+    for Margined { file, report } in margined {
+        for ((id, figures), curve) in report.present_curves().zip(&file.parts.curves) {
+            let mut row = book_cells(file);
+            row.extend(curve_cells(id, figures, curve));
+            table.push(row);
+        }
+    }
+    table
+}
+
+fn book_cells(file: &BookFile) -> Vec<Value> {
     vec![
-        id.to_string(),
-        currency_name(figures.currency).to_owned(),
-        decimal(figures.base, MONEY),
-        decimal(figures.worst_loss, MONEY),
-        figures.scenario.to_string(),
-        coefficients
-            .map(|coefficient| format_signed(coefficient, COEFFICIENT))
-            .join(" "),
-        decimal(figures.tolerance, MONEY),
+        Value::text(&file.name),
+        Value::Whole(file.parts.account.into()),
     ]
 }
 
-fn by_currency(report: &Report) -> String {
-    let mut rows = vec![row(&["currency", "initial", "variation", "total"])];
-    for (name, figures) in report.present_currencies() {
-        let amounts = [figures.initial, figures.variation, figures.total];
-        let mut cells = row(&[name]);
-        cells.extend(amounts.map(|amount| decimal(amount, MONEY)));
-        rows.push(cells);
+fn curve_cells(id: usize, figures: &CurveFigures, curve: &Curve) -> Vec<Value> {
+    let coefficients = scenarios(curve)[figures.scenario as usize];
+    let mut cells = vec![
+        Value::count(id),
+        Value::text(currency_name(figures.currency)),
+        Value::money(figures.base),
+        Value::money(figures.worst_loss),
+        Value::Whole(figures.scenario.into()),
+    ];
+    cells.extend(coefficients.map(Value::coefficient));
+    cells.push(Value::money(figures.tolerance));
+    cells
+}
+
+fn currencies(margined: &[Margined]) -> Table {
+    let mut table = Table::new(
+        "currencies",
+        &["book", "account", "currency", "initial", "variation", "total"],
+    );
+    for Margined { file, report } in margined {
+        for (name, figures) in report.present_currencies() {
+            let mut row = book_cells(file);
+            row.push(Value::text(name));
+            row.extend(amounts(figures).map(Value::money));
+            table.push(row);
+        }
     }
-    table(
-        &[Align::Left, Align::Right, Align::Right, Align::Right],
-        &rows,
-    )
+    table
+}
+
+fn amounts(figures: &CurrencyFigures) -> [i128; 3] {
+    [figures.initial, figures.variation, figures.total].map(i128::from)
+}
+
+/// The sums over all books, by currency.
+fn totals(margined: &[Margined]) -> Table {
+    let mut table = Table::new(
+        "totals",
+        &["currency", "books", "initial", "variation", "total"],
+    );
+    for currency in CURRENCIES {
+        let all = margined.iter().flat_map(|m| m.report.present_currencies());
+        let own: Vec<[i128; 3]> = all
+            .filter(|(name, _)| *name == currency)
+            .map(|(_, figures)| amounts(figures))
+            .collect();
+        if !own.is_empty() {
+            let sum = |i: usize| own.iter().map(|amounts| amounts[i]).sum::<i128>();
+            let mut row = vec![Value::text(currency), Value::count(own.len())];
+            row.extend([0, 1, 2].map(sum).map(Value::money));
+            table.push(row);
+        }
+    }
+    table
 }

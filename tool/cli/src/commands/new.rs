@@ -1,45 +1,26 @@
 //! A new book of curves alone.
 
-use crate::command::Command;
-use crate::curve_file::{self, CurveFile};
-use crate::store;
+use crate::arguments::New;
+use crate::books::{is_stream, patience, text};
+use crate::curves_text::{book_of, read_curves};
+use crate::ended::{Ended, DONE};
 use crate::words::count;
-use seddolki::{Book, Refusal};
-use seddolki_format::assemble;
+use crate::print;
+use seddolki_store::{self as store, shown};
 
-pub const COMMAND: Command = Command {
-    name: "new",
-    operands: "BOOK CURVES",
-    about: "Makes a book without trades from a text file of curves.",
-    more: || {
-        format!(
-            "A file that is there already is not written.\n\n{}",
-            curve_file::FORM
-        )
-    },
-    run,
-};
-
-fn run(operands: &[String]) -> Result<String, String> {
-    let [path, curves] = COMMAND.take(operands)?;
-    let text = store::read_text(curves)?;
-    let file = curve_file::read(&text).map_err(|message| format!("{curves}: {message}"))?;
-    let book = Book::from_bytes(assemble(file.account, &file.curves, &[]));
-    book.check()
-        .map_err(|refusal| format!("{curves}: {}", describe(&file, refusal)))?;
-    store::create(path, book.as_bytes())?;
-    let count = count(file.curves.len(), "curve");
-    Ok(format!(
-        "{path}: account {}, {count}, no trades\n",
-        file.account
-    ))
-}
-
-/// A curve's block has the curve's number.
-fn describe(file: &CurveFile, refusal: Refusal) -> String {
-    let line = refusal.block.checked_sub(1).and_then(|i| file.lines.get(i));
-    match line {
-        Some(line) => format!("line {line}, curve {}: {refusal}", refusal.block),
-        None => refusal.to_string(),
+pub fn run(arguments: &New) -> Result<u8, Ended> {
+    let input = text(&arguments.curves)?;
+    let name = shown(&arguments.curves);
+    let file = read_curves(&name, &input)?;
+    let book = book_of(&name, &file, &[])?;
+    let patience = patience(arguments.waiting);
+    if is_stream(&arguments.book) {
+        store::write_output(&arguments.book, book.as_bytes(), false, &[&input], &patience)?;
+        return Ok(DONE);
     }
+    store::create(&arguments.book, book.as_bytes(), &patience)?;
+    let count = count(file.curves.len(), "curve");
+    let (name, account) = (shown(&arguments.book), file.account);
+    print::notice(&format!("{name}: account {account}, {count}, no trades"));
+    Ok(DONE)
 }

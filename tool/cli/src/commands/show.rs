@@ -1,32 +1,28 @@
 //! The curves and trades of a book, in words.
 
-use crate::command::Command;
-use crate::decimal::{format as decimal, format_signed, COEFFICIENT, MONEY, PERCENT};
-use crate::store::accepted_book;
-use crate::table::{row, table, Align};
-use crate::view::parts;
-use crate::words::{count, named_flows, trade};
+use crate::arguments::Show;
+use crate::books::accepted;
+use crate::trade_text::cells;
+use crate::ended::{Ended, DONE};
+use crate::table::{Table, Value};
+use crate::words::{self, count, named_flows};
 use seddolki::Record;
 use seddolki_format::block::Curve;
 use seddolki_format::report::currency_name;
+use seddolki_model::accept::Book;
 use seddolki_model::flows::CashFlow;
 use seddolki_model::scenario::scenarios;
+use seddolki_text::columns::COLUMNS;
+use seddolki_text::decimal::{format as decimal, COEFFICIENT, MONEY, PERCENT};
 
-pub const COMMAND: Command = Command {
-    name: "show",
-    operands: "BOOK",
-    about: "Lists the curves, the trades and their dated cash flows.",
-    more: || {
-        "Days are counted from today, day 0. What comes in has a plus, what goes out a\n\
-         minus. A trade's position is the number in front of it.\n"
-            .into()
-    },
-    run,
-};
+pub fn run(arguments: &Show) -> Result<u8, Ended> {
+    let book = accepted(&arguments.one.book)?.parts;
+    let tables = [curves(&book), nodes(&book.curves), trades(&book), flows(&book)];
+    arguments.form.print(&tables, |_| text(&book))?;
+    Ok(DONE)
+}
 
-fn run(operands: &[String]) -> Result<String, String> {
-    let [path] = COMMAND.take(operands)?;
-    let book = parts(&accepted_book(path)?);
+fn text(book: &Book) -> String {
     let mut text = format!("account {}\n", book.account);
     for curve in &book.curves {
         text += &show_curve(curve);
@@ -37,7 +33,7 @@ fn run(operands: &[String]) -> Result<String, String> {
     if book.trades.is_empty() {
         text += "\nno trades\n";
     }
-    Ok(text)
+    text
 }
 
 fn show_curve(curve: &Curve) -> String {
@@ -52,34 +48,92 @@ fn show_curve(curve: &Curve) -> String {
         count(scenarios(curve).len(), "scenario"),
         components.join(", ")
     );
-    let mut rows = vec![row(&["  day", "rate %", "component 1", "2", "3"])];
-    for node in curve.nodes() {
-        let mut cells = vec![decimal(node.day, 0), decimal(node.rate, PERCENT)];
-        cells.extend(node.components.map(|c| format_signed(c, PERCENT)));
-        rows.push(cells);
-    }
-    head + &table(&[const { Align::Right }; 5], &rows)
+    head + &nodes(std::slice::from_ref(curve)).text_without(&["curve"])
 }
 
 fn show_trade(position: usize, record: &Record) -> String {
-    let head = format!("\ntrade {position}: {}\n", trade(record));
-    let flows = named_flows(record);
-    if flows.is_empty() {
-        return head + "  no cash flows\n";
+    let head = format!("\ntrade {position}: {}\n", words::trade(record));
+    let mut table = Table::new("flows", &FLOWS);
+    push_flows(&mut table, position, record);
+    if table.rows.is_empty() {
+        return head + "no cash flows\n";
     }
-    let rows: Vec<Vec<String>> = flows.iter().map(flow_cells).collect();
-    head + &table(
-        &[Align::Right, Align::Right, Align::Right, Align::Left],
-        &rows,
-    )
+    head + &table.text_without(&["position"])
 }
 
-fn flow_cells((flow, name): &(CashFlow, &str)) -> Vec<String> {
-    let amount = flow.sign as i128 * flow.amount as i128;
-    vec![
-        format!("  day {}", decimal(flow.day, 0)),
-        format!("curve {}", flow.curve),
-        format_signed(amount, MONEY),
-        (*name).to_owned(),
-    ]
+fn curves(book: &Book) -> Table {
+    let mut table = Table::new(
+        "curves",
+        &[
+            "account", "curve", "currency", "scenarios", "steps_1", "steps_2", "steps_3", "range_1", "range_2",
+            "range_3",
+        ],
+    );
+    for curve in &book.curves {
+        let mut row = vec![
+            Value::Whole(book.account.into()),
+            Value::Whole(curve.id.into()),
+            Value::text(currency_name(curve.currency.into())),
+            Value::count(scenarios(curve).len()),
+        ];
+        row.extend(curve.steps.map(|steps| Value::Whole(steps.into())));
+        row.extend(curve.ranges.map(|range| Value::Decimal(range.into(), COEFFICIENT)));
+        table.push(row);
+    }
+    table
+}
+
+fn nodes(curves: &[Curve]) -> Table {
+    let columns = ["curve", "day", "rate", "component_1", "component_2", "component_3"];
+    let mut table = Table::new("nodes", &columns);
+    for curve in curves {
+        for node in curve.nodes() {
+            let mut row = vec![
+                Value::Whole(curve.id.into()),
+                Value::Whole(node.day.into()),
+                Value::percent(node.rate),
+            ];
+            row.extend(node.components.map(|c| Value::Signed(c.into(), PERCENT)));
+            table.push(row);
+        }
+    }
+    table
+}
+
+/// The columns are those that append and import take.
+fn trades(book: &Book) -> Table {
+    let names: Vec<&str> = COLUMNS.iter().map(|column| column.name).collect();
+    let mut table = Table::new("trades", &[&["position"], &names[..]].concat());
+    for (position, record) in book.trades.iter().enumerate() {
+        let mut row = vec![Value::count(position)];
+        row.extend(cells(record));
+        table.push(row);
+    }
+    table
+}
+
+const FLOWS: [&str; 5] = ["position", "day", "curve", "amount", "flow"];
+
+fn flows(book: &Book) -> Table {
+    let mut table = Table::new("flows", &FLOWS);
+    for (position, record) in book.trades.iter().enumerate() {
+        push_flows(&mut table, position, record);
+    }
+    table
+}
+
+fn push_flows(table: &mut Table, position: usize, record: &Record) {
+    for (flow, name) in named_flows(record) {
+        table.push(vec![
+            Value::count(position),
+            Value::Whole(flow.day.into()),
+            Value::Whole(flow.curve.into()),
+            Value::Signed(signed(&flow), MONEY),
+            Value::text(name),
+        ]);
+    }
+}
+
+fn signed(flow: &CashFlow) -> i128 {
+    i128::from(flow.sign) * flow.amount as i128
 }

@@ -1,32 +1,21 @@
 //! One trade removed.
 
-use crate::command::Command;
-use crate::store::edit_book;
+use crate::arguments::Strike;
+use crate::books::edit;
+use crate::ended::{Ended, DONE};
+use crate::print;
 use crate::words::trade;
+use seddolki_store::shown;
 
-pub const COMMAND: Command = Command {
-    name: "strike",
-    operands: "BOOK POSITION",
-    about: "Removes the trade at a position.",
-    more: || {
-        "Positions count from 0, as show lists them. The trades behind move up by one.\n".into()
-    },
-    run,
-};
-
-fn run(operands: &[String]) -> Result<String, String> {
-    let [path, position] = COMMAND.take(operands)?;
-    let number: usize = position
-        .parse()
-        .map_err(|_| format!("{position} is no position"))?;
-    let struck = edit_book(path, |book| {
-        let record = book.read(number);
-        book.strike(number)
-            .and(record)
-            .map_err(|refusal| format!("{path}: position {number}: {refusal}"))
+pub fn run(arguments: &Strike) -> Result<u8, Ended> {
+    let position = arguments.position;
+    let struck = edit(&arguments.book, arguments.waiting, |name, book| {
+        let record = book.read(position);
+        book.strike(position).and(record).map_err(|refusal| {
+            Ended::refused(format!("{name}: position {position}: {refusal}"))
+        })
     })?;
-    Ok(format!(
-        "{path}: trade {number} is struck: {}\n",
-        trade(&struck)
-    ))
+    let (name, words) = (shown(&arguments.book), trade(&struck));
+    print::notice(&format!("{name}: trade {position} is struck: {words}"));
+    Ok(DONE)
 }

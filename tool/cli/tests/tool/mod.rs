@@ -3,24 +3,47 @@
 #![allow(dead_code)] // no test uses all of it
 
 use std::fs;
+use std::os::unix::process::ExitStatusExt;
 use std::path::{Path, PathBuf};
-use std::process::{Command, Output};
+use std::process::{Command, Output, Stdio};
 use std::sync::atomic::{AtomicU32, Ordering};
+
+pub const DONE: i32 = 0;
+pub const REFUSED: i32 = 1;
+pub const MISUSED: i32 = 2;
+pub const FAILED: i32 = 3;
 
 /// A directory that goes with its test.
 pub struct Desk {
     directory: PathBuf,
 }
 
-/// What a run printed.
+/// What a run printed, and its exit status.
+#[derive(Debug)]
 pub struct Run {
-    pub done: bool,
+    pub status: i32,
     pub out: String,
     pub err: String,
 }
 
 pub fn example(name: &str) -> String {
     format!("{}/../../examples/{name}", env!("CARGO_MANIFEST_DIR"))
+}
+
+/// A buyer's trade that fits the curve of buyer.book, of a nominal of one's own.
+pub fn outright(nominal: u32) -> Vec<String> {
+    let nominal = format!("nominal={nominal}");
+    let words = [
+        "kind=outright",
+        "side=buyer",
+        "cash_curve=1",
+        "security=single payment",
+        "security_curve=1",
+        &nominal,
+        "first_payment_day=9",
+        "clean_price=99",
+    ];
+    words.map(str::to_owned).to_vec()
 }
 
 impl Desk {
@@ -40,55 +63,78 @@ impl Desk {
         desk
     }
 
-    pub fn path(&self, name: &str) -> PathBuf {
+    pub fn path(&self, name: impl AsRef<Path>) -> PathBuf {
         self.directory.join(name)
     }
 
-    pub fn write(&self, name: &str, content: impl AsRef<[u8]>) {
+    pub fn write(&self, name: impl AsRef<Path>, content: impl AsRef<[u8]>) {
         fs::write(self.path(name), content).unwrap();
     }
 
-    pub fn read(&self, name: &str) -> Vec<u8> {
+    pub fn read(&self, name: impl AsRef<Path>) -> Vec<u8> {
         fs::read(self.path(name)).unwrap()
     }
 
     /// Names of all files, sorted.
     pub fn files(&self) -> Vec<String> {
         let entries = fs::read_dir(&self.directory).unwrap();
-        let name = |entry: fs::DirEntry| entry.file_name().into_string().unwrap();
+        let name = |entry: fs::DirEntry| entry.file_name().to_string_lossy().into_owned();
         let mut names: Vec<String> = entries.map(|entry| name(entry.unwrap())).collect();
         names.sort();
         names
     }
 
-    pub fn run(&self, arguments: &[&str]) -> Run {
-        let mut tool = Command::new(tool());
-        finish(tool.args(arguments).current_dir(&self.directory))
+    /// The tool with these arguments, still to be run.
+    pub fn tool<S: AsRef<std::ffi::OsStr>>(&self, arguments: &[S]) -> Command {
+        let mut command = Command::new(tool());
+        command.args(arguments).current_dir(&self.directory);
+        command.stdin(Stdio::null());
+        command
     }
 
-    /// Runs, and expects it done.
-    pub fn done(&self, arguments: &[&str]) -> String {
+    pub fn run<S: AsRef<std::ffi::OsStr>>(&self, arguments: &[S]) -> Run {
+        finish(&mut self.tool(arguments))
+    }
+
+    /// Runs, and expects it done with no word on standard error.
+    pub fn done<S: AsRef<std::ffi::OsStr> + std::fmt::Debug>(&self, arguments: &[S]) -> String {
         let run = self.run(arguments);
-        assert!(run.done, "{arguments:?}: {}", run.err);
-        assert_eq!(run.err, "");
+        assert_eq!((run.status, run.err.as_str()), (DONE, ""), "{arguments:?}");
         run.out
     }
 
-    /// Runs, and expects one line of refusal, which is given.
-    pub fn refused(&self, arguments: &[&str]) -> String {
+    /// Runs, and expects that exit status, nothing printed, and one line of
+    /// reason, which is given.
+    pub fn ended<S: AsRef<std::ffi::OsStr> + std::fmt::Debug>(&self, status: i32, arguments: &[S]) -> String {
         let run = self.run(arguments);
-        assert!(!run.done, "{arguments:?}");
-        assert_eq!(run.out, "");
+        assert_eq!((run.status, run.out.as_str()), (status, ""), "{arguments:?}: {run:?}");
         let line = run.err.strip_suffix('\n').unwrap();
         assert!(!line.contains('\n'), "{line}");
         line.strip_prefix("seddolki: ").unwrap().to_owned()
     }
 
+    pub fn refused<S: AsRef<std::ffi::OsStr> + std::fmt::Debug>(&self, arguments: &[S]) -> String {
+        self.ended(REFUSED, arguments)
+    }
+
+    /// Appends a trade that the desk's book takes.
+    pub fn append(&self, book: &str, values: &[String]) -> Run {
+        let mut arguments = vec!["append".to_owned(), book.to_owned()];
+        arguments.extend_from_slice(values);
+        self.run(&arguments)
+    }
+
+    /// How many trades a book has.
+    pub fn trades(&self, book: &str) -> usize {
+        let book = seddolki::Book::from_bytes(self.read(book));
+        book.records().unwrap().count()
+    }
+
     /// Runs a line of shell in the directory, `$0` being the tool.
     pub fn shell(&self, line: &str) -> Run {
-        let mut shell = Command::new("sh");
+        let mut shell = Command::new("bash");
         shell.args(["-c", line]).arg(tool());
-        finish(shell.current_dir(&self.directory))
+        finish(shell.current_dir(&self.directory).stdin(Stdio::null()))
     }
 }
 
@@ -98,19 +144,20 @@ impl Drop for Desk {
     }
 }
 
-fn tool() -> &'static Path {
+pub fn tool() -> &'static Path {
     Path::new(env!("CARGO_BIN_EXE_seddolki"))
 }
 
-fn finish(command: &mut Command) -> Run {
+/// Runs to the end. A panic ends with 101, which no test expects.
+pub fn finish(command: &mut Command) -> Run {
     let Output {
         status,
         stdout,
         stderr,
     } = command.output().unwrap();
-    assert!(matches!(status.code(), Some(0 | 1)), "{status}");
+    let code = status.code().or(status.signal().map(|signal| 128 + signal));
     Run {
-        done: status.success(),
+        status: code.unwrap(),
         out: String::from_utf8(stdout).unwrap(),
         err: String::from_utf8(stderr).unwrap(),
     }

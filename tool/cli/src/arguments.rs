@@ -1,0 +1,310 @@
+//! The commands and what they take.
+
+use crate::form::Form;
+use clap::{Args, Parser, Subcommand, ValueEnum};
+use std::path::PathBuf;
+
+/// A back office's day, from an empty folder to a margin.
+pub const DAY: &str = "\
+A day, from an empty folder to a margin:
+
+  seddolki template curves curves.txt
+  seddolki template trades trades.csv
+  seddolki new desk.book curves.txt
+  seddolki import desk.book trades.csv
+  seddolki margin desk.book
+
+Exit status:
+
+  0  done
+  1  refused, by a ground of the engine or by a rule of what was put in
+  2  wrong usage
+  3  a file or the system failed; nothing has changed
+
+An edit that is done ends with 0 also where word of it could not be printed.";
+
+/// Books of cash flows and their margin
+#[derive(Debug, Parser)]
+#[command(name = "seddolki", version, after_help = DAY)]
+#[command(subcommand_required = true, arg_required_else_help = true)]
+pub struct Arguments {
+    #[command(subcommand)]
+    pub command: Command,
+}
+
+#[derive(Debug, Subcommand)]
+pub enum Command {
+    /// Write a file of curves or of trades to start from
+    Template(Template),
+    /// Make a book without trades from a file of curves
+    New(New),
+    /// Add one trade behind the last
+    Append(Append),
+    /// Add the trades of a CSV file, all of them or none
+    Import(Import),
+    /// Change columns of the trade at a position
+    Amend(Amend),
+    /// Remove the trade at a position
+    Strike(Strike),
+    /// Replace the curves of a book, its trades kept
+    Curves(Curves),
+    /// Say whether books keep every rule
+    Check(Check),
+    /// List the curves, the trades and their dated cash flows
+    Show(Show),
+    /// Show the margin by curve and by currency
+    Margin(Margin),
+    /// Show the net cash flows by day and curve
+    Flows(Flows),
+    /// Show the loss of every scenario, or of every trade
+    Losses(Losses),
+    /// Tell what two books differ in
+    Diff(Diff),
+    /// Write the trades of a book as CSV, or its curves
+    Export(Export),
+    /// Draw a curve and its cash flows, or its losses
+    Plot(Plot),
+    /// Explain a ground of refusal
+    Explain(Explain),
+    /// Print completions for a shell
+    Completions(Completions),
+    /// Print the manual page
+    Man,
+}
+
+/// Of every command that writes into a folder.
+#[derive(Args, Clone, Copy, Debug)]
+pub struct Waiting {
+    /// Wait so long for another command that writes in the same folder
+    #[arg(long, value_name = "SECONDS", default_value_t = 10, value_parser = clap::value_parser!(u64).range(..=86_400))]
+    pub wait: u64,
+}
+
+/// Of every command that writes a file that is not a book's.
+#[derive(Args, Clone, Debug)]
+pub struct Output {
+    /// Write over a file that is there already
+    #[arg(long)]
+    pub force: bool,
+    #[command(flatten)]
+    pub waiting: Waiting,
+}
+
+/// The kinds of file to start from.
+#[derive(Clone, Copy, Debug, ValueEnum)]
+pub enum Kind {
+    Curves,
+    Trades,
+}
+
+#[derive(Args, Debug)]
+pub struct Template {
+    pub kind: Kind,
+    /// The file to write; - is standard output
+    #[arg(default_value = "-")]
+    pub file: PathBuf,
+    #[command(flatten)]
+    pub output: Output,
+}
+
+#[derive(Args, Debug)]
+#[command(after_help = seddolki_text::curve_file::FORM)]
+pub struct New {
+    /// The book to make; a file that is there already stays
+    pub book: PathBuf,
+    /// The file of curves; - is standard input
+    pub curves: PathBuf,
+    #[command(flatten)]
+    pub waiting: Waiting,
+}
+
+/// Of the commands that look for trades keyed twice.
+#[derive(Args, Clone, Copy, Debug)]
+pub struct Again {
+    /// Take a trade that looks keyed twice
+    #[arg(long)]
+    pub again: bool,
+}
+
+#[derive(Args, Debug)]
+#[command(after_help = seddolki_text::columns::meanings())]
+pub struct Append {
+    pub book: PathBuf,
+    /// Columns that the trade does not use are left out
+    #[arg(required = true, value_name = "COLUMN=VALUE")]
+    pub values: Vec<String>,
+    #[command(flatten)]
+    pub again: Again,
+    #[command(flatten)]
+    pub waiting: Waiting,
+}
+
+#[derive(Args, Debug)]
+#[command(after_help = format!("{}\n{}", crate::commands::import::FORM, seddolki_text::columns::meanings()))]
+pub struct Import {
+    pub book: PathBuf,
+    /// The file of trades; - is standard input
+    pub trades: PathBuf,
+    #[command(flatten)]
+    pub again: Again,
+    #[command(flatten)]
+    pub waiting: Waiting,
+}
+
+#[derive(Args, Debug)]
+#[command(after_help = seddolki_text::columns::meanings())]
+pub struct Amend {
+    pub book: PathBuf,
+    /// As show lists them, from 0
+    pub position: usize,
+    /// Columns that are left out stay as they are
+    #[arg(required = true, value_name = "COLUMN=VALUE")]
+    pub values: Vec<String>,
+    #[command(flatten)]
+    pub again: Again,
+    #[command(flatten)]
+    pub waiting: Waiting,
+}
+
+#[derive(Args, Debug)]
+pub struct Strike {
+    pub book: PathBuf,
+    /// As show lists them, from 0; the trades behind it move up
+    pub position: usize,
+    #[command(flatten)]
+    pub waiting: Waiting,
+}
+
+#[derive(Args, Debug)]
+#[command(after_help = seddolki_text::curve_file::FORM)]
+pub struct Curves {
+    pub book: PathBuf,
+    /// The file of curves; - is standard input
+    pub file: PathBuf,
+    #[command(flatten)]
+    pub waiting: Waiting,
+}
+
+/// Books to read.
+#[derive(Args, Clone, Debug)]
+pub struct Books {
+    /// One book or several; - is standard input
+    #[arg(required = true, value_name = "BOOK")]
+    pub books: Vec<PathBuf>,
+}
+
+/// A book to read.
+#[derive(Args, Clone, Debug)]
+pub struct One {
+    /// The book; - is standard input
+    pub book: PathBuf,
+}
+
+#[derive(Args, Debug)]
+pub struct Check {
+    #[command(flatten)]
+    pub books: Books,
+    /// List the trades that look keyed twice, too
+    #[arg(long)]
+    pub doubles: bool,
+    #[command(flatten)]
+    pub form: Form,
+}
+
+#[derive(Args, Debug)]
+pub struct Show {
+    #[command(flatten)]
+    pub one: One,
+    #[command(flatten)]
+    pub form: Form,
+}
+
+#[derive(Args, Debug)]
+#[command(after_help = crate::commands::margin::FIGURES)]
+pub struct Margin {
+    #[command(flatten)]
+    pub books: Books,
+    #[command(flatten)]
+    pub form: Form,
+}
+
+#[derive(Args, Debug)]
+pub struct Flows {
+    #[command(flatten)]
+    pub one: One,
+    /// Only the curve with this id
+    #[arg(long, value_name = "ID")]
+    pub curve: Option<u8>,
+    #[command(flatten)]
+    pub form: Form,
+}
+
+#[derive(Args, Debug)]
+pub struct Losses {
+    #[command(flatten)]
+    pub one: One,
+    /// Only the curve with this id
+    #[arg(long, value_name = "ID")]
+    pub curve: Option<u8>,
+    /// The part of each trade in its curve's worst loss, in place of scenarios
+    #[arg(long)]
+    pub trades: bool,
+    #[command(flatten)]
+    pub form: Form,
+}
+
+#[derive(Args, Debug)]
+pub struct Diff {
+    /// The book as it was; - is standard input
+    pub book: PathBuf,
+    /// The book as it is; - is standard input
+    pub other: PathBuf,
+    #[command(flatten)]
+    pub form: Form,
+}
+
+#[derive(Args, Debug)]
+pub struct Export {
+    #[command(flatten)]
+    pub one: One,
+    /// The file to write; - is standard output
+    #[arg(default_value = "-")]
+    pub file: PathBuf,
+    /// The curves, as new and curves take them, in place of the trades
+    #[arg(long, conflicts_with = "semicolon")]
+    pub curves: bool,
+    /// Semicolons between values, and decimal commas
+    #[arg(long)]
+    pub semicolon: bool,
+    #[command(flatten)]
+    pub output: Output,
+}
+
+#[derive(Args, Debug)]
+pub struct Plot {
+    #[command(flatten)]
+    pub one: One,
+    /// The curve's id
+    pub curve: u8,
+    /// The file to write, an SVG picture; - is standard output
+    pub file: PathBuf,
+    /// The losses by scenario, in place of rates and cash flows
+    #[arg(long)]
+    pub losses: bool,
+    #[command(flatten)]
+    pub output: Output,
+}
+
+#[derive(Args, Debug)]
+pub struct Explain {
+    /// The ground's number, 1 to 16
+    #[arg(value_parser = clap::value_parser!(u64).range(1..=16))]
+    pub number: u64,
+    /// A book: whether the ground applies there, and where
+    pub book: Option<PathBuf>,
+}
+
+#[derive(Args, Debug)]
+pub struct Completions {
+    pub shell: clap_complete::Shell,
+}

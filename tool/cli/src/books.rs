@@ -1,0 +1,103 @@
+//! Books in files.
+
+use crate::arguments::Waiting;
+use crate::ended::Ended;
+use crate::print;
+use crate::refusal::book_refused;
+use seddolki::Book;
+use seddolki_format::block::BLOCK;
+use seddolki_format::limits::MAX_BLOCKS;
+use seddolki_model::accept::{self, accept};
+use seddolki_store::{self as store, shown, Input, Patience};
+use std::path::Path;
+use std::time::Duration;
+
+/// Bytes of the largest book.
+pub const LARGEST: usize = MAX_BLOCKS * BLOCK;
+
+/// Bytes of the largest text that is read: several times a full book's trades.
+const LARGEST_TEXT: usize = 8 << 20;
+
+/// An accepted book, and where it was read.
+pub struct BookFile {
+    pub name: String,
+    pub input: Input,
+    pub book: Book,
+    /// For display: every verdict and figure is the engine's.
+    pub parts: accept::Book,
+}
+
+/// The book in a file, if the engine accepts it.
+pub fn accepted(path: &Path) -> Result<BookFile, Ended> {
+    let input = store::read_at_most(path, LARGEST)?;
+    let book = Book::from_bytes(input.bytes.clone());
+    let name = shown(path);
+    let parts = accepted_parts(&name, &book)?;
+    Ok(BookFile {
+        name,
+        input,
+        book,
+        parts,
+    })
+}
+
+/// The parts of a book that the engine accepts.
+pub fn accepted_parts(name: &str, book: &Book) -> Result<accept::Book, Ended> {
+    book.check()
+        .map_err(|refusal| Ended::refused(format!("{name}: {}", book_refused(book, refusal))))?;
+    let bytes = book.as_bytes();
+    Ok(accept(bytes, bytes.len()).expect("the engine has accepted the book"))
+}
+
+/// The text of a file.
+pub fn text(path: &Path) -> Result<Input, Ended> {
+    let input = store::read_at_most(path, LARGEST_TEXT)?;
+    if input.bytes.len() > LARGEST_TEXT {
+        let reason = format!("{}: longer than any file of trades or curves", shown(path));
+        return Err(Ended::refused(reason));
+    }
+    Ok(input)
+}
+
+/// Edits the book in a file. Where the edit is refused, the file stays.
+pub fn edit<T>(
+    path: &Path,
+    waiting: Waiting,
+    change: impl FnOnce(&str, &mut Book) -> Result<T, Ended>,
+) -> Result<T, Ended> {
+    if is_stream(path) {
+        let reason = "an edit takes a book in a file, and not standard input";
+        return Err(Ended::Misused(reason.into()));
+    }
+    let name = shown(path);
+    let edited = store::edit(path, LARGEST, &patience(waiting), |bytes| {
+        let mut book = Book::from_bytes(bytes);
+        accepted_parts(&name, &book)?;
+        let given = change(&name, &mut book)?;
+        Ok::<_, Ended>((book.as_bytes().to_vec(), given))
+    })?;
+    if let Some(warning) = edited.warning {
+        print::say(&warning);
+    }
+    Ok(edited.given)
+}
+
+pub fn patience(waiting: Waiting) -> Patience<'static> {
+    Patience {
+        wait: Duration::from_secs(waiting.wait),
+        say: &print::say,
+    }
+}
+
+pub fn is_stream(path: &Path) -> bool {
+    path == Path::new("-")
+}
+
+/// Standard input can be read once.
+pub fn one_stream<'a>(paths: impl IntoIterator<Item = &'a Path>) -> Result<(), Ended> {
+    if paths.into_iter().filter(|path| is_stream(path)).count() > 1 {
+        let reason = "standard input (-) is named twice, and can be read once";
+        return Err(Ended::Misused(reason.into()));
+    }
+    Ok(())
+}

@@ -1,0 +1,56 @@
+//! Columns of one trade changed.
+
+use crate::arguments::Amend;
+use crate::books::{accepted_parts, edit};
+use crate::ended::{Ended, DONE};
+use crate::keyed_twice::Told;
+use crate::print;
+use crate::refusal::record_refused;
+use crate::trade_text::{faults_told, named_values};
+use crate::words;
+use seddolki::{doubles_at, Book, Ground, Placed, Record};
+use seddolki_format::assemble;
+use seddolki_model::accept;
+use seddolki_store::shown;
+use seddolki_text::columns::Column;
+use seddolki_text::trade::amended;
+
+pub fn run(arguments: &Amend) -> Result<u8, Ended> {
+    let given = named_values(&arguments.values)?;
+    let position = arguments.position;
+    let (record, notes) = edit(&arguments.book, arguments.waiting, |name, book| {
+        let mut parts = accepted_parts(name, book)?;
+        let record = changed(name, &parts, position, &given)?;
+        parts.trades[position] = record;
+        *book = judged(name, &parts, &record)?;
+        let doubles = doubles_at(&parts.trades, position);
+        let named = |trade: &Placed| trade.to_string();
+        Ok((record, Told::of(&doubles, arguments.again.again, named)?))
+    })?;
+    let (name, words) = (shown(&arguments.book), words::trade(&record));
+    print::notice(&format!("{name}: trade {position} is now: {words}"));
+    notes.say();
+    Ok(DONE)
+}
+
+/// The trade at a position with the given columns changed.
+fn changed(
+    name: &str,
+    parts: &accept::Book,
+    position: usize,
+    given: &[(&'static Column, &str)],
+) -> Result<Record, Ended> {
+    let Some(record) = parts.trades.get(position) else {
+        let refusal = Ground::Position.alone();
+        return Err(Ended::refused(format!("{name}: position {position}: {refusal}")));
+    };
+    amended(record, given).map_err(|faults| faults_told(name, &faults))
+}
+
+/// The book with the trade in its place, if the engine accepts it.
+fn judged(name: &str, parts: &accept::Book, record: &Record) -> Result<Book, Ended> {
+    let book = Book::from_bytes(assemble(parts.account, &parts.curves, &parts.trades));
+    let reason = |refusal| format!("{name}: {}", record_refused(record, &parts.curves, refusal));
+    book.check().map_err(|refusal| Ended::refused(reason(refusal)))?;
+    Ok(book)
+}

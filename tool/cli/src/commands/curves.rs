@@ -1,0 +1,29 @@
+//! The curves of a book replaced.
+
+use crate::arguments::Curves;
+use crate::books::{accepted_parts, edit, text};
+use crate::curves_text::{book_of, read_curves};
+use crate::ended::{Ended, DONE};
+use crate::print;
+use crate::words::count;
+use seddolki_store::shown;
+
+pub fn run(arguments: &Curves) -> Result<u8, Ended> {
+    let input = text(&arguments.file)?;
+    let from = shown(&arguments.file);
+    let file = read_curves(&from, &input)?;
+    let trades = edit(&arguments.book, arguments.waiting, |name, book| {
+        let parts = accepted_parts(name, book)?;
+        if parts.account != file.account {
+            let (account, other) = (parts.account, file.account);
+            let reason = format!("{from}: account {other}, and {name} is of account {account}");
+            return Err(Ended::refused(reason));
+        }
+        *book = book_of(&from, &file, &parts.trades)?;
+        Ok(parts.trades.len())
+    })?;
+    let name = shown(&arguments.book);
+    let (curves, trades) = (count(file.curves.len(), "curve"), count(trades, "trade"));
+    print::notice(&format!("{name}: {curves} replaced, {trades} kept"));
+    Ok(DONE)
+}

@@ -1,0 +1,23 @@
+//! What two books differ in.
+
+use crate::arguments::Diff;
+use crate::books::{accepted, one_stream};
+use crate::differences::differences;
+use crate::ended::{Ended, DONE};
+use crate::table::Table;
+
+pub fn run(arguments: &Diff) -> Result<u8, Ended> {
+    one_stream([arguments.book.as_path(), &arguments.other])?;
+    let (before, behind) = (accepted(&arguments.book)?, accepted(&arguments.other)?);
+    let table = differences(&before.parts, &behind.parts);
+    let names = format!("{} and {}", before.name, behind.name);
+    arguments.form.print(&[table], |[table]| text(table, &names))?;
+    Ok(DONE)
+}
+
+fn text(table: &Table, names: &str) -> String {
+    if table.rows.is_empty() {
+        return format!("{names} hold the same\n");
+    }
+    table.text()
+}

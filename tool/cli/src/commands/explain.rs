@@ -1,0 +1,36 @@
+//! A ground of refusal in words, and where it applies.
+
+use crate::arguments::Explain;
+use crate::books::LARGEST;
+use crate::ended::{Ended, DONE};
+use crate::print;
+use crate::refusal::book_refused;
+use seddolki::{Book, Ground};
+use seddolki_model::fault::rule;
+use seddolki_store::{read_at_most, shown};
+use std::path::Path;
+
+pub fn run(arguments: &Explain) -> Result<u8, Ended> {
+    let ground = Ground::from_number(arguments.number).expect("the number is one of a ground");
+    let mut text = rule(ground);
+    if let Some(path) = &arguments.book {
+        text += &format!("\n{}\n", applied(ground, path)?);
+    }
+    print::result(&text)?;
+    Ok(DONE)
+}
+
+/// Whether a book is refused by the ground, and where.
+fn applied(ground: Ground, path: &Path) -> Result<String, Ended> {
+    let input = read_at_most(path, LARGEST)?;
+    let (name, book) = (shown(path), Book::from_bytes(input.bytes));
+    Ok(match book.check() {
+        Ok(()) => format!("{name}: accepted"),
+        Err(refusal) if refusal.ground == ground => {
+            format!("{name}: {}", book_refused(&book, refusal))
+        }
+        Err(refusal) => {
+            format!("{name}: not by this one, but {}", book_refused(&book, refusal))
+        }
+    })
+}

@@ -1,0 +1,32 @@
+//! A book as text that can be read back.
+
+use crate::arguments::Export;
+use crate::books::{accepted, is_stream};
+use crate::ended::{Ended, DONE};
+use crate::words::count;
+use crate::{outputs, print};
+use seddolki_store::shown;
+use seddolki_text::decimal::Decimals;
+use seddolki_text::{curve_file, trades_file};
+
+pub fn run(arguments: &Export) -> Result<u8, Ended> {
+    let file = accepted(&arguments.one.book)?;
+    let parts = &file.parts;
+    let decimals = if arguments.semicolon {
+        Decimals::Comma
+    } else {
+        Decimals::Point
+    };
+    let (text, holds) = if arguments.curves {
+        let text = curve_file::write(parts.account, &parts.curves);
+        (text, count(parts.curves.len(), "curve"))
+    } else {
+        let text = trades_file::write(&parts.trades, decimals);
+        (text, count(parts.trades.len(), "trade"))
+    };
+    outputs::write(&arguments.file, &text, &arguments.output, &[&file.input])?;
+    if !is_stream(&arguments.file) {
+        print::notice(&format!("{}: {holds}", shown(&arguments.file)));
+    }
+    Ok(DONE)
+}

@@ -1,0 +1,172 @@
+//! What one book has and another has not.
+
+use crate::trade_text::written;
+use crate::table::{Table, Value};
+use crate::words;
+use seddolki::Record;
+use seddolki_format::block::{Curve, Node};
+use seddolki_format::report::currency_name;
+use seddolki_model::accept::Book;
+use seddolki_text::decimal::{format as decimal, COEFFICIENT, PERCENT};
+
+/// Trades at the same place that differ in no more columns than these are
+/// one trade amended.
+const AMENDED: usize = 3;
+
+/// A row for each difference: the account, the curves, then the trades.
+pub fn differences(before: &Book, behind: &Book) -> Table {
+    let mut rows = Rows::new();
+    let accounts = [before, behind].map(|book| book.account.to_string());
+    rows.change("account", None, "account", accounts);
+    for place in 0..before.curves.len().max(behind.curves.len()) {
+        let [a, b] = [before, behind].map(|book| book.curves.get(place));
+        curve_differences(&mut rows, place + 1, a, b);
+    }
+    trade_differences(&mut rows, &before.trades, &behind.trades);
+    rows.table
+}
+
+struct Rows {
+    table: Table,
+}
+
+impl Rows {
+    fn new() -> Self {
+        let columns = ["what", "number", "column", "before", "behind"];
+        let table = Table::new("differences", &columns);
+        Rows { table }
+    }
+
+    /// Nothing where both are the same.
+    fn change(&mut self, what: &str, number: Option<usize>, column: &str, texts: [String; 2]) {
+        if texts[0] == texts[1] {
+            return;
+        }
+        let cell = |text: String| {
+            if text.is_empty() {
+                Value::Nothing
+            } else {
+                Value::Text(text)
+            }
+        };
+        let mut row = vec![
+            Value::text(what),
+            number.map_or(Value::Nothing, Value::count),
+            cell(column.to_owned()),
+        ];
+        row.extend(texts.map(cell));
+        self.table.push(row);
+    }
+}
+
+fn curve_differences(rows: &mut Rows, id: usize, before: Option<&Curve>, behind: Option<&Curve>) {
+    let both = [before, behind];
+    let text = |of: fn(&Curve) -> String| both.map(|curve| curve.map_or(String::new(), of));
+    rows.change("curve", Some(id), "currency", text(currency));
+    rows.change("curve", Some(id), "steps", text(steps));
+    rows.change("curve", Some(id), "ranges", text(ranges));
+    let nodes = both.map(|curve| curve.map_or(&[][..], Curve::nodes));
+    let mut days: Vec<u16> = nodes.iter().flat_map(|nodes| nodes.iter()).map(|node| node.day).collect();
+    days.sort_unstable();
+    days.dedup();
+    for day in days {
+        let on_day = |nodes: &[Node]| nodes.iter().find(|node| node.day == day).map_or(String::new(), node);
+        let column = format!("node of day {day}");
+        rows.change("curve", Some(id), &column, nodes.map(on_day));
+    }
+}
+
+fn currency(curve: &Curve) -> String {
+    currency_name(curve.currency.into()).to_owned()
+}
+
+fn steps(curve: &Curve) -> String {
+    curve.steps.map(|steps| steps.to_string()).join(" ")
+}
+
+fn ranges(curve: &Curve) -> String {
+    curve.ranges.map(|range| decimal(range, COEFFICIENT)).join(" ")
+}
+
+fn node(node: &Node) -> String {
+    let components = node.components.map(|component| decimal(component, PERCENT));
+    format!("{} {}", decimal(node.rate, PERCENT), components.join(" "))
+}
+
+/// A run of trades of the one book in place of a run of the other.
+struct Replaced {
+    before: std::ops::Range<usize>,
+    behind: std::ops::Range<usize>,
+}
+
+fn trade_differences(rows: &mut Rows, before: &[Record], behind: &[Record]) {
+    for replaced in replaced(before, behind) {
+        let (gone, come) = (replaced.before, replaced.behind);
+        let pairs = gone.len().min(come.len());
+        for i in 0..gone.len().max(come.len()) {
+            let (a, b) = (gone.start + i, come.start + i);
+            if i < pairs && amended(&before[a], &behind[b]) {
+                column_differences(rows, a, &before[a], &behind[b]);
+                continue;
+            }
+            if i < gone.len() {
+                rows.change("trade", Some(a), "", [words::trade(&before[a]), String::new()]);
+            }
+            if i < come.len() {
+                rows.change("trade", Some(b), "", [String::new(), words::trade(&behind[b])]);
+            }
+        }
+    }
+}
+
+fn amended(before: &Record, behind: &Record) -> bool {
+    let pairs = written(before).into_iter().zip(written(behind));
+    pairs.filter(|(a, b)| a != b).count() <= AMENDED
+}
+
+fn column_differences(rows: &mut Rows, position: usize, before: &Record, behind: &Record) {
+    for ((column, a), (_, b)) in written(before).into_iter().zip(written(behind)) {
+        rows.change("trade", Some(position), column, [a, b]);
+    }
+}
+
+/// What is left when the longest list of trades that both have, in one
+/// order, is taken out.
+fn replaced(before: &[Record], behind: &[Record]) -> Vec<Replaced> {
+    let common = common_lengths(before, behind);
+    let (mut a, mut b) = (0, 0);
+    let mut all = vec![];
+    while a < before.len() || b < behind.len() {
+        let (from_a, from_b) = (a, b);
+        while (a < before.len() || b < behind.len()) && !(a < before.len() && b < behind.len() && before[a] == behind[b]) {
+            if b == behind.len() || (a < before.len() && common[a + 1][b] >= common[a][b + 1]) {
+                a += 1;
+            } else {
+                b += 1;
+            }
+        }
+        if (from_a, from_b) != (a, b) {
+            all.push(Replaced { before: from_a..a, behind: from_b..b });
+        }
+        while a < before.len() && b < behind.len() && before[a] == behind[b] {
+            a += 1;
+            b += 1;
+        }
+    }
+    all
+}
+
+/// How many trades the two have in one order, from each pair of places on.
+fn common_lengths(before: &[Record], behind: &[Record]) -> Vec<Vec<u16>> {
+    let mut common = vec![vec![0; behind.len() + 1]; before.len() + 1];
+    for a in (0..before.len()).rev() {
+        for b in (0..behind.len()).rev() {
+            common[a][b] = if before[a] == behind[b] {
+                common[a + 1][b + 1] + 1
+            } else {
+                common[a + 1][b].max(common[a][b + 1])
+            };
+        }
+    }
+    common
+}

@@ -1,0 +1,53 @@
+//! What the tool prints. Nothing here panics, whatever became of the streams.
+
+use crate::ended::Ended;
+use std::io::{self, Write};
+
+/// A line on standard error. If it cannot be written it is lost, and no more.
+pub fn say(line: &str) {
+    let line = format!("seddolki: {}\n", visible(line));
+    let _ = io::stderr().write_all(line.as_bytes());
+}
+
+/// What a command was asked for, on standard output.
+pub fn result(text: &str) -> Result<(), Ended> {
+    match written(text) {
+        // a reader that closes its end early wants no more
+        Err(error) if error.kind() != io::ErrorKind::BrokenPipe => {
+            Err(Ended::Failed(format!("standard output: {error}")))
+        }
+        _ => Ok(()),
+    }
+}
+
+/// Word of an edit that is done, on standard output. It stays done where that cannot be written.
+pub fn notice(text: &str) {
+    let _ = written(&format!("{}\n", visible(text)));
+}
+
+fn written(text: &str) -> io::Result<()> {
+    let mut out = io::stdout().lock();
+    out.write_all(text.as_bytes())?;
+    out.flush()
+}
+
+/// A text with its control characters as escapes; ends of lines stay.
+pub fn visible(text: &str) -> String {
+    let shown = |c: char| match c {
+        '\n' => "\n".to_owned(),
+        c if c.is_control() => c.escape_default().to_string(),
+        c => c.to_string(),
+    };
+    text.chars().map(shown).collect()
+}
+
+#[cfg(test)]
+mod tests {
+    use super::visible;
+
+    #[test]
+    fn control_characters_are_escaped_and_letters_are_not() {
+        assert_eq!(visible("kuruş\n"), "kuruş\n");
+        assert_eq!(visible("\u{1b}[31m\t\r\u{9b}"), "\\u{1b}[31m\\t\\r\\u{9b}");
+    }
+}

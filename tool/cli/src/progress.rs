@@ -1,0 +1,42 @@
+//! Work on several books at once, on all cores.
+
+use crate::ended::{Ended, DONE};
+use indicatif::{ProgressBar, ProgressStyle};
+use rayon::prelude::*;
+use std::path::{Path, PathBuf};
+
+/// What was made of each book, and the exit status of the worst. A bar shows
+/// how far it is, on a terminal alone. A book that cannot be taken is told,
+/// and does not stop the others.
+pub fn over_books<T: Send>(
+    paths: &[PathBuf],
+    work: impl Fn(&Path) -> Result<T, Ended> + Sync,
+) -> (Vec<T>, u8) {
+    let bar = bar(paths.len());
+    let ended: Vec<Result<T, Ended>> = paths
+        .par_iter()
+        .map(|path| {
+            let ended = work(path);
+            bar.inc(1);
+            ended
+        })
+        .collect();
+    bar.finish_and_clear();
+    let (mut made, mut worst) = (vec![], DONE);
+    for ended in ended {
+        match ended {
+            Ok(one) => made.push(one),
+            Err(ended) => worst = worst.max(ended.told()),
+        }
+    }
+    (made, worst)
+}
+
+/// It draws on standard error, and only where that is a terminal.
+fn bar(books: usize) -> ProgressBar {
+    if books == 1 {
+        return ProgressBar::hidden();
+    }
+    let style = ProgressStyle::with_template("{bar:40} {pos} of {len} books, {eta} left");
+    ProgressBar::new(books as u64).with_style(style.expect("the template is well formed"))
+}

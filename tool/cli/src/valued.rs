@@ -1,0 +1,92 @@
+//! The losses of a curve, scenario by scenario and trade by trade. The
+//! second implementation works them out; a worst loss that is not the
+//! engine's is never shown.
+
+use crate::books::BookFile;
+use crate::ended::Ended;
+use rayon::prelude::*;
+use seddolki::CurveFigures;
+use seddolki_format::block::{Curve, Node};
+use seddolki_model::curve::rate_on;
+use seddolki_model::discount::{present_value, Factors};
+use seddolki_model::flows::{cash_flows, CashFlow};
+use seddolki_model::margin::valuation;
+use seddolki_model::scenario::{scenarios, stressed_nodes, Scenario};
+
+/// A curve with its figures and the loss of each of its scenarios.
+pub struct Valued<'a> {
+    pub curve: &'a Curve,
+    pub figures: CurveFigures,
+    pub scenarios: Vec<Scenario>,
+    pub losses: Vec<i64>,
+}
+
+/// A trade's part in the base value and in the worst loss of a curve.
+pub struct Part {
+    pub position: usize,
+    pub base: i64,
+    pub loss: i64,
+}
+
+/// The curves valued, on all cores.
+pub fn valued<'a>(file: &BookFile, curves: &[&'a Curve]) -> Result<Vec<Valued<'a>>, Ended> {
+    let report = file.book.margin();
+    let report = report.map_err(|refusal| Ended::refused(format!("{}: {refusal}", file.name)))?;
+    let one = |curve: &&'a Curve| {
+        let figures = report.curves[usize::from(curve.id) - 1];
+        let valuation = valuation(curve, &file.parts.flows_on(curve));
+        let scenario = valuation.worst_scenario() as u32;
+        let found = (valuation.base, valuation.worst_loss(), scenario);
+        agree(curve, found, &figures)?;
+        Ok(Valued {
+            curve,
+            figures,
+            scenarios: scenarios(curve),
+            losses: valuation.losses,
+        })
+    };
+    curves.par_iter().map(one).collect()
+}
+
+fn agree(curve: &Curve, found: (i64, i64, u32), figures: &CurveFigures) -> Result<(), Ended> {
+    if found == (figures.base, figures.worst_loss, figures.scenario) {
+        return Ok(());
+    }
+    let reason = format!(
+        "curve {}: the second implementation has other figures than the engine",
+        curve.id
+    );
+    Err(Ended::Failed(reason))
+}
+
+impl Valued<'_> {
+    /// Each trade that has a flow on the curve, by its position.
+    pub fn parts(&self, file: &BookFile) -> Vec<Part> {
+        let worst = self.scenarios[self.figures.scenario as usize];
+        let stressed = stressed_nodes(self.curve.nodes(), &worst);
+        let mut factors = Factors::default();
+        let mut parts = vec![];
+        for (position, record) in file.parts.trades.iter().enumerate() {
+            let own = |flow: &CashFlow| flow.curve == self.curve.id;
+            let flows: Vec<CashFlow> = cash_flows(record).into_iter().filter(own).collect();
+            if !flows.is_empty() {
+                let base = value(&flows, self.curve.nodes(), &mut factors);
+                let loss = base - value(&flows, &stressed, &mut factors);
+                parts.push(Part {
+                    position,
+                    base,
+                    loss,
+                });
+            }
+        }
+        parts
+    }
+}
+
+fn value(flows: &[CashFlow], nodes: &[Node], factors: &mut Factors) -> i64 {
+    let signed = |flow: &CashFlow| {
+        let factor = factors.of(rate_on(nodes, flow.day), flow.day);
+        flow.sign * present_value(flow.amount, factor) as i64
+    };
+    flows.iter().map(signed).sum()
+}

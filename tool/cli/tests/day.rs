@@ -1,0 +1,87 @@
+//! A back office's day, as the README and the help show it, and the rest of
+//! the help.
+
+mod tool;
+
+use tool::{Desk, MISUSED};
+
+const README: &str = include_str!("../../../README.md");
+
+/// The commands of the first list of five in a text, a line each.
+fn commands(text: &str) -> Vec<&str> {
+    let lines = text.lines().map(|line| line.trim().trim_start_matches("$ "));
+    let all: Vec<&str> = lines.collect();
+    let runs = all.windows(5);
+    let day = runs.into_iter().find(|run| run.iter().all(|line| line.starts_with("seddolki ")));
+    day.expect("five commands").to_vec()
+}
+
+fn margin_of_the_day(commands: &[&str]) -> String {
+    let desk = Desk::new();
+    let mut last = String::new();
+    for command in commands {
+        let words: Vec<&str> = command.split_whitespace().skip(1).collect();
+        last = desk.done(&words);
+    }
+    last
+}
+
+#[test]
+fn the_help_shows_a_day_that_runs_as_written() {
+    let help = Desk::new().done(&["help"]);
+    let margin = margin_of_the_day(&commands(&help));
+    assert!(margin.starts_with("account ") && margin.contains("\ncurrency"), "{margin}");
+    assert_eq!(commands(&help), commands(README));
+}
+
+#[test]
+fn the_readme_shows_the_margin_that_the_day_ends_with() {
+    let margin = margin_of_the_day(&commands(README));
+    assert!(README.contains(&margin), "{margin}");
+}
+
+#[test]
+fn every_command_has_help_a_place_in_the_manual_and_completions() {
+    let desk = Desk::new();
+    let help = desk.done(&["--help"]);
+    let manual = desk.done(&["man"]);
+    let completions = desk.done(&["completions", "bash"]);
+    let names: Vec<&str> = help
+        .lines()
+        .skip_while(|line| *line != "Commands:")
+        .skip(1)
+        .take_while(|line| !line.is_empty())
+        .filter_map(|line| line.split_whitespace().next())
+        .collect();
+    assert_eq!(names.len(), 19, "{names:?}");
+    for name in names.iter().filter(|name| **name != "help") {
+        assert!(desk.done(&[name, "--help"]).contains(&format!("Usage: seddolki {name}")));
+        assert!(manual.contains(&format!("\n.SS {name}\n")), "{name}");
+        assert!(completions.contains(&format!("seddolki__{name}")), "{name}");
+    }
+    assert!(desk.done(&["--version"]).starts_with("seddolki "));
+    assert_eq!(desk.run(&["help", "sell"]).status, MISUSED);
+}
+
+#[test]
+fn the_completions_are_taken_by_bash() {
+    let desk = Desk::new();
+    let run = desk.shell("source <(\"$0\" completions bash) && complete -p seddolki");
+    assert_eq!(run.status, 0, "{}", run.err);
+    assert!(run.out.contains("seddolki"), "{}", run.out);
+}
+
+#[test]
+fn the_manual_has_the_day_and_the_statuses() {
+    let manual = Desk::new().done(&["man"]);
+    assert!(manual.starts_with(".TH SEDDOLKI 1"));
+    for line in ["seddolki margin desk.book", "nothing has changed"] {
+        assert!(manual.contains(line), "{line}");
+    }
+    // a line of text that starts with a point would be a request of roff
+    let requests = [".TH", ".SH", ".SS", ".TP", ".PP", ".nf", ".fi", ".B", ".I"];
+    for line in manual.lines().filter(|line| line.starts_with(['.', '\''])) {
+        let word = line.split(' ').next().unwrap();
+        assert!(requests.contains(&word), "{line}");
+    }
+}

@@ -1,0 +1,142 @@
+//! "I keyed the second leg twice."
+
+mod tool;
+
+use tool::{example, Desk, DONE, REFUSED};
+
+/// A pool repo of 100,000.00 at 13.2% for 7 days from day 1, as append takes it.
+const REPO: [&str; 9] = [
+    "kind=pool repo",
+    "side=repo",
+    "phase=1",
+    "cash_curve=2",
+    "value_day_1=1",
+    "value_day_2=8",
+    "term=7",
+    "repo_cash=100000",
+    "repo_rate=13.2",
+];
+
+/// With some of its columns otherwise.
+fn repo_with(changed: &[&str]) -> Vec<String> {
+    let name = |value: &str| value.split('=').next().unwrap().to_owned();
+    let kept = REPO.iter().filter(|value| changed.iter().all(|other| name(other) != name(value)));
+    kept.chain(changed).map(|value| (*value).to_owned()).collect()
+}
+
+fn append<'a>(desk: &Desk, trade: &[String], more: &[&'a str]) -> tool::Run {
+    let mut arguments = vec!["append".to_owned(), "desk.book".to_owned()];
+    arguments.extend(more.iter().map(|word| (*word).to_owned()));
+    arguments.extend_from_slice(trade);
+    desk.run(&arguments)
+}
+
+/// A desk whose book has the repo at position 11.
+fn with_repo() -> Desk {
+    let desk = Desk::with("desk.book");
+    let run = append(&desk, &repo_with(&[]), &[]);
+    assert_eq!((run.status, run.err.as_str()), (DONE, ""));
+    desk
+}
+
+#[test]
+fn what_looks_keyed_twice_is_refused_unless_it_is_meant() {
+    let settled = ["kind=pool repo", "phase=3", "value_day_1=0", "security=single payment", "security_curve=1", "nominal=110000", "first_payment_day=90"];
+    // 100,000.00 at 13.2% for 7 days: interest 253.15, withholding 37.97
+    let taken_back = ["side=reverse repo", "value_day_1=8", "value_day_2=9", "term=1", "repo_cash=100215.18", "repo_rate=13"];
+    for (changed, words) in [
+        (&[][..], "the new trade is the same as trade 11, byte for byte"),
+        (&settled, "the new trade is the second leg of trade 11"),
+        (&taken_back, "the new trade begins with the second leg of trade 11"),
+    ] {
+        let desk = with_repo();
+        let before = desk.read("desk.book");
+        let trade = repo_with(changed);
+        let run = append(&desk, &trade, &[]);
+        assert_eq!((run.status, run.out.as_str()), (REFUSED, ""), "{words}: {}", run.err);
+        assert!(run.err.contains(words), "{}", run.err);
+        assert!(run.err.contains("  trade 11: repo member in a pool repo, phase 1"), "{}", run.err);
+        assert!(run.err.contains("--again"), "{}", run.err);
+        assert_eq!(desk.read("desk.book"), before);
+        let run = append(&desk, &trade, &["--again"]);
+        assert_eq!(run.status, DONE, "{}", run.err);
+        assert_eq!(run.out, "desk.book: trade 12 is added\n");
+        assert_eq!(desk.trades("desk.book"), 13);
+    }
+}
+
+#[test]
+fn the_first_leg_behind_its_settled_one_is_found_too() {
+    let desk = Desk::with("desk.book");
+    let trade = ["kind=specified repo", "phase=2", "security=single payment", "security_curve=1", "nominal=110000", "first_payment_day=90", "value_day_1=0"];
+    assert_eq!(append(&desk, &repo_with(&trade), &[]).status, DONE);
+    let run = append(&desk, &repo_with(&[]), &[]);
+    assert_eq!(run.status, REFUSED);
+    assert!(run.err.contains("trade 11 is the second leg of the new trade"), "{}", run.err);
+}
+
+#[test]
+fn one_field_and_the_opposite_side_are_told_and_taken() {
+    for (changed, words) in [
+        (["repo_cash=200000"], "differs from trade 11 in one field only: repo cash"),
+        (["side=reverse repo"], "is the opposite side of trade 11"),
+    ] {
+        let desk = with_repo();
+        let run = append(&desk, &repo_with(&changed), &[]);
+        assert_eq!((run.status, run.out.as_str()), (DONE, "desk.book: trade 12 is added\n"));
+        assert!(run.err.contains(words), "{}", run.err);
+        assert_eq!(desk.trades("desk.book"), 13);
+    }
+}
+
+#[test]
+fn a_file_is_not_imported_twice() {
+    let desk = Desk::with("empty.book");
+    desk.done(&["import", "empty.book", &example("buyer.csv")]);
+    let before = desk.read("empty.book");
+    let run = desk.run(&["import", "empty.book", &example("buyer.csv")]);
+    assert_eq!(run.status, REFUSED);
+    assert!(run.err.contains("imported already: its 1 trade stand in empty.book, at position 0"), "{}", run.err);
+    assert_eq!(desk.read("empty.book"), before);
+    let run = desk.run(&["import", "empty.book", &example("buyer.csv"), "--again"]);
+    assert_eq!(run.status, DONE);
+    assert_eq!(desk.trades("empty.book"), 2);
+}
+
+#[test]
+fn doubles_within_a_file_are_told_by_line_and_at_once() {
+    let desk = Desk::with("desk.book");
+    let line = |cash: u32| format!("pool repo,repo,1,2,1,8,7,{cash},13.2\n");
+    let head = "kind,side,phase,cash_curve,value_day_1,value_day_2,term,repo_cash,repo_rate\n";
+    let text = [head.to_owned(), line(5), line(6), line(5), line(6)].concat();
+    desk.write("trades.csv", text);
+    let run = desk.run(&["import", "desk.book", "trades.csv"]);
+    assert_eq!(run.status, REFUSED);
+    for words in ["line 4 of trades.csv is the same as line 2 of trades.csv", "line 5 of trades.csv is the same as line 3 of trades.csv"] {
+        assert!(run.err.contains(words), "{}", run.err);
+    }
+    assert_eq!(desk.trades("desk.book"), 11);
+}
+
+#[test]
+fn an_amended_trade_is_looked_at_too() {
+    let desk = with_repo();
+    assert_eq!(append(&desk, &repo_with(&["repo_cash=5"]), &[]).status, DONE);
+    let run = desk.run(&["amend", "desk.book", "12", "repo_cash=100000"]);
+    assert_eq!(run.status, REFUSED, "{}", run.err);
+    assert!(run.err.contains("is the same as trade 11"), "{}", run.err);
+    let run = desk.run(&["amend", "--again", "desk.book", "12", "repo_cash=100000"]);
+    assert_eq!(run.status, DONE);
+}
+
+#[test]
+fn a_whole_book_is_searched() {
+    let desk = with_repo();
+    assert_eq!(append(&desk, &repo_with(&[]), &["--again"]).status, DONE);
+    let text = desk.done(&["check", "--doubles", "desk.book"]);
+    assert!(text.contains("trade 12 is the same as trade 11, byte for byte"), "{text}");
+    let csv = desk.done(&["check", "--doubles", "--csv", "desk.book"]);
+    assert!(csv.contains("doubles,desk.book,") && csv.contains("same"), "{csv}");
+    let clean = Desk::with("desk.book").done(&["check", "--doubles", "desk.book"]);
+    assert!(clean.contains("no trade looks keyed twice"), "{clean}");
+}

@@ -1,0 +1,79 @@
+//! No command writes over what it was not asked to write.
+
+mod tool;
+
+use std::fs;
+use std::os::unix::fs::symlink;
+use tool::{Desk, DONE, FAILED};
+
+/// Each command that writes a file, with the file's name to come behind.
+const WRITERS: [&[&str]; 4] = [
+    &["plot", "desk.book", "1"],
+    &["export", "desk.book"],
+    &["export", "--curves", "desk.book"],
+    &["template", "curves"],
+];
+
+fn with_name<'a>(writer: &[&'a str], name: &'a str) -> Vec<&'a str> {
+    [writer, &[name]].concat()
+}
+
+#[test]
+fn a_file_that_is_there_is_kept_unless_force_is_said() {
+    for writer in WRITERS {
+        let desk = Desk::with("desk.book");
+        desk.write("out", "my notes");
+        let reason = desk.ended(FAILED, &with_name(writer, "out"));
+        assert!(reason.starts_with("out: ") && reason.contains("--force"), "{reason}");
+        assert_eq!(desk.read("out"), b"my notes");
+        let forced = with_name(writer, "out").into_iter().chain(["--force"]);
+        desk.run(&forced.collect::<Vec<_>>());
+        assert_ne!(desk.read("out"), b"my notes");
+        assert_eq!(desk.files(), ["desk.book", "out"]);
+    }
+}
+
+#[test]
+fn an_input_is_never_written_over_by_any_name() {
+    for writer in &WRITERS[..3] {
+        for force in [&[][..], &["--force"]] {
+            let desk = Desk::with("desk.book");
+            let before = desk.read("desk.book");
+            symlink("desk.book", desk.path("link")).unwrap();
+            fs::hard_link(desk.path("desk.book"), desk.path("hard")).unwrap();
+            fs::create_dir(desk.path("folder")).unwrap();
+            for name in ["desk.book", "./desk.book", "folder/../desk.book", "link", "hard"] {
+                let arguments = [&with_name(writer, name)[..], force].concat();
+                desk.ended(FAILED, &arguments);
+                assert_eq!(desk.read("desk.book"), before, "{arguments:?}");
+                assert!(desk.path("link").is_symlink());
+            }
+        }
+    }
+}
+
+#[test]
+fn what_is_no_file_is_written_through() {
+    let desk = Desk::with("desk.book");
+    let run = desk.shell("mkfifo pipe; cat pipe > got & \"$0\" export desk.book pipe; wait; test -p pipe");
+    assert_eq!((run.status, run.err.as_str()), (DONE, ""));
+    let exported = desk.done(&["export", "desk.book"]);
+    assert_eq!(desk.read("got"), exported.as_bytes());
+    assert_eq!(desk.done(&["export", "desk.book", "-"]), exported);
+    desk.run(&["export", "desk.book", "/dev/null"]);
+    assert!(!fs::metadata("/dev/null").unwrap().is_file());
+    let full = desk.ended(FAILED, &["export", "desk.book", "/dev/full"]);
+    assert!(full.starts_with("/dev/full: "), "{full}");
+}
+
+#[test]
+fn a_folder_and_a_link_to_nothing_are_refused() {
+    let desk = Desk::with("desk.book");
+    symlink("nothing", desk.path("link")).unwrap();
+    for name in [".", "link", "nowhere/out"] {
+        for force in [&[][..], &["--force"]] {
+            desk.ended(FAILED, &[&["export", "desk.book", name], force].concat());
+        }
+    }
+    assert_eq!(desk.files(), ["desk.book", "link"]);
+}
