@@ -57,7 +57,9 @@ impl Likeness {
         }
         only_difference(one, other).map(|field| match field {
             "side" => Likeness::Opposite,
-            field => Likeness::OneField(field),
+            "price_or_rate" if one.is_repo() => Likeness::OneField("repo_rate"),
+            "price_or_rate" => Likeness::OneField("clean_price"),
+            _ => Likeness::OneField(field),
         })
     }
 
@@ -98,16 +100,18 @@ pub(super) fn repeats_second_leg(trade: &Record, other: &Record) -> bool {
 }
 
 fn is_second_leg(settled: &Record, whole: &Record) -> bool {
-    let terms = |repo: &Record| {
-        let curve_and_cash = (repo.cash_curve, repo.repo_cash, repo.price_or_rate);
-        (repo.side, curve_and_cash, repo.term, repo.value_day_2)
-    };
     settled.first_leg_settled()
         && begins(whole)
-        && terms(settled) == terms(whole)
-        && (!both_have_security(settled, whole) || settled.security_curve == whole.security_curve)
+        && settled.side == whole.side
+        && settled.cash_curve == whole.cash_curve
+        && (settled.security_curve == whole.security_curve || !both_have_security(settled, whole))
+        && settled.repo_cash == whole.repo_cash
+        && settled.price_or_rate == whole.price_or_rate
+        && settled.term == whole.term
+        && settled.value_day_2 == whole.value_day_2
 }
 
+/// Where this does not hold, only the cash curves can be compared.
 pub(super) fn both_have_security(one: &Record, other: &Record) -> bool {
     one.has_security() && other.has_security()
 }
@@ -138,38 +142,16 @@ fn only_difference(one: &Record, other: &Record) -> Option<&'static str> {
 
 /// Each field's name, and whether two records differ in it.
 fn differences(one: &Record, other: &Record) -> [(&'static str, bool); 20] {
-    macro_rules! differences {
-        ($($field:ident: $name:expr,)*) => {{
-            // names every field, or it does not compile
-            let Record { $($field,)* } = *one;
-            [$(($name, $field != other.$field),)*]
+    macro_rules! compare {
+        ($($field:ident)*) => {{
+            // a list that lacks a field does not compile
+            let Record { $($field),* } = one;
+            [$((stringify!($field), *$field != other.$field)),*]
         }};
     }
-    let price_or_rate_name = if one.is_repo() {
-        "repo_rate"
-    } else {
-        "clean_price"
-    };
-    differences! {
-        kind: "kind",
-        side: "side",
-        phase: "phase",
-        security_curve: "security_curve",
-        cash_curve: "cash_curve",
-        security: "security",
-        zero: "zero",
-        value_day_1: "value_day_1",
-        value_day_2: "value_day_2",
-        first_payment_day: "first_payment_day",
-        period: "period",
-        payments: "payments",
-        term: "term",
-        coupon: "coupon",
-        nominal: "nominal",
-        repo_cash: "repo_cash",
-        price_or_rate: price_or_rate_name,
-        accrued: "accrued",
-        settlement_index: "settlement_index",
-        issue_index: "issue_index",
+    compare! {
+        kind side phase security_curve cash_curve security zero
+        value_day_1 value_day_2 first_payment_day period payments term
+        coupon nominal repo_cash price_or_rate accrued settlement_index issue_index
     }
 }
