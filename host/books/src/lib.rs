@@ -8,6 +8,7 @@ pub mod call;
 pub mod curve;
 pub mod damage;
 pub mod demand_3;
+pub mod doubles;
 pub mod draw;
 pub mod examples;
 pub mod near_ties;

@@ -1,5 +1,6 @@
 //! A book that owns its bytes.
 
+use crate::doubles::{doubles, Double};
 use crate::ffi;
 use seddolki_format::block::{trades, BLOCK};
 use seddolki_format::layout::Layout;
@@ -123,6 +124,26 @@ impl Book {
     pub fn records(&self) -> Result<impl Iterator<Item = Record> + '_, Refusal> {
         self.check()?;
         Ok(trades(self.as_bytes()))
+    }
+
+    /// The trades that may have been keyed twice, as by [`doubles`].
+    ///
+    /// ```
+    /// # use seddolki::{Book, Likeness};
+    /// # let bytes = include_bytes!("../../../examples/buyer.book");
+    /// let mut book = Book::from_bytes(bytes.to_vec());
+    /// assert_eq!(book.doubles()?, []);
+    ///
+    /// book.append(&book.read(0)?)?;
+    /// assert_eq!(book.doubles()?[0].likeness, Likeness::Same);
+    /// # Ok::<(), seddolki::Refusal>(())
+    /// ```
+    ///
+    /// # Errors
+    /// Grounds 1 to 12.
+    pub fn doubles(&self) -> Result<Vec<Double>, Refusal> {
+        let trades: Vec<Record> = self.records()?.collect();
+        Ok(doubles(&trades))
     }
 }
 

@@ -31,11 +31,17 @@
 //! assert_eq!(refusal.ground, Ground::Length);
 //! assert_eq!(refusal.ground.number(), 1);
 //! ```
+//!
+//! A book may hold a trade twice, and the engine takes it. [`doubles`] and
+//! its kin search for trades that may have been keyed twice, before they are
+//! appended or in a whole book; the search stands beside the engine and
+//! changes none of its verdicts.
 
 #![deny(unsafe_code)]
 #![warn(missing_docs)]
 
 mod book;
+mod doubles;
 #[allow(unsafe_code)]
 mod ffi;
 mod value;
@@ -47,6 +53,8 @@ pub mod lent {
 }
 
 pub use book::Book;
+pub use doubles::{doubles, doubles_among, doubles_at, doubles_of, stands_already};
+pub use doubles::{Double, Likeness, Placed, Standing};
 pub use seddolki_format::report::{CurrencyFigures, CurveFigures};
 pub use seddolki_format::{Answer, Ground, Record, Refusal, Report};
 pub use value::{present_value, PresentValue};

@@ -1,0 +1,371 @@
+//! Generated doubles of every kind are found where they stand, and nothing
+//! else is.
+
+use seddolki::{doubles, doubles_among, doubles_at, doubles_of, Book, Double, Likeness, Record};
+use seddolki_books::curve::draw_curves;
+use seddolki_books::doubles::{
+    are_different, draw_different, draw_one_field, draw_opposite, draw_same, draw_second_leg,
+    draw_second_leg_as_first, Pair, FIELDS,
+};
+use seddolki_books::Draw;
+use seddolki_format::assemble;
+use seddolki_format::block::Curve;
+use seddolki_format::limits::{FULL_BLOCK, MAX_BLOCKS};
+use std::collections::BTreeSet;
+use std::time::{Duration, Instant};
+
+/// Pairs drawn of each kind.
+const PAIRS: u64 = 400;
+
+/// Trades around a pair, at most.
+const AROUND: usize = 12;
+
+type Found = Vec<(usize, usize, Likeness)>;
+
+fn positions(found: &[Double]) -> Found {
+    found
+        .iter()
+        .map(|double| {
+            let (earlier, later) = (double.earlier.position, double.later.position);
+            (earlier, later, double.likeness)
+        })
+        .collect()
+}
+
+/// Two trades among others that are different from them and from each other.
+struct Among {
+    trades: Vec<Record>,
+    earlier: usize,
+    later: usize,
+}
+
+fn draw_among(draw: &mut Draw, curves: &[Curve], [first, second]: [Record; 2]) -> Among {
+    let count = draw.place(AROUND + 1);
+    let mut trades = draw_different(draw, curves, count);
+    trades.retain(|trade| are_different(trade, &first) && are_different(trade, &second));
+    let earlier = draw.place(trades.len() + 1);
+    trades.insert(earlier, first);
+    let later = earlier + 1 + draw.place(trades.len() - earlier);
+    trades.insert(later, second);
+    Among {
+        trades,
+        earlier,
+        later,
+    }
+}
+
+/// Every search that meets the two finds them, and them alone.
+fn assert_found(draw: &mut Draw, among: &Among, likeness: Likeness) {
+    let Among {
+        trades,
+        earlier,
+        later,
+    } = among;
+    let expected = vec![(*earlier, *later, likeness)];
+    let (before, from_later) = trades.split_at(*later);
+    assert_eq!(positions(&doubles(trades)), expected, "{trades:?}");
+    assert_eq!(positions(&doubles_of(before, &from_later[0])), expected);
+    let (book, new) = trades.split_at(draw.place(later + 1));
+    assert_eq!(positions(&doubles_among(book, new)), expected);
+    for position in 0..=trades.len() {
+        let one_of_them = position == *earlier || position == *later;
+        let at_position = if one_of_them { &expected[..] } else { &[] };
+        assert_eq!(positions(&doubles_at(trades, position)), at_position);
+    }
+}
+
+/// The engine takes every one of the trades, doubles too.
+fn assert_engine_takes(curves: &[Curve], trades: &[Record]) -> Book {
+    let mut book = Book::from_bytes(assemble(1, curves, &[]));
+    for (position, trade) in trades.iter().enumerate() {
+        assert_eq!(book.append(trade), Ok(position), "{trade:?}");
+    }
+    book
+}
+
+/// Sets each drawn pair among other trades, in both orders; gives the pairs.
+fn find_pairs(
+    draw_pair: impl Fn(&mut Draw, &[Curve]) -> Option<Pair>,
+    likeness: impl Fn(&Pair) -> Likeness,
+) -> Vec<Pair> {
+    let mut pairs = vec![];
+    for seed in 0..PAIRS {
+        let mut draw = Draw::new(seed);
+        let curves = draw_curves(&mut draw);
+        let Some(pair) = draw_pair(&mut draw, &curves) else {
+            continue;
+        };
+        for order in [[pair.trade, pair.double], [pair.double, pair.trade]] {
+            let among = draw_among(&mut draw, &curves, order);
+            assert_found(&mut draw, &among, likeness(&pair));
+            let book = assert_engine_takes(&curves, &among.trades);
+            assert_eq!(book.doubles().unwrap(), doubles(&among.trades));
+        }
+        pairs.push(pair);
+    }
+    pairs
+}
+
+#[test]
+fn a_trade_that_stands_there_already_is_found() {
+    let pairs = find_pairs(draw_same, |_| Likeness::Same);
+    assert_eq!(pairs.len() as u64, PAIRS);
+    let kinds: BTreeSet<_> = pairs
+        .iter()
+        .map(|p| (p.trade.kind, p.trade.phase))
+        .collect();
+    assert_eq!(kinds.len(), 6);
+}
+
+#[test]
+fn a_second_leg_of_a_repo_is_found() {
+    let pairs = find_pairs(draw_second_leg, |_| Likeness::SecondLeg);
+    assert_eq!(pairs.len() as u64, PAIRS);
+    let count = |holds: fn(&Pair) -> bool| pairs.iter().filter(|pair| holds(pair)).count();
+    // whole repos without a security, pairs of two kinds, and pairs that
+    // differ in nothing but the phase
+    assert!(count(|pair| !pair.trade.has_security()) >= 30);
+    assert!(count(|pair| pair.trade.kind != pair.double.kind) >= 30);
+    let phase_alone = |pair: &Pair| {
+        let phase = pair.trade.phase;
+        pair.trade
+            == Record {
+                phase,
+                ..pair.double
+            }
+    };
+    assert!(count(phase_alone) >= 100);
+}
+
+#[test]
+fn a_repo_that_begins_with_a_second_leg_is_found() {
+    let pairs = find_pairs(draw_second_leg_as_first, |_| Likeness::SecondLegAsFirst);
+    assert!(pairs.len() >= 300, "{}", pairs.len());
+    let count = |holds: fn(&Pair) -> bool| pairs.iter().filter(|pair| holds(pair)).count();
+    assert!(count(|pair| pair.trade.first_leg_settled()) >= 100);
+    assert!(count(|pair| !pair.trade.first_leg_settled()) >= 100);
+    assert!(count(|pair| pair.trade.repo_cash < pair.double.repo_cash) >= 100);
+}
+
+#[test]
+fn an_opposite_side_is_found() {
+    let pairs = find_pairs(draw_opposite, |_| Likeness::Opposite);
+    assert_eq!(pairs.len() as u64, PAIRS);
+}
+
+/// The fields in which alone two accepted records can differ. The others
+/// cannot change alone, or are another kind: the side, and the kind and phase
+/// of a repo, which make it a second leg.
+const ONE_FIELDS: [&str; 15] = [
+    "security_curve",
+    "cash_curve",
+    "value_day_1",
+    "value_day_2",
+    "first_payment_day",
+    "period",
+    "payments",
+    "term",
+    "coupon",
+    "nominal",
+    "repo_cash",
+    "price_or_rate",
+    "accrued",
+    "settlement_index",
+    "issue_index",
+];
+
+fn name_of(field: &'static str, trade: &Record) -> &'static str {
+    match (field, trade.is_repo()) {
+        ("price_or_rate", true) => "repo_rate",
+        ("price_or_rate", false) => "clean_price",
+        _ => field,
+    }
+}
+
+#[test]
+fn a_trade_that_differs_in_one_field_is_found() {
+    let mut names = BTreeSet::new();
+    for field in FIELDS
+        .iter()
+        .filter(|field| ONE_FIELDS.contains(&field.name))
+    {
+        let name = |pair: &Pair| name_of(field.name, &pair.trade);
+        let pairs = find_pairs(
+            |draw, curves| draw_one_field(draw, curves, field),
+            |pair| Likeness::OneField(name(pair)),
+        );
+        assert!(pairs.len() >= 200, "{}: {}", field.name, pairs.len());
+        names.extend(pairs.iter().map(name));
+    }
+    assert_eq!(names.len(), ONE_FIELDS.len() + 1);
+}
+
+#[test]
+fn other_fields_do_not_change_alone() {
+    for field in FIELDS
+        .iter()
+        .filter(|field| !ONE_FIELDS.contains(&field.name))
+    {
+        for seed in 0..PAIRS / 10 {
+            let mut draw = Draw::new(seed);
+            let curves = draw_curves(&mut draw);
+            let Some(pair) = draw_one_field(&mut draw, &curves, field) else {
+                continue;
+            };
+            let likeness = match field.name {
+                "side" => Likeness::Opposite,
+                _ => Likeness::SecondLeg,
+            };
+            let between = Likeness::between(&pair.trade, &pair.double);
+            assert_eq!(between, Some(likeness), "{}", field.name);
+        }
+    }
+}
+
+/// Different means: no two trades have their last settlement on one day or
+/// the same amount, and no repo has another's second leg for its cash.
+#[test]
+fn nothing_is_found_among_different_trades() {
+    let mut trades_seen = 0;
+    for seed in 0..60 {
+        let mut draw = Draw::new(seed);
+        let curves = draw_curves(&mut draw);
+        let count = draw.place(120);
+        let trades = draw_different(&mut draw, &curves, count);
+        let book = assert_engine_takes(&curves, &trades);
+        assert_eq!(book.doubles().unwrap(), []);
+        trades_seen += trades.len();
+    }
+    assert!(trades_seen >= 2_000);
+}
+
+#[test]
+fn nothing_is_found_in_a_full_book_of_different_trades() {
+    let mut draw = Draw::new(3);
+    let mut curves = draw_curves(&mut draw);
+    curves.truncate(1);
+    let trades = draw_different(&mut draw, &curves, full(&curves));
+    let book = Book::from_bytes(assemble(1, &curves, &trades));
+    assert_eq!(book.doubles().unwrap(), []);
+}
+
+fn full(curves: &[Curve]) -> usize {
+    (MAX_BLOCKS - 1 - curves.len()) * FULL_BLOCK
+}
+
+/// A repo that pays back 1,002.15 on day 7, one that takes it as its cash for
+/// a day, and one that takes what that one pays back.
+fn chain() -> [Record; 3] {
+    let repo = |side, first, second, cash| Record {
+        kind: 2,
+        side,
+        phase: 1,
+        cash_curve: 1,
+        value_day_1: first,
+        value_day_2: second,
+        term: second - first,
+        repo_cash: cash,
+        price_or_rate: 132_000,
+        ..Record::default()
+    };
+    [
+        repo(1, 0, 7, 100_000),
+        repo(2, 7, 8, 100_215),
+        repo(1, 8, 9, 100_246),
+    ]
+}
+
+#[test]
+fn both_directions_of_a_second_leg_are_listed() {
+    let [first, second, third] = chain();
+    let expected: Found = vec![
+        (0, 2, Likeness::SecondLegAsFirst),
+        (1, 2, Likeness::SecondLegAsFirst),
+    ];
+    assert_eq!(positions(&doubles(&[first, third, second])), expected);
+}
+
+#[test]
+fn of_a_repo_it_is_said_which_one_has_the_second_leg() {
+    let [repo, returned, _] = chain();
+    let settled = Record {
+        phase: 3,
+        security: 1,
+        security_curve: 1,
+        nominal: 110_000,
+        first_payment_day: 90,
+        ..repo
+    };
+    let words = |trades: [Record; 2]| doubles(&trades)[0].to_string();
+    let terms = "same side, cash curve, cash 1,000.00, rate, term and value day 2";
+    let is_leg = |leg, whole| format!("trade {leg} is the second leg of trade {whole}: {terms}");
+    assert_eq!(words([repo, settled]), is_leg(1, 0));
+    assert_eq!(words([settled, repo]), is_leg(0, 1));
+    let cash = "other side, same cash curve, cash 1,002.15 on day 7";
+    let begins =
+        |leg, whole| format!("trade {leg} begins with the second leg of trade {whole}: {cash}");
+    assert_eq!(words([repo, returned]), begins(1, 0));
+    assert_eq!(words([returned, repo]), begins(0, 1));
+}
+
+#[test]
+fn amounts_in_words_have_separated_thousands() {
+    let [repo, ..] = chain();
+    let amounts = [
+        (1, "0.01"),
+        (99_999, "999.99"),
+        (100_000_705, "1,000,007.05"),
+        (1_000_000_000_000, "10,000,000,000.00"),
+    ];
+    for (repo_cash, written) in amounts {
+        let repo = Record { repo_cash, ..repo };
+        let words = doubles(&[repo, Record { phase: 3, ..repo }])[0].to_string();
+        assert!(words.contains(&format!(" cash {written}, ")), "{words}");
+    }
+}
+
+#[test]
+fn what_is_refused_and_what_is_told() {
+    let refused = [
+        Likeness::Same,
+        Likeness::SecondLeg,
+        Likeness::SecondLegAsFirst,
+    ];
+    let told = [Likeness::Opposite, Likeness::OneField("nominal")];
+    assert!(refused.iter().all(|likeness| likeness.refused()));
+    assert!(!told.iter().any(|likeness| likeness.refused()));
+}
+
+/// As many trades as a book can have, made from one; what is found in them.
+fn found_in_full_book(trade_at: impl Fn(u64) -> Record) -> Found {
+    let trades: Vec<Record> = (0..1_134).map(trade_at).collect();
+    let start = Instant::now();
+    let found = doubles(&trades);
+    let taken = start.elapsed();
+    println!("{} doubles in {taken:?}", found.len());
+    assert!(cfg!(debug_assertions) || taken < Duration::from_secs(1));
+    positions(&found)
+}
+
+#[test]
+fn each_trade_is_listed_once_for_a_likeness() {
+    let [repo, ..] = chain();
+    let later = |from: usize| from..1_134;
+
+    let equal: Found = later(1).map(|later| (0, later, Likeness::Same)).collect();
+    assert_eq!(found_in_full_book(|_| repo), equal);
+
+    let nominal = Likeness::OneField("nominal");
+    let one_field: Found = later(1).map(|later| (0, later, nominal)).collect();
+    let nominals = |nominal| Record { nominal, ..repo };
+    assert_eq!(found_in_full_book(nominals), one_field);
+
+    let sides = |place| Record {
+        side: 1 + (place % 2) as u8,
+        ..repo
+    };
+    assert_eq!(found_in_full_book(sides).len(), 1 + 2 * 1_132);
+
+    let legs = |place| chain()[place as usize % 2];
+    assert_eq!(found_in_full_book(legs).len(), 1 + 2 * 1_132);
+}
