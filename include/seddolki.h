@@ -287,7 +287,11 @@ typedef struct {
     seddolki_i32 components[SEDDOLKI_COMPONENTS]; /* 8: in millionths, +-MAX_COMPONENT */
 } seddolki_node;
 
-/* A curve. Blocks 1 on, one for each curve of the header. */
+/*
+ * A curve. Blocks 1 on, one for each curve of the header. Its scenarios add
+ * to the rate of each node j * ranges[i] / steps[i] hundredths of component
+ * i, for every choice of a j from -steps[i] to steps[i] for each i.
+ */
 typedef struct {
     uint8_t kind;                             /* 0: CURVE_KIND */
     uint8_t zero_after_kind;                  /* 1 */
@@ -373,7 +377,8 @@ typedef struct {
 typedef struct {
     seddolki_i64 base;       /* 0: present value of all cash flows, in hundredths */
     seddolki_i64 worst_loss; /* 8: the largest over the scenarios, in hundredths */
-    seddolki_u32 scenario;   /* 16: the first with that loss, counted from 0 */
+    seddolki_u32 scenario;   /* 16: the first with that loss, counted from 0; the j of the
+                                    first component changes slowest, that of the third fastest */
     seddolki_u32 currency;   /* 20: TRY, USD or EUR; 0 where there is no curve */
     seddolki_u64 tolerance;  /* 24: how far the base may be from the exact one, in hundredths */
 } seddolki_curve_figures;
@@ -407,71 +412,78 @@ typedef union {
     seddolki_report report;
 } seddolki_block;
 
+/* A function of this file, which a program may leave unused. */
+#ifdef __GNUC__
+#define SEDDOLKI_INLINE __attribute__((unused)) static inline
+#else
+#define SEDDOLKI_INLINE static inline
+#endif
+
 /* The number in some bytes, the lowest first. */
-static inline uint64_t seddolki_get_bytes(const uint8_t *bytes, size_t count) {
+SEDDOLKI_INLINE uint64_t seddolki_get_bytes(const uint8_t *bytes, size_t count) {
     uint64_t number = 0;
     while (count > 0) number = number << 8 | bytes[--count];
     return number;
 }
 
 /* Writes the lowest bytes of a number, the lowest first. */
-static inline void seddolki_set_bytes(uint8_t *bytes, size_t count, uint64_t number) {
+SEDDOLKI_INLINE void seddolki_set_bytes(uint8_t *bytes, size_t count, uint64_t number) {
     size_t i;
     for (i = 0; i < count; i++) bytes[i] = (number >> (8 * i)) & 0xff;
 }
 
-static inline uint16_t seddolki_get_u16(const seddolki_u16 *field) {
+SEDDOLKI_INLINE uint16_t seddolki_get_u16(const seddolki_u16 *field) {
     return seddolki_get_bytes(field->bytes, sizeof field->bytes) & UINT16_MAX;
 }
 
-static inline uint32_t seddolki_get_u32(const seddolki_u32 *field) {
+SEDDOLKI_INLINE uint32_t seddolki_get_u32(const seddolki_u32 *field) {
     return seddolki_get_bytes(field->bytes, sizeof field->bytes) & UINT32_MAX;
 }
 
-static inline uint64_t seddolki_get_u64(const seddolki_u64 *field) {
+SEDDOLKI_INLINE uint64_t seddolki_get_u64(const seddolki_u64 *field) {
     return seddolki_get_bytes(field->bytes, sizeof field->bytes);
 }
 
-static inline int32_t seddolki_get_i32(const seddolki_i32 *field) {
+SEDDOLKI_INLINE int32_t seddolki_get_i32(const seddolki_i32 *field) {
     uint32_t bits = seddolki_get_bytes(field->bytes, sizeof field->bytes) & UINT32_MAX;
     int32_t number;
     memcpy(&number, &bits, sizeof number);
     return number;
 }
 
-static inline int64_t seddolki_get_i64(const seddolki_i64 *field) {
+SEDDOLKI_INLINE int64_t seddolki_get_i64(const seddolki_i64 *field) {
     uint64_t bits = seddolki_get_bytes(field->bytes, sizeof field->bytes);
     int64_t number;
     memcpy(&number, &bits, sizeof number);
     return number;
 }
 
-static inline void seddolki_set_u16(seddolki_u16 *field, uint16_t number) {
+SEDDOLKI_INLINE void seddolki_set_u16(seddolki_u16 *field, uint16_t number) {
     seddolki_set_bytes(field->bytes, sizeof field->bytes, number);
 }
 
-static inline void seddolki_set_u32(seddolki_u32 *field, uint32_t number) {
+SEDDOLKI_INLINE void seddolki_set_u32(seddolki_u32 *field, uint32_t number) {
     seddolki_set_bytes(field->bytes, sizeof field->bytes, number);
 }
 
-static inline void seddolki_set_u64(seddolki_u64 *field, uint64_t number) {
+SEDDOLKI_INLINE void seddolki_set_u64(seddolki_u64 *field, uint64_t number) {
     seddolki_set_bytes(field->bytes, sizeof field->bytes, number);
 }
 
-static inline void seddolki_set_i32(seddolki_i32 *field, int32_t number) {
+SEDDOLKI_INLINE void seddolki_set_i32(seddolki_i32 *field, int32_t number) {
     uint32_t bits;
     memcpy(&bits, &number, sizeof bits);
     seddolki_set_bytes(field->bytes, sizeof field->bytes, bits);
 }
 
-static inline void seddolki_set_i64(seddolki_i64 *field, int64_t number) {
+SEDDOLKI_INLINE void seddolki_set_i64(seddolki_i64 *field, int64_t number) {
     uint64_t bits;
     memcpy(&bits, &number, sizeof bits);
     seddolki_set_bytes(field->bytes, sizeof field->bytes, bits);
 }
 
 /* The check that the other bytes of a block call for. */
-static inline uint32_t seddolki_check_of(const seddolki_block *block) {
+SEDDOLKI_INLINE uint32_t seddolki_check_of(const seddolki_block *block) {
     uint64_t sum = 1;
     size_t at;
     for (at = 0; at < offsetof(seddolki_head, check); at += sizeof(seddolki_u32))
@@ -480,7 +492,7 @@ static inline uint32_t seddolki_check_of(const seddolki_block *block) {
 }
 
 /* Writes the check of a block, after all its other bytes. */
-static inline void seddolki_seal(seddolki_block *block) {
+SEDDOLKI_INLINE void seddolki_seal(seddolki_block *block) {
     seddolki_set_u32(&block->head.check, seddolki_check_of(block));
 }
 
