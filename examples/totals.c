@@ -1,33 +1,56 @@
 /* Prints the totals of a book: totals BOOK */
 #include "seddolki.h"
 
+#include <inttypes.h>
 #include <stdio.h>
+#include <stdlib.h>
 
-/* A whole number of 8 bytes, the lowest first. */
-static int64_t number_at(const uint8_t *bytes) {
-    uint64_t number = 0;
-    for (int i = 7; i >= 0; i--) number = number << 8 | bytes[i];
-    return (int64_t)number;
+/* A file that is longer than the largest book is refused by its length. */
+static uint8_t book[SEDDOLKI_LARGEST_BOOK + 1];
+
+static void fail(const char *name) {
+    perror(name);
+    exit(1);
+}
+
+/* Reads the book and gives its length. */
+static size_t load(const char *name) {
+    FILE *file = fopen(name, "rb");
+    if (!file) fail(name);
+    size_t used = fread(book, 1, sizeof book, file);
+    if (ferror(file)) fail(name);
+    fclose(file);
+    return used;
+}
+
+static void print_totals(const seddolki_report *report) {
+    static const char *const names[SEDDOLKI_MAX_CURRENCIES] = {"TRY", "USD", "EUR"};
+    for (int i = 0; i < SEDDOLKI_MAX_CURRENCIES; i++) {
+        const seddolki_currency_figures *figures = &report->currencies[i];
+        printf("%s initial %" PRId64 " variation %" PRId64 " total %" PRId64 "\n", names[i],
+               seddolki_get_i64(&figures->initial), seddolki_get_i64(&figures->variation),
+               seddolki_get_i64(&figures->total));
+    }
+}
+
+/* Output is often kept until the end, so only there is it known to have arrived. */
+static void close_output(void) {
+    int failed = ferror(stdout);
+    if (fclose(stdout) || failed) fail("standard output");
 }
 
 int main(int count, char **names) {
-    static const char *currencies[] = {"TRY", "USD", "EUR"};
-    static uint8_t book[SEDDOLKI_LARGEST_BOOK + 1], report[SEDDOLKI_BLOCK];
-    FILE *file = count == 2 ? fopen(names[1], "rb") : NULL;
-    if (!file) return fprintf(stderr, "totals BOOK\n"), 1;
-    size_t used = fread(book, 1, sizeof book, file);
-    fclose(file);
-    seddolki_answer answer = seddolki_margin(book, sizeof book, used, report, sizeof report);
+    if (count != 2) return fprintf(stderr, "usage: totals BOOK\n"), 1;
+    size_t used = load(names[1]);
+    seddolki_report report;
+    seddolki_answer answer =
+        seddolki_margin(book, sizeof book, used, (uint8_t *)&report, sizeof report);
     if (answer.number != SEDDOLKI_DONE) {
-        fprintf(stderr, "refused by ground %d in block %d\n", (int)answer.number, (int)answer.value);
+        fprintf(stderr, "%s: refused by ground %" PRIu64 " in block %" PRIu64 "\n", names[1],
+                answer.number, answer.value);
         return 1;
     }
-    for (int i = 0; i < 3; i++) {
-        /* initial, variation and total, from byte 264 of the report on */
-        const uint8_t *figures = report + 264 + 24 * i;
-        printf("%s initial %lld variation %lld total %lld\n", currencies[i],
-               (long long)number_at(figures), (long long)number_at(figures + 8),
-               (long long)number_at(figures + 16));
-    }
+    print_totals(&report);
+    close_output();
     return 0;
 }

@@ -5,7 +5,8 @@
  * trades, nine records of 56 bytes to a block. The caller lends the bytes:
  * `book` points at `len` of them, and the book is the first `used`. Money is
  * in whole hundredths of its currency, rates and prices are in millionths,
- * days are counted from today, day 0.
+ * days are counted from today, day 0. The second half of this file has the
+ * layouts of the blocks, and functions that get and set their fields.
  *
  * Every function returns; none allocates, keeps a pointer, reads or writes a
  * file, or holds state between calls. Calls on different bytes may run at
@@ -22,6 +23,7 @@
 
 #include <stddef.h>
 #include <stdint.h>
+#include <string.h>
 
 #ifdef __cplusplus
 extern "C" {
@@ -58,7 +60,7 @@ enum {
     SEDDOLKI_DONE = 0,
     /* The used length is 0, no multiple of 512, above 65,536 or above len. */
     SEDDOLKI_LENGTH = 1,
-    /* A block's check is not the sum of its words. */
+    /* A block's check is not 1 plus the sum of its first 127 words of 4 bytes, modulo 2^32. */
     SEDDOLKI_CHECK = 2,
     /* A block's kind or number is not the one that its place calls for. */
     SEDDOLKI_PLACE = 3,
@@ -154,5 +156,344 @@ seddolki_answer seddolki_present_value(uint64_t amount, uint64_t rate, uint64_t 
 #ifdef __cplusplus
 }
 #endif
+
+/* The kind of a block. */
+enum {
+    SEDDOLKI_HEADER_KIND = 1,
+    SEDDOLKI_CURVE_KIND = 2,
+    SEDDOLKI_TRADES_KIND = 3,
+    SEDDOLKI_REPORT_KIND = 9
+};
+
+/* The currency of a curve; in a report, 0 where there is no curve. */
+enum {
+    SEDDOLKI_TRY = 1,
+    SEDDOLKI_USD = 2,
+    SEDDOLKI_EUR = 3
+};
+
+/* The kind of a trade. */
+enum {
+    SEDDOLKI_OUTRIGHT = 1,
+    SEDDOLKI_POOL = 2,
+    SEDDOLKI_SPECIFIED = 3
+};
+
+/* The side of a trade: of an outright the first two, of a repo the last two. */
+enum {
+    SEDDOLKI_BUYER = 1,
+    SEDDOLKI_SELLER = 2,
+    SEDDOLKI_REPO_MEMBER = 1,
+    SEDDOLKI_REVERSE_REPO_MEMBER = 2
+};
+
+/* The security of a trade. */
+enum {
+    SEDDOLKI_NO_SECURITY = 0,
+    SEDDOLKI_SINGLE_PAYMENT = 1,
+    SEDDOLKI_COUPONS = 2,
+    SEDDOLKI_INDEXED_COUPONS = 3
+};
+
+/*
+ * Limits. What has no lower limit starts at 0. An amount is a nominal or a
+ * repo cash; a component may be as far below 0 as above.
+ */
+#define SEDDOLKI_MAX_BLOCKS 128
+#define SEDDOLKI_MIN_CURVES 1
+#define SEDDOLKI_MAX_CURVES 8
+#define SEDDOLKI_MAX_CURRENCIES 3
+#define SEDDOLKI_FULL_BLOCK 9
+#define SEDDOLKI_MIN_NODES 2
+#define SEDDOLKI_MAX_NODES 24
+#define SEDDOLKI_COMPONENTS 3
+#define SEDDOLKI_MAX_STEPS 3
+#define SEDDOLKI_MAX_RANGE 10000
+#define SEDDOLKI_MAX_COMPONENT 1000000
+#define SEDDOLKI_MAX_DAY 10950
+#define SEDDOLKI_MAX_RATE 1000000
+#define SEDDOLKI_MIN_PERIOD 1
+#define SEDDOLKI_MAX_PERIOD 366
+#define SEDDOLKI_MIN_PAYMENTS 1
+#define SEDDOLKI_MAX_PAYMENTS 120
+#define SEDDOLKI_MIN_TERM 1
+#define SEDDOLKI_MAX_TERM 730
+#define SEDDOLKI_MAX_COUPON 1000000
+#define SEDDOLKI_MIN_AMOUNT 1
+#define SEDDOLKI_MAX_AMOUNT 1000000000000
+#define SEDDOLKI_MIN_CLEAN_PRICE 1
+#define SEDDOLKI_MAX_CLEAN_PRICE 4000000
+#define SEDDOLKI_MAX_ACCRUED 1000000
+#define SEDDOLKI_MIN_INDEX 1
+#define SEDDOLKI_MAX_INDEX 10000000
+
+/*
+ * The layouts.
+ *
+ * A field of several bytes has the lowest first, whatever the machine. It is
+ * held as bytes, so a layout has no gaps and may stand at any address. u is
+ * without sign, i with one, and the number is of bits; the functions at the
+ * end get and set such fields. The comment of a field starts with its first
+ * byte, and leaves SEDDOLKI_ out of names. Bytes named zero are due to be 0,
+ * and so are places behind the last node of a curve and the last record of a
+ * block.
+ */
+typedef struct {
+    uint8_t bytes[2];
+} seddolki_u16;
+
+typedef struct {
+    uint8_t bytes[4];
+} seddolki_u32;
+
+typedef struct {
+    uint8_t bytes[8];
+} seddolki_u64;
+
+typedef struct {
+    uint8_t bytes[4];
+} seddolki_i32;
+
+typedef struct {
+    uint8_t bytes[8];
+} seddolki_i64;
+
+/* What every block has. */
+typedef struct {
+    uint8_t kind;         /* 0 */
+    uint8_t count;        /* 1: the trades of a trade block; 0 in any other block */
+    seddolki_u16 number;  /* 2: of the block, counted from 0 */
+    uint8_t content[504]; /* 4 */
+    seddolki_u32 check;   /* 508: 1 plus the 127 words of 4 bytes before it, modulo 2^32 */
+} seddolki_head;
+
+/* Block 0. The blocks of a book are 1 + curves + trade_blocks, at most MAX_BLOCKS. */
+typedef struct {
+    uint8_t kind;                         /* 0: HEADER_KIND */
+    uint8_t zero_after_kind;              /* 1 */
+    seddolki_u16 number;                  /* 2: 0 */
+    seddolki_u32 account;                 /* 4: any */
+    seddolki_u16 curves;                  /* 8: MIN_CURVES to MAX_CURVES */
+    seddolki_u16 trade_blocks;            /* 10: from 0 */
+    uint8_t zero_after_trade_blocks[496]; /* 12 */
+    seddolki_u32 check;                   /* 508 */
+} seddolki_header;
+
+/* A node of a curve. Days rise strictly from node to node. */
+typedef struct {
+    seddolki_u16 day;                             /* 0: 0 to MAX_DAY */
+    uint8_t zero_after_day[2];                    /* 2 */
+    seddolki_u32 rate;                            /* 4: in millionths, 0 to MAX_RATE */
+    seddolki_i32 components[SEDDOLKI_COMPONENTS]; /* 8: in millionths, +-MAX_COMPONENT */
+} seddolki_node;
+
+/*
+ * A curve. Blocks 1 on, one for each curve of the header. Its scenarios add
+ * to the rate of each node j * ranges[i] / steps[i] hundredths of component
+ * i, for every choice of a j from -steps[i] to steps[i] for each i.
+ */
+typedef struct {
+    uint8_t kind;                             /* 0: CURVE_KIND */
+    uint8_t zero_after_kind;                  /* 1 */
+    seddolki_u16 number;                      /* 2: 1 to the header's curves */
+    uint8_t id;                               /* 4: the same as number */
+    uint8_t currency;                         /* 5: TRY, USD or EUR */
+    uint8_t node_count;                       /* 6: MIN_NODES to MAX_NODES */
+    uint8_t steps[SEDDOLKI_COMPONENTS];       /* 7: a component's, 0 to MAX_STEPS */
+    uint8_t zero_after_steps[2];              /* 10 */
+    seddolki_u16 ranges[SEDDOLKI_COMPONENTS]; /* 12: in hundredths, 0 to MAX_RANGE */
+    uint8_t zero_after_ranges[2];             /* 18 */
+    seddolki_node places[SEDDOLKI_MAX_NODES]; /* 20: the first node_count are the nodes */
+    uint8_t zero_after_places[8];             /* 500 */
+    seddolki_u32 check;                       /* 508 */
+} seddolki_curve;
+
+/*
+ * A trade's record. Fields that the trade does not use are due to be 0. By
+ * kind and phase it uses:
+ *
+ *                        outright   pool 1   pool 2        pool 3
+ *                                            specified 1   specified 2
+ *   security             1 to 3     0        1 to 3        1 to 3
+ *   cash_curve           yes        yes      yes           yes
+ *   value_day_1          yes        yes      yes           no
+ *   value_day_2, term    no         yes      yes           yes
+ *   repo_cash            no         yes      yes           yes
+ *   price_or_rate        price      rate     rate          rate
+ *   accrued              yes        no       no            no
+ *
+ * and by security:
+ *
+ *                                                 0     1     2     3
+ *   security_curve, first_payment_day, nominal    no    yes   yes   yes
+ *   period, payments, coupon                      no    no    yes   yes
+ *   settlement_index, issue_index                 no    no    no    yes
+ *
+ * A repo of the last column has settled its first leg, and its value_day_2 is
+ * at most the term; in the columns before it value_day_1 is before
+ * value_day_2, and the term is their difference. The first payment falls
+ * after value_day_1 of an outright, after value_day_2 of a repo, and the last
+ * one, (payments - 1) * period later, at MAX_DAY at most. The two curves have
+ * the same currency. No cash flow of the trade is above MAX_AMOUNT.
+ *
+ * What is wrong in bytes 0 to 5 is ground 8; in a day, the period, the
+ * payments or the term, where used, 9; in any other field, or in an unused
+ * one, 10.
+ */
+typedef struct {
+    uint8_t kind;                   /* 0: OUTRIGHT, POOL or SPECIFIED */
+    uint8_t side;                   /* 1: BUYER or SELLER, REPO_MEMBER or REVERSE_REPO_MEMBER */
+    uint8_t phase;                  /* 2: 0 of an outright, 1 to 3 of a pool repo, 1 or 2 else */
+    uint8_t security_curve;         /* 3: the id of a curve of the book */
+    uint8_t cash_curve;             /* 4: the id of a curve of the book */
+    uint8_t security;               /* 5: NO_SECURITY to INDEXED_COUPONS */
+    seddolki_u16 zero;              /* 6 */
+    seddolki_u16 value_day_1;       /* 8: 0 to MAX_DAY */
+    seddolki_u16 value_day_2;       /* 10: 0 to MAX_DAY */
+    seddolki_u16 first_payment_day; /* 12: 1 to MAX_DAY */
+    seddolki_u16 period;            /* 14: in days, MIN_PERIOD to MAX_PERIOD */
+    seddolki_u16 payments;          /* 16: MIN_PAYMENTS to MAX_PAYMENTS */
+    seddolki_u16 term;              /* 18: of the repo in days, MIN_TERM to MAX_TERM */
+    seddolki_u32 coupon;            /* 20: of a period in millionths, 0 to MAX_COUPON */
+    seddolki_u64 nominal;           /* 24: in hundredths, MIN_AMOUNT to MAX_AMOUNT */
+    seddolki_u64 repo_cash;         /* 32: in hundredths, MIN_AMOUNT to MAX_AMOUNT */
+    seddolki_u32 price_or_rate;     /* 40: in millionths, a clean price MIN_CLEAN_PRICE to
+                                           MAX_CLEAN_PRICE, a repo rate 0 to MAX_RATE */
+    seddolki_u32 accrued;           /* 44: in millionths, 0 to MAX_ACCRUED */
+    seddolki_u32 settlement_index;  /* 48: MIN_INDEX to MAX_INDEX */
+    seddolki_u32 issue_index;       /* 52: MIN_INDEX to MAX_INDEX */
+} seddolki_record;
+
+/* Trades. Blocks behind the curves, all full but the last, none empty. */
+typedef struct {
+    uint8_t kind;                                /* 0: TRADES_KIND */
+    uint8_t count;                               /* 1: 1 to FULL_BLOCK */
+    seddolki_u16 number;                         /* 2: of the block, counted from 0 */
+    seddolki_record places[SEDDOLKI_FULL_BLOCK]; /* 4: the first count are the trades */
+    seddolki_u32 check;                          /* 508 */
+} seddolki_trade_block;
+
+/* A curve's figures in a report, all 0 where there is no curve. */
+typedef struct {
+    seddolki_i64 base;       /* 0: present value of all cash flows, in hundredths */
+    seddolki_i64 worst_loss; /* 8: the largest over the scenarios, in hundredths */
+    seddolki_u32 scenario;   /* 16: the first with that loss, counted from 0; the j of the
+                                    first component changes slowest, that of the third fastest */
+    seddolki_u32 currency;   /* 20: TRY, USD or EUR; 0 where there is no curve */
+    seddolki_u64 tolerance;  /* 24: how far the base may be from the exact one, in hundredths */
+} seddolki_curve_figures;
+
+/* A currency's figures in a report, in hundredths, all 0 where no curve has the currency. */
+typedef struct {
+    seddolki_i64 initial;   /* 0: the sum of the worst losses of its curves */
+    seddolki_i64 variation; /* 8: the sum of the base values of its curves */
+    seddolki_i64 total;     /* 16: variation less initial */
+} seddolki_currency_figures;
+
+/* A report. A curve is at its id less 1, a currency at its number less 1. */
+typedef struct {
+    uint8_t kind;                                                  /* 0: REPORT_KIND */
+    uint8_t zero_after_kind;                                       /* 1 */
+    seddolki_u16 number;                                           /* 2: 0 */
+    seddolki_u32 account;                                          /* 4: the book's */
+    seddolki_curve_figures curves[SEDDOLKI_MAX_CURVES];            /* 8 */
+    seddolki_currency_figures currencies[SEDDOLKI_MAX_CURRENCIES]; /* 264 */
+    uint8_t zero_after_currencies[172];                            /* 336 */
+    seddolki_u32 check;                                            /* 508 */
+} seddolki_report;
+
+/* Any block. A book is an array of these, a report is one. */
+typedef union {
+    uint8_t bytes[SEDDOLKI_BLOCK];
+    seddolki_head head;
+    seddolki_header header;
+    seddolki_curve curve;
+    seddolki_trade_block trades;
+    seddolki_report report;
+} seddolki_block;
+
+/* A function of this file, which a program may leave unused. */
+#ifdef __GNUC__
+#define SEDDOLKI_INLINE __attribute__((unused)) static inline
+#else
+#define SEDDOLKI_INLINE static inline
+#endif
+
+/* The number in some bytes, the lowest first. */
+SEDDOLKI_INLINE uint64_t seddolki_get_bytes(const uint8_t *bytes, size_t count) {
+    uint64_t number = 0;
+    while (count > 0) number = number << 8 | bytes[--count];
+    return number;
+}
+
+/* Writes the lowest bytes of a number, the lowest first. */
+SEDDOLKI_INLINE void seddolki_set_bytes(uint8_t *bytes, size_t count, uint64_t number) {
+    size_t i;
+    for (i = 0; i < count; i++) bytes[i] = (number >> (8 * i)) & 0xff;
+}
+
+SEDDOLKI_INLINE uint16_t seddolki_get_u16(const seddolki_u16 *field) {
+    return seddolki_get_bytes(field->bytes, sizeof field->bytes) & UINT16_MAX;
+}
+
+SEDDOLKI_INLINE uint32_t seddolki_get_u32(const seddolki_u32 *field) {
+    return seddolki_get_bytes(field->bytes, sizeof field->bytes) & UINT32_MAX;
+}
+
+SEDDOLKI_INLINE uint64_t seddolki_get_u64(const seddolki_u64 *field) {
+    return seddolki_get_bytes(field->bytes, sizeof field->bytes);
+}
+
+SEDDOLKI_INLINE int32_t seddolki_get_i32(const seddolki_i32 *field) {
+    uint32_t bits = seddolki_get_bytes(field->bytes, sizeof field->bytes) & UINT32_MAX;
+    int32_t number;
+    memcpy(&number, &bits, sizeof number);
+    return number;
+}
+
+SEDDOLKI_INLINE int64_t seddolki_get_i64(const seddolki_i64 *field) {
+    uint64_t bits = seddolki_get_bytes(field->bytes, sizeof field->bytes);
+    int64_t number;
+    memcpy(&number, &bits, sizeof number);
+    return number;
+}
+
+SEDDOLKI_INLINE void seddolki_set_u16(seddolki_u16 *field, uint16_t number) {
+    seddolki_set_bytes(field->bytes, sizeof field->bytes, number);
+}
+
+SEDDOLKI_INLINE void seddolki_set_u32(seddolki_u32 *field, uint32_t number) {
+    seddolki_set_bytes(field->bytes, sizeof field->bytes, number);
+}
+
+SEDDOLKI_INLINE void seddolki_set_u64(seddolki_u64 *field, uint64_t number) {
+    seddolki_set_bytes(field->bytes, sizeof field->bytes, number);
+}
+
+SEDDOLKI_INLINE void seddolki_set_i32(seddolki_i32 *field, int32_t number) {
+    uint32_t bits;
+    memcpy(&bits, &number, sizeof bits);
+    seddolki_set_bytes(field->bytes, sizeof field->bytes, bits);
+}
+
+SEDDOLKI_INLINE void seddolki_set_i64(seddolki_i64 *field, int64_t number) {
+    uint64_t bits;
+    memcpy(&bits, &number, sizeof bits);
+    seddolki_set_bytes(field->bytes, sizeof field->bytes, bits);
+}
+
+/* The check that the other bytes of a block call for. */
+SEDDOLKI_INLINE uint32_t seddolki_check_of(const seddolki_block *block) {
+    uint64_t sum = 1;
+    size_t at;
+    for (at = 0; at < offsetof(seddolki_head, check); at += sizeof(seddolki_u32))
+        sum += seddolki_get_bytes(block->bytes + at, sizeof(seddolki_u32));
+    return sum & UINT32_MAX;
+}
+
+/* Writes the check of a block, after all its other bytes. */
+SEDDOLKI_INLINE void seddolki_seal(seddolki_block *block) {
+    seddolki_set_u32(&block->head.check, seddolki_check_of(block));
+}
 
 #endif

@@ -1,37 +1,173 @@
-//! The example in C, built as the README says.
+//! The engine called from C and C++.
 
-use std::path::Path;
-use std::process::{Command, Output};
+mod c;
 
-const ROOT: &str = concat!(env!("CARGO_MANIFEST_DIR"), "/../..");
+use c::{compilers, Compiler, ROOT};
+use seddolki_format::block::{check_of, BLOCK};
+use std::fs::{create_dir, remove_dir_all, File};
+use std::path::{Path, PathBuf};
+use std::process::{Command, Output, Stdio};
+use std::sync::atomic::{AtomicUsize, Ordering};
 
-/// Where the program is built.
-fn program() -> String {
-    concat!(env!("CARGO_TARGET_TMPDIR"), "/totals").into()
+/// A program, built in a folder that goes with it.
+struct Program {
+    folder: PathBuf,
 }
 
-fn output(program: &str, arguments: &[&str]) -> Output {
-    let mut command = Command::new(program);
-    command.current_dir(Path::new(ROOT)).args(arguments);
-    command.output().expect("gcc, and what it builds")
+impl Program {
+    fn build(compiler: Compiler, source: &str) -> Self {
+        static BUILT: AtomicUsize = AtomicUsize::new(0);
+        let number = BUILT.fetch_add(1, Ordering::Relaxed);
+        let name = format!("from_c-{}-{number}", std::process::id());
+        let folder = Path::new(env!("CARGO_TARGET_TMPDIR")).join(name);
+        create_dir(&folder).unwrap();
+        let program = Program { folder };
+        let archive = "target/staticlib/libseddolki.a";
+        let path = program.path();
+        let arguments = [source, "-x", "none", archive, "-o", path.to_str().unwrap()];
+        compiler.compile(&arguments, "");
+        program
+    }
+
+    fn path(&self) -> PathBuf {
+        self.folder.join("program")
+    }
+
+    fn command(&self, arguments: &[&str]) -> Command {
+        let mut command = Command::new(self.path());
+        command.current_dir(Path::new(ROOT)).args(arguments);
+        command
+    }
+
+    /// What it prints; panics unless it ends well.
+    fn prints(&self, arguments: &[&str]) -> String {
+        let output = self.command(arguments).output().unwrap();
+        assert!(output.status.success(), "{output:?}");
+        assert_eq!(output.stderr, b"");
+        String::from_utf8(output.stdout).unwrap()
+    }
+}
+
+impl Drop for Program {
+    fn drop(&mut self) {
+        remove_dir_all(&self.folder).unwrap();
+    }
+}
+
+#[test]
+fn document_01_example_is_built_by_the_names_of_the_header() {
+    let absent = |id| format!("curve {id} currency 0 base 0 loss 0 scenario 0 tolerance 0\n");
+    let expected = [
+        "report 0 account 7\n\
+         curve 1 currency 1 base 10000 loss 30000 scenario 2 tolerance 1\n",
+        &(2..=8).map(absent).collect::<String>(),
+        "currency 1 initial 30000 variation 10000 total -20000\n\
+         currency 2 initial 0 variation 0 total 0\n\
+         currency 3 initial 0 variation 0 total 0\n",
+    ]
+    .concat();
+    for compiler in compilers() {
+        let program = Program::build(compiler, "host/engine/tests/c/example_book.c");
+        assert_eq!(program.prints(&["examples/buyer.book"]), expected);
+        let other = program.command(&["examples/seller.book"]).output().unwrap();
+        assert_eq!(other.status.code(), Some(1));
+        assert_eq!(
+            other.stderr,
+            b"does not hold: the book is that of the file\n"
+        );
+    }
+}
+
+/// A line of a type's name, a number, and its bytes.
+fn line(name: &str, number: i128, bytes: &[u8]) -> String {
+    let bytes: String = bytes.iter().map(|byte| format!(" {byte:02x}")).collect();
+    format!("{name} {number}{bytes}\n")
+}
+
+macro_rules! lines {
+    ($($type:ident: $($number:expr),*;)*) => {
+        [$($({
+            let number: $type = $number;
+            line(stringify!($type), number.into(), &number.to_le_bytes())
+        }),*),*].concat()
+    };
+}
+
+#[test]
+fn fields_are_set_and_got_as_in_rust() {
+    let fields = lines! {
+        u16: 0, 0x0102, u16::MAX;
+        u32: 0, 0x0102_0304, u32::MAX;
+        u64: 0, 0x0102_0304_0506_0708, u64::MAX;
+        i32: i32::MIN, -2, 0x0102_0304, i32::MAX;
+        i64: i64::MIN, -2, 0x0102_0304_0506_0708, i64::MAX;
+    };
+    let check = |filling| {
+        let check = check_of(&[filling; BLOCK]);
+        line("check", check.into(), &check.to_le_bytes())
+    };
+    let expected = fields + &check(0) + &check(0xff);
+    for compiler in compilers() {
+        let program = Program::build(compiler, "host/engine/tests/c/fields.c");
+        assert_eq!(program.prints(&[]), expected);
+    }
+}
+
+/// The example, built by each compiler of C.
+fn totals() -> impl Iterator<Item = Program> {
+    let of_c = compilers().into_iter().filter(|c| c.language == "c");
+    of_c.map(|compiler| Program::build(compiler, "examples/totals.c"))
+}
+
+fn assert_fails(output: Output, message: &str) {
+    assert_eq!(String::from_utf8(output.stderr).unwrap(), message);
+    assert_eq!(output.status.code(), Some(1));
+    assert_eq!(output.stdout, b"");
 }
 
 #[test]
 fn the_example_in_c_prints_the_totals() {
-    let source = "examples/totals.c";
-    let archive = "target/staticlib/libseddolki.a";
-    let flags = ["-Wall", "-Wextra", "-Werror", "-Iinclude"];
-    let named = ["-o", &program()];
-    let built = output("gcc", &[&flags[..], &[source, archive], &named].concat());
-    assert!(built.status.success(), "{built:?}");
-    let shown = output(&program(), &["examples/buyer.book"]);
-    assert_eq!(
-        String::from_utf8(shown.stdout).unwrap(),
-        "TRY initial 30000 variation 10000 total -20000\n\
-         USD initial 0 variation 0 total 0\n\
-         EUR initial 0 variation 0 total 0\n"
-    );
-    let refused = output(&program(), &["examples/buyer.csv"]);
-    assert_eq!(refused.status.code(), Some(1));
-    assert_eq!(refused.stderr, b"refused by ground 1 in block 0\n");
+    for program in totals() {
+        assert_eq!(
+            program.prints(&["examples/buyer.book"]),
+            "TRY initial 30000 variation 10000 total -20000\n\
+             USD initial 0 variation 0 total 0\n\
+             EUR initial 0 variation 0 total 0\n"
+        );
+    }
+}
+
+#[test]
+fn the_example_in_c_says_why_it_has_no_totals() {
+    let failures = [
+        (
+            &["examples/buyer.csv"][..],
+            "examples/buyer.csv: refused by ground 1 in block 0\n",
+        ),
+        (
+            &["/dev/zero"],
+            "/dev/zero: refused by ground 1 in block 0\n",
+        ),
+        (&["examples"], "examples: Is a directory\n"),
+        (
+            &["examples/absent.book"],
+            "examples/absent.book: No such file or directory\n",
+        ),
+        (&[], "usage: totals BOOK\n"),
+    ];
+    for program in totals() {
+        for (arguments, message) in failures {
+            assert_fails(program.command(arguments).output().unwrap(), message);
+        }
+    }
+}
+
+#[test]
+fn the_example_in_c_says_that_its_output_is_lost() {
+    for program in totals() {
+        let mut full = program.command(&["examples/buyer.book"]);
+        full.stdout(File::options().write(true).open("/dev/full").unwrap());
+        let message = "standard output: No space left on device\n";
+        assert_fails(full.stderr(Stdio::piped()).output().unwrap(), message);
+    }
 }
