@@ -2,7 +2,7 @@
 
 use crate::failure::words;
 use crate::place::Place;
-use crate::{Failure, Patience, Written};
+use crate::{refuse_standard_stream, Failure, Patience, Written};
 use std::fs;
 use std::io::ErrorKind;
 use std::path::Path;
@@ -10,6 +10,7 @@ use std::path::Path;
 /// Makes a file that is not there yet: it appears whole or not at all, and
 /// never in another file's place.
 pub fn create(path: &Path, bytes: &[u8], patience: &Patience) -> Result<Written, Failure> {
+    refuse_standard_stream(path)?;
     let place = Place::of_new(path, patience)?;
     if let Ok(found) = fs::symlink_metadata(&place.target) {
         let dangling = found.is_symlink() && fs::metadata(&place.target).is_err();

@@ -1,7 +1,7 @@
 //! Changing a file.
 
 use crate::standing::Standing;
-use crate::{Failure, Patience, Written};
+use crate::{refuse_standard_stream, Failure, Patience, Written};
 use std::path::Path;
 
 /// Changes a file. `change` gets its bytes, at most so many and one more, and
@@ -13,6 +13,7 @@ pub fn edit<T, E: From<Failure>>(
     patience: &Patience,
     change: impl FnOnce(&[u8]) -> Result<(Vec<u8>, T), E>,
 ) -> Result<Written<T>, E> {
+    refuse_standard_stream(path)?;
     let standing = Standing::open(path, patience)?;
     let (bytes, result) = change(&standing.read(most)?)?;
     let Written { warning, .. } = standing.replace(&bytes)?;

@@ -6,6 +6,7 @@ use std::io;
 use std::path::Path;
 
 /// What went wrong with a file or the system, in words; nothing has changed.
+/// (What went into a stream before it failed can't be taken back.)
 #[derive(Debug)]
 pub struct Failure {
     name: String,
@@ -13,25 +14,20 @@ pub struct Failure {
 }
 
 impl Failure {
-    /// The failure that a path has for a reason.
+    /// What went wrong with the file at a path, and why.
     pub fn new(path: &Path, reason: impl fmt::Display) -> Failure {
-        Failure::named(shown(path), reason)
-    }
-
-    /// The failure of what is named, a path that is safe to show or a stream.
-    pub(crate) fn named(name: impl Into<String>, reason: impl fmt::Display) -> Failure {
         Failure {
-            name: name.into(),
+            name: shown(path),
             reason: reason.to_string(),
         }
     }
 
-    /// The failure of what is named, made from the system's error.
-    pub(crate) fn of(name: &str) -> impl Fn(io::Error) -> Failure + '_ {
-        move |error| Failure::named(name, words(&error))
+    /// The system's error at a path.
+    pub(crate) fn of(path: &Path) -> impl Fn(io::Error) -> Failure + '_ {
+        move |error| Failure::new(path, words(&error))
     }
 
-    /// The same, where the path does not say what could not be done.
+    /// The system's error at a path, with what could not be done for it.
     pub(crate) fn because<'a>(path: &'a Path, what: &'a str) -> impl Fn(io::Error) -> Failure + 'a {
         move |error| Failure::new(path, format!("{what}: {}", words(&error)))
     }

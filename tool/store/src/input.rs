@@ -43,16 +43,16 @@ fn stored(file: &Metadata) -> Option<Identity> {
 pub fn read_at_most(path: &Path, most: usize) -> Result<Input, Failure> {
     let (name, opened) = if is_standard_stream(path) {
         let stream = io::stdin().as_fd().try_clone_to_owned();
-        ("standard input".into(), stream.map(File::from))
+        (Path::new("standard input"), stream.map(File::from))
     } else {
-        (shown(path), File::open(path))
+        (path, File::open(path))
     };
-    let file = opened.map_err(Failure::of(&name))?;
-    let metadata = file.metadata().map_err(Failure::of(&name))?;
+    let file = opened.map_err(Failure::of(name))?;
+    let metadata = file.metadata().map_err(Failure::of(name))?;
     Ok(Input {
-        bytes: bytes_of(&file, most).map_err(Failure::of(&name))?,
+        name: shown(name),
+        bytes: bytes_of(&file, most).map_err(Failure::of(name))?,
         file: stored(&metadata),
-        name,
     })
 }
 

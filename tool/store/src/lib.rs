@@ -38,3 +38,12 @@ pub struct Written<T = ()> {
 fn is_standard_stream(path: &Path) -> bool {
     path == Path::new("-")
 }
+
+/// Where only a file will do.
+fn refuse_standard_stream(path: &Path) -> Result<(), Failure> {
+    if is_standard_stream(path) {
+        let reason = "stands for no file here; ./- is the file of that name";
+        return Err(Failure::new(path, reason));
+    }
+    Ok(())
+}

@@ -1,6 +1,5 @@
 //! Where a command's output goes.
 
-use crate::shown;
 use crate::standing::{refuse_other_kinds, Standing};
 use crate::{create, is_standard_stream, Failure, Input, Patience, Written};
 use std::fs::{self, File, Metadata, OpenOptions};
@@ -25,24 +24,25 @@ pub fn write_output(
         Err(error) if error.kind() == ErrorKind::NotFound => {
             return create(path, bytes, patience);
         }
-        found => found.map_err(Failure::of(&shown(path)))?,
+        found => found.map_err(Failure::of(path))?,
     };
     if is_stream(&found) {
         return write_stream(path, bytes, inputs);
     }
     refuse_other_kinds(path, &found)?;
-    refuse_input(&shown(path), &found, inputs)?;
+    refuse_input(path, &found, inputs)?;
     if !force {
-        return Err(Failure::new(path, "exists already; --force writes over it"));
+        let reason = "exists already; --force writes over it";
+        return Err(Failure::new(path, reason));
     }
     let standing = Standing::open(path, patience)?;
     // by now it may be another one
-    refuse_input(&shown(path), &standing.metadata, inputs)?;
+    refuse_input(path, &standing.metadata, inputs)?;
     standing.replace(bytes)
 }
 
 fn write_standard_output(bytes: &[u8], inputs: &[&Input]) -> Result<Written, Failure> {
-    let name = "standard output";
+    let name = Path::new("standard output");
     // what was printed before comes before
     let flushed = io::stdout().flush();
     let stream = flushed.and_then(|()| io::stdout().as_fd().try_clone_to_owned());
@@ -57,21 +57,19 @@ fn is_stream(found: &Metadata) -> bool {
 
 /// Writes to a FIFO or a device.
 fn write_stream(path: &Path, bytes: &[u8], inputs: &[&Input]) -> Result<Written, Failure> {
-    let name = shown(path);
     let opened = OpenOptions::new().write(true).open(path);
-    let stream = opened.map_err(Failure::of(&name))?;
-    let metadata = stream.metadata().map_err(Failure::of(&name))?;
+    let stream = opened.map_err(Failure::of(path))?;
+    let metadata = stream.metadata().map_err(Failure::of(path))?;
     if !is_stream(&metadata) {
-        return Err(Failure::new(
-            path,
-            "was replaced meanwhile by another program",
-        ));
+        let reason = "was replaced meanwhile by another program";
+        return Err(Failure::new(path, reason));
     }
-    write_through(&name, stream, bytes, inputs)
+    write_through(path, stream, bytes, inputs)
 }
 
+/// Writes to what is open, whatever it is, unless it is an input.
 fn write_through(
-    name: &str,
+    name: &Path,
     mut stream: File,
     bytes: &[u8],
     inputs: &[&Input],
@@ -85,11 +83,11 @@ fn write_through(
     })
 }
 
-fn refuse_input(name: &str, output: &Metadata, inputs: &[&Input]) -> Result<(), Failure> {
+fn refuse_input(name: &Path, output: &Metadata, inputs: &[&Input]) -> Result<(), Failure> {
     match inputs.iter().find(|input| input.is(output)) {
         Some(input) => {
             let reason = format!("is the same file as the input {}", input.name);
-            Err(Failure::named(name, reason))
+            Err(Failure::new(name, reason))
         }
         None => Ok(()),
     }

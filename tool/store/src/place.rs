@@ -3,13 +3,13 @@
 use crate::failure::words;
 use crate::input::identity;
 use crate::temporary::{remove_leftovers, Temporary};
-use crate::{is_standard_stream, shown, Failure, Patience, Written};
+use crate::{shown, Failure, Patience, Written};
 use std::fs::{self, File};
 use std::io;
 use std::os::unix::ffi::OsStrExt;
 use std::path::{Path, PathBuf};
 
-/// A file's place: as long as this lives, no other command writes in the
+/// A file's place: as long as this lives, no other command writes in its
 /// folder.
 pub(crate) struct Place<'a> {
     /// The path as the user gave it.
@@ -18,6 +18,9 @@ pub(crate) struct Place<'a> {
     pub(crate) target: PathBuf,
     folder: File,
 }
+
+/// Follows the links of a path.
+type Resolve = fn(&Path) -> io::Result<PathBuf>;
 
 impl<'a> Place<'a> {
     /// The place of a file that is there.
@@ -30,53 +33,43 @@ impl<'a> Place<'a> {
         Place::lock(given, resolve_new, patience)
     }
 
-    fn lock(
-        given: &'a Path,
-        resolve: fn(&Path) -> io::Result<PathBuf>,
-        patience: &Patience,
-    ) -> Result<Self, Failure> {
-        let failed = |error: io::Error| Failure::new(given, words(&error));
-        if is_standard_stream(given) {
-            let reason = "a standard stream can't be used here; ./- is the file of that name";
-            return Err(Failure::new(given, reason));
-        }
-        let target = resolve(given).map_err(failed)?;
-        let path = folder_of(&target);
-        let folder = File::open(path).map_err(|error| {
-            let reason = format!("{} can't be opened: {}", shown(path), words(&error));
-            Failure::new(given, reason)
-        })?;
-        patience.lock(given, path, &folder)?;
-        let locked = folder.metadata().map_err(failed)?;
-        let current = fs::metadata(path).map_err(failed)?;
-        if resolve(given).map_err(failed)? != target || identity(&current) != identity(&locked) {
-            return Err(Failure::new(
-                given,
-                "was moved while the lock was waited for",
-            ));
-        }
-        remove_leftovers(path);
-        Ok(Place {
+    fn lock(given: &'a Path, resolve: Resolve, patience: &Patience) -> Result<Self, Failure> {
+        let target = resolve(given).map_err(Failure::of(given))?;
+        let opened = File::open(folder_of(&target));
+        let folder = opened.map_err(Failure::because(given, "its folder can't be opened"))?;
+        patience.lock(given, folder_of(&target), &folder)?;
+        let place = Place {
             given,
             target,
             folder,
-        })
+        };
+        if !place.is_still_named(resolve).map_err(Failure::of(given))? {
+            let reason = "was moved while the lock was waited for";
+            return Err(Failure::new(given, reason));
+        }
+        remove_leftovers(folder_of(&place.target));
+        Ok(place)
+    }
+
+    /// Whether the path still leads to this place in the folder that is locked.
+    fn is_still_named(&self, resolve: Resolve) -> io::Result<bool> {
+        let folder = fs::metadata(folder_of(&self.target))?;
+        let locked = self.folder.metadata()?;
+        Ok(resolve(self.given)? == self.target && identity(&folder) == identity(&locked))
     }
 
     /// A temporary file beside it, with the bytes.
     pub(crate) fn write_beside(&self, mode: u32, bytes: &[u8]) -> Result<Temporary, Failure> {
         let folder = folder_of(&self.target);
-        Temporary::write(folder, mode, bytes).map_err(|error| {
-            let reason = format!("can't be written in {}: {}", shown(folder), words(&error));
-            Failure::new(self.given, reason)
-        })
+        let what = format!("can't be written in {}", shown(folder));
+        Temporary::write(folder, mode, bytes).map_err(Failure::because(self.given, &what))
     }
 
     /// What is left to do when the file has its new bytes and its name.
     pub(crate) fn finish(&self) -> Written {
         let warning = self.folder.sync_all().err().map(|error| {
             format!(
-                "{}: is written, but may be lost if the power fails now: its folder can't be synced: {}",
+                "{}: is written, but a power failure might undo it: its folder can't be synced: {}",
                 shown(self.given),
                 words(&error)
             )

@@ -6,6 +6,9 @@ use std::path::Path;
 /// A path in a message: its text as it is, but nothing that moves a
 /// terminal's cursor or turns its text, and other bytes as `\xNN`.
 pub fn shown(path: &Path) -> String {
+    if path.as_os_str().is_empty() {
+        return "''".into();
+    }
     let mut text = String::new();
     for chunk in path.as_os_str().as_bytes().utf8_chunks() {
         chunk.valid().chars().for_each(|c| push_char(&mut text, c));

@@ -18,11 +18,11 @@ pub(crate) struct Standing<'a> {
 impl<'a> Standing<'a> {
     /// Refuses what can't be replaced as it should.
     pub(crate) fn open(path: &'a Path, patience: &Patience) -> Result<Self, Failure> {
-        let place = Place::of_standing(path, patience)?;
         let failed = |error| Failure::because(path, "can't be opened for writing")(error);
         // what is not a regular file is not even opened
-        let found = fs::metadata(&place.target).map_err(failed)?;
+        let found = fs::metadata(path).map_err(Failure::of(path))?;
         refuse_other_kinds(path, &found)?;
+        let place = Place::of_standing(path, patience)?;
         let mut options = OpenOptions::new();
         let opened = options.read(true).write(true).open(&place.target);
         let file = opened.map_err(failed)?;
