@@ -1,0 +1,51 @@
+//! What went wrong, in words.
+
+use crate::shown;
+use std::fmt;
+use std::io;
+use std::path::Path;
+
+/// What went wrong with a file or the system, in words; nothing has changed.
+/// (What went into a stream before it failed can't be taken back.)
+#[derive(Debug)]
+pub struct Failure {
+    name: String,
+    reason: String,
+}
+
+impl Failure {
+    /// What went wrong with the file at a path, and why.
+    pub fn new(path: &Path, reason: impl fmt::Display) -> Failure {
+        Failure {
+            name: shown(path),
+            reason: reason.to_string(),
+        }
+    }
+
+    /// The system's error at a path.
+    pub(crate) fn of(path: &Path) -> impl Fn(io::Error) -> Failure + '_ {
+        move |error| Failure::new(path, words(&error))
+    }
+
+    /// The system's error at a path, with what could not be done for it.
+    pub(crate) fn because<'a>(path: &'a Path, what: &'a str) -> impl Fn(io::Error) -> Failure + 'a {
+        move |error| Failure::new(path, format!("{what}: {}", words(&error)))
+    }
+}
+
+impl fmt::Display for Failure {
+    fn fmt(&self, to: &mut fmt::Formatter) -> fmt::Result {
+        write!(to, "{}: {}", self.name, self.reason)
+    }
+}
+
+impl std::error::Error for Failure {}
+
+/// The system's words for an error, as part of a sentence.
+pub(crate) fn words(error: &io::Error) -> String {
+    let text = error.to_string();
+    let text = text.split(" (os error").next().unwrap_or_default();
+    let mut letters = text.chars();
+    let first = letters.next().map(|letter| letter.to_ascii_lowercase());
+    first.into_iter().chain(letters).collect()
+}

@@ -1,0 +1,65 @@
+//! Reading, with a bound.
+
+use crate::{is_standard_stream, shown, Failure};
+use std::fs::{File, Metadata};
+use std::io::{self, Read};
+use std::os::fd::AsFd;
+use std::os::unix::fs::{FileTypeExt, MetadataExt};
+use std::path::Path;
+
+/// What a command has read, and which file it was.
+#[derive(Debug)]
+pub struct Input {
+    /// Its name as messages show it.
+    pub name: String,
+    /// Its bytes, one more than asked for where it is longer.
+    pub bytes: Vec<u8>,
+    file: Option<Identity>,
+}
+
+/// A device and an inode on it: one file, whatever its names.
+pub(crate) type Identity = (u64, u64);
+
+impl Input {
+    /// Whether it was read from that file. What can be read and written at
+    /// once, as a terminal can, is never the same.
+    pub(crate) fn is(&self, file: &Metadata) -> bool {
+        self.file.is_some() && self.file == stored(file)
+    }
+}
+
+pub(crate) fn identity(file: &Metadata) -> Identity {
+    (file.dev(), file.ino())
+}
+
+/// The file or disk that keeps its bytes, and would lose them to an output.
+fn stored(file: &Metadata) -> Option<Identity> {
+    let kind = file.file_type();
+    (kind.is_file() || kind.is_block_device()).then(|| identity(file))
+}
+
+/// Reads a file, a FIFO, a device or, from `-`, standard input: at most so
+/// many bytes and one more, which tells that there are too many.
+pub fn read_at_most(path: &Path, most: usize) -> Result<Input, Failure> {
+    let (name, opened) = if is_standard_stream(path) {
+        let stream = io::stdin().as_fd().try_clone_to_owned();
+        (Path::new("standard input"), stream.map(File::from))
+    } else {
+        (path, File::open(path))
+    };
+    let file = opened.map_err(Failure::of(name))?;
+    let metadata = file.metadata().map_err(Failure::of(name))?;
+    Ok(Input {
+        name: shown(name),
+        bytes: bytes_of(&file, most).map_err(Failure::of(name))?,
+        file: stored(&metadata),
+    })
+}
+
+/// At most so many bytes and one more.
+pub(crate) fn bytes_of(file: &File, most: usize) -> io::Result<Vec<u8>> {
+    let mut bytes = Vec::new();
+    let bound = (most as u64).saturating_add(1);
+    file.take(bound).read_to_end(&mut bytes)?;
+    Ok(bytes)
+}

@@ -1,0 +1,94 @@
+//! Where a command's output goes.
+
+use crate::standing::{refuse_other_kinds, Standing};
+use crate::{create, is_standard_stream, Failure, Input, Patience, Written};
+use std::fs::{self, File, Metadata, OpenOptions};
+use std::io::{self, ErrorKind, Write};
+use std::os::fd::AsFd;
+use std::os::unix::fs::FileTypeExt;
+use std::path::Path;
+
+/// Writes an output: to a new file, over a file if forced and none of the
+/// inputs, or through to `-` (standard output), a FIFO or a device.
+pub fn write_output(
+    path: &Path,
+    bytes: &[u8],
+    force: bool,
+    inputs: &[&Input],
+    patience: &Patience,
+) -> Result<Written, Failure> {
+    if is_standard_stream(path) {
+        return write_standard_output(bytes, inputs);
+    }
+    let found = match fs::metadata(path) {
+        Err(error) if error.kind() == ErrorKind::NotFound => {
+            return create(path, bytes, patience);
+        }
+        found => found.map_err(Failure::of(path))?,
+    };
+    if is_stream(&found) {
+        return write_stream(path, bytes, inputs);
+    }
+    refuse_other_kinds(path, &found)?;
+    refuse_input(path, &found, inputs)?;
+    if !force {
+        let reason = "exists already; --force writes over it";
+        return Err(Failure::new(path, reason));
+    }
+    let standing = Standing::open(path, patience)?;
+    // by now it may be another one
+    refuse_input(path, &standing.metadata, inputs)?;
+    standing.replace(bytes)
+}
+
+fn write_standard_output(bytes: &[u8], inputs: &[&Input]) -> Result<Written, Failure> {
+    let name = Path::new("standard output");
+    // what was printed before comes before
+    let flushed = io::stdout().flush();
+    let stream = flushed.and_then(|()| io::stdout().as_fd().try_clone_to_owned());
+    let stream = File::from(stream.map_err(Failure::of(name))?);
+    write_through(name, stream, bytes, inputs)
+}
+
+fn is_stream(found: &Metadata) -> bool {
+    let kind = found.file_type();
+    kind.is_fifo() || kind.is_char_device() || kind.is_block_device()
+}
+
+/// Writes to a FIFO or a device.
+fn write_stream(path: &Path, bytes: &[u8], inputs: &[&Input]) -> Result<Written, Failure> {
+    let opened = OpenOptions::new().write(true).open(path);
+    let stream = opened.map_err(Failure::of(path))?;
+    let metadata = stream.metadata().map_err(Failure::of(path))?;
+    if !is_stream(&metadata) {
+        let reason = "was replaced meanwhile by another program";
+        return Err(Failure::new(path, reason));
+    }
+    write_through(path, stream, bytes, inputs)
+}
+
+/// Writes to what is open, whatever it is, unless it is an input.
+fn write_through(
+    name: &Path,
+    mut stream: File,
+    bytes: &[u8],
+    inputs: &[&Input],
+) -> Result<Written, Failure> {
+    let metadata = stream.metadata().map_err(Failure::of(name))?;
+    refuse_input(name, &metadata, inputs)?;
+    stream.write_all(bytes).map_err(Failure::of(name))?;
+    Ok(Written {
+        result: (),
+        warning: None,
+    })
+}
+
+fn refuse_input(name: &Path, output: &Metadata, inputs: &[&Input]) -> Result<(), Failure> {
+    match inputs.iter().find(|input| input.is(output)) {
+        Some(input) => {
+            let reason = format!("is the same file as the input {}", input.name);
+            Err(Failure::new(name, reason))
+        }
+        None => Ok(()),
+    }
+}

@@ -1,0 +1,114 @@
+//! A file that is there, and what takes its place.
+
+use crate::input::{bytes_of, identity};
+use crate::place::Place;
+use crate::{Failure, Patience, Written};
+use std::fs::{self, File, Metadata, OpenOptions};
+use std::io;
+use std::os::unix::fs::{fchown, FileTypeExt, MetadataExt};
+use std::path::Path;
+
+/// A regular file that its user may write, with its folder locked.
+pub(crate) struct Standing<'a> {
+    place: Place<'a>,
+    file: File,
+    pub(crate) metadata: Metadata,
+}
+
+impl<'a> Standing<'a> {
+    /// Refuses what can't be replaced as it should.
+    pub(crate) fn open(path: &'a Path, patience: &Patience) -> Result<Self, Failure> {
+        let failed = |error| Failure::because(path, "can't be opened for writing")(error);
+        // what is not a regular file is not even opened
+        let found = fs::metadata(path).map_err(Failure::of(path))?;
+        refuse_other_kinds(path, &found)?;
+        let place = Place::of_standing(path, patience)?;
+        let mut options = OpenOptions::new();
+        let opened = options.read(true).write(true).open(&place.target);
+        let file = opened.map_err(failed)?;
+        let metadata = file.metadata().map_err(failed)?;
+        refuse_other_kinds(path, &metadata)?;
+        refuse_links_and_read_only(path, &metadata)?;
+        Ok(Standing {
+            place,
+            file,
+            metadata,
+        })
+    }
+
+    /// At most so many bytes of it and one more.
+    pub(crate) fn read(&self, most: usize) -> Result<Vec<u8>, Failure> {
+        bytes_of(&self.file, most).map_err(Failure::because(self.place.given, "can't be read"))
+    }
+
+    /// Puts a new file with the same owner, group and mode in its place.
+    pub(crate) fn replace(self, bytes: &[u8]) -> Result<Written, Failure> {
+        let given = self.place.given;
+        let temporary = self.place.write_beside(0o600, bytes)?;
+        keep_owner_and_mode(&self.metadata, &temporary.file)
+            .map_err(Failure::because(given, "its owner and mode can't be kept"))?;
+        self.refuse_change_meanwhile()?;
+        temporary
+            .replace(&self.place.target)
+            .map_err(Failure::because(given, "can't be replaced"))?;
+        Ok(self.place.finish())
+    }
+
+    /// Other programs do not know of the lock.
+    fn refuse_change_meanwhile(&self) -> Result<(), Failure> {
+        let given = self.place.given;
+        let failed = |error| Failure::because(given, "was changed meanwhile")(error);
+        let now = self.file.metadata().map_err(failed)?;
+        let named = fs::symlink_metadata(&self.place.target).map_err(failed)?;
+        if identity(&named) == identity(&now) && state(&now) == state(&self.metadata) {
+            return Ok(());
+        }
+        Err(Failure::new(
+            given,
+            "was changed meanwhile by another program",
+        ))
+    }
+}
+
+/// It differs after whatever changes a file.
+fn state(file: &Metadata) -> (u64, i64, i64) {
+    (file.len(), file.ctime(), file.ctime_nsec())
+}
+
+fn keep_owner_and_mode(old: &Metadata, new: &File) -> io::Result<()> {
+    let kept = |file: &Metadata| (file.uid(), file.gid(), file.mode());
+    fchown(new, Some(old.uid()), Some(old.gid()))?;
+    new.set_permissions(old.permissions())?;
+    // a system may drop a bit in silence
+    if kept(&new.metadata()?) == kept(old) {
+        Ok(())
+    } else {
+        Err(io::Error::other("the system gives others"))
+    }
+}
+
+fn refuse_links_and_read_only(path: &Path, file: &Metadata) -> Result<(), Failure> {
+    if file.mode() & 0o222 == 0 {
+        return Err(Failure::new(path, "is read-only"));
+    }
+    match file.nlink() {
+        0 | 1 => Ok(()),
+        links => {
+            let reason = format!("has {links} hard links, and only one of them would be changed");
+            Err(Failure::new(path, reason))
+        }
+    }
+}
+
+/// Refuses all but regular files.
+pub(crate) fn refuse_other_kinds(path: &Path, found: &Metadata) -> Result<(), Failure> {
+    let kind = found.file_type();
+    let name = match kind {
+        _ if kind.is_file() => return Ok(()),
+        _ if kind.is_dir() => "folder",
+        _ if kind.is_socket() => "socket",
+        _ if kind.is_fifo() => "FIFO",
+        _ => "device",
+    };
+    Err(Failure::new(path, format!("is a {name}, not a file")))
+}
