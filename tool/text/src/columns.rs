@@ -1,30 +1,56 @@
 //! The named columns of a trade.
 
-use crate::decimal::{self, MONEY, PERCENT};
-use seddolki::Record;
+use crate::decimal::{plain, Decimals, MONEY, PERCENT};
+use crate::fault::{listed, shown, Fault};
+use crate::quantity::Quantity;
+use crate::words::{a_trade_of, kinds, securities, sides, Word};
+use seddolki_format::limits::{
+    AMOUNTS, CLEAN_PRICES, CURVES, INDICES, MAX_ACCRUED, MAX_COUPON, MAX_DAY, MAX_RATE, PAYMENTS,
+    PERIODS, TERMS,
+};
+use seddolki_format::record::{OUTRIGHT, POOL, SPECIFIED};
+use seddolki_format::Record;
 
 /// How a column's values are written.
+#[derive(Clone, Copy, Debug)]
 pub enum Unit {
-    /// Words, each with the number that the record holds.
-    Words(&'static [(&'static str, u64)]),
-    /// A decimal number of so many places.
-    Decimal(u32),
+    /// One of the words that the kind of the trade has.
+    Words(fn(u8) -> &'static [Word]),
+    /// A number.
+    Number(Quantity),
 }
 
+/// A column: a field of the record as people write it.
+#[derive(Debug)]
 pub struct Column {
+    /// The name in a file of trades.
     pub name: &'static str,
+    /// What it is, in a few words.
     pub meaning: &'static str,
-    unit: Unit,
-    /// None where the number does not fit the field.
-    pub set: fn(&mut Record, u64) -> Option<()>,
+    /// How its values are written.
+    pub unit: Unit,
+    /// The field of the record by its name there.
+    pub field: &'static str,
+    used: fn(&Record) -> bool,
+    get: fn(&Record) -> u64,
+    set: fn(&mut Record, u64) -> Option<()>,
+}
+
+impl PartialEq for Column {
+    fn eq(&self, other: &Self) -> bool {
+        self.name == other.name
+    }
 }
 
 macro_rules! column {
-    ($name:expr, $field:ident, $unit:expr, $meaning:literal) => {
+    ($name:expr, $field:ident, $unit:expr, $used:expr, $meaning:literal) => {
         Column {
             name: $name,
             meaning: $meaning,
             unit: $unit,
+            field: stringify!($field),
+            used: $used,
+            get: |record| record.$field.into(),
             set: |record, value| {
                 record.$field = value.try_into().ok()?;
                 Some(())
@@ -33,147 +59,423 @@ macro_rules! column {
     };
 }
 
-const WHOLE: Unit = Unit::Decimal(0);
+const fn whole(low: u64, high: u64) -> Unit {
+    decimal(0, low, high)
+}
 
-const KINDS: Unit = Unit::Words(&[("outright", 1), ("pool repo", 2), ("specified repo", 3)]);
+const fn decimal(places: u32, low: u64, high: u64) -> Unit {
+    Unit::Number(Quantity::new(places, low as i64, high as i64))
+}
 
-const SIDES: Unit = Unit::Words(&[
-    ("buyer", 1),
-    ("seller", 2),
-    ("repo", 1),
-    ("reverse repo", 2),
-]);
+const CURVE: Unit = whole(*CURVES.start() as u64, *CURVES.end() as u64);
+const DAY: Unit = whole(0, MAX_DAY);
+const INDEX: Unit = whole(*INDICES.start() as u64, *INDICES.end() as u64);
+const AMOUNT: Unit = decimal(MONEY, *AMOUNTS.start(), *AMOUNTS.end());
+const PRICE: Unit = decimal(
+    PERCENT,
+    *CLEAN_PRICES.start() as u64,
+    *CLEAN_PRICES.end() as u64,
+);
 
-const SECURITIES: Unit = Unit::Words(&[
-    ("none", 0),
-    ("single payment", 1),
-    ("coupons", 2),
-    ("indexed coupons", 3),
-]);
+const CLEAN_PRICE: &str = "clean_price";
+const ACCRUED: &str = "accrued";
+const REPO_RATE: &str = "repo_rate";
+const REPO_CASH: &str = "repo_cash";
 
-pub const CLEAN_PRICE: &str = "clean_price";
-pub const REPO_RATE: &str = "repo_rate";
+fn always(_: &Record) -> bool {
+    true
+}
 
-/// In the order in which a dealer would fill them.
-pub const COLUMNS: [Column; 20] = [
-    column!("kind", kind, KINDS, "of trade"),
-    column!("side", side, SIDES, "of the account"),
+fn is_outright(record: &Record) -> bool {
+    record.kind == OUTRIGHT
+}
+
+fn has_first_value_day(record: &Record) -> bool {
+    !record.first_leg_settled()
+}
+
+/// In the order in which a dealer would fill them, the kind first.
+pub static COLUMNS: [Column; 20] = [
+    column!("kind", kind, Unit::Words(kinds), always, "of trade"),
+    column!("side", side, Unit::Words(sides), always, "of the account"),
     column!(
         "phase",
         phase,
-        WHOLE,
-        "1 to 3 of a pool repo, 1 to 2 of a specified one"
+        whole(1, 3),
+        Record::is_repo,
+        "of a repo, at most 2 for a specified one"
     ),
-    column!("cash_curve", cash_curve, WHOLE, "id of the curve for cash"),
-    column!("security", security, SECURITIES, "what the security pays"),
+    column!(
+        "cash_curve",
+        cash_curve,
+        CURVE,
+        always,
+        "id of the curve for cash"
+    ),
+    column!(
+        "security",
+        security,
+        Unit::Words(securities),
+        always,
+        "what the security pays"
+    ),
     column!(
         "security_curve",
         security_curve,
-        WHOLE,
+        CURVE,
+        Record::has_security,
         "id of the curve for its payments"
     ),
     column!(
         "nominal",
         nominal,
-        Unit::Decimal(MONEY),
-        "of the security, as 1000.00"
+        AMOUNT,
+        Record::has_security,
+        "of the security"
     ),
     column!(
         "value_day_1",
         value_day_1,
-        WHOLE,
+        DAY,
+        has_first_value_day,
         "of settlement or the first leg"
     ),
-    column!("value_day_2", value_day_2, WHOLE, "of a repo's second leg"),
-    column!("term", term, WHOLE, "of a repo in days"),
+    column!(
+        "value_day_2",
+        value_day_2,
+        DAY,
+        Record::is_repo,
+        "of a repo's second leg"
+    ),
+    column!(
+        "term",
+        term,
+        whole(*TERMS.start() as u64, *TERMS.end() as u64),
+        Record::is_repo,
+        "of a repo in days"
+    ),
     column!(
         "first_payment_day",
         first_payment_day,
-        WHOLE,
+        DAY,
+        Record::has_security,
         "of the security"
     ),
-    column!("period", period, WHOLE, "days from coupon to coupon"),
-    column!("payments", payments, WHOLE, "how many coupons"),
+    column!(
+        "period",
+        period,
+        whole(*PERIODS.start() as u64, *PERIODS.end() as u64),
+        Record::has_coupons,
+        "days from coupon to coupon"
+    ),
+    column!(
+        "payments",
+        payments,
+        whole(*PAYMENTS.start() as u64, *PAYMENTS.end() as u64),
+        Record::has_coupons,
+        "how many coupons"
+    ),
     column!(
         "coupon",
         coupon,
-        Unit::Decimal(PERCENT),
+        decimal(PERCENT, 0, MAX_COUPON as u64),
+        Record::has_coupons,
         "percent per period"
     ),
     column!(
         CLEAN_PRICE,
         price_or_rate,
-        Unit::Decimal(PERCENT),
+        PRICE,
+        is_outright,
         "percent, of an outright"
     ),
     column!(
-        "accrued",
+        ACCRUED,
         accrued,
-        Unit::Decimal(PERCENT),
+        decimal(PERCENT, 0, MAX_ACCRUED as u64),
+        is_outright,
         "percent, of an outright"
     ),
-    column!("repo_cash", repo_cash, Unit::Decimal(MONEY), "as 1000.00"),
+    column!(
+        REPO_CASH,
+        repo_cash,
+        AMOUNT,
+        Record::is_repo,
+        "of a repo's first leg"
+    ),
     column!(
         REPO_RATE,
         price_or_rate,
-        Unit::Decimal(PERCENT),
-        "percent a year"
+        decimal(PERCENT, 0, MAX_RATE),
+        Record::is_repo,
+        "percent a year, of a repo"
     ),
     column!(
         "settlement_index",
         settlement_index,
-        WHOLE,
+        INDEX,
+        Record::is_indexed,
         "of indexed coupons"
     ),
-    column!("issue_index", issue_index, WHOLE, "of indexed coupons"),
+    column!(
+        "issue_index",
+        issue_index,
+        INDEX,
+        Record::is_indexed,
+        "of indexed coupons"
+    ),
 ];
+
+/// The columns that price a trade of a kind, and no trade of another; none
+/// while the kind is not known.
+fn prices(kind: u8) -> &'static [&'static str] {
+    match kind {
+        OUTRIGHT => &[CLEAN_PRICE, ACCRUED],
+        POOL | SPECIFIED => &[REPO_RATE, REPO_CASH],
+        _ => &[],
+    }
+}
 
 impl Column {
     /// The column of a name; case, and blanks for underscores, do not matter.
     pub fn named(name: &str) -> Option<&'static Column> {
-        let name = name.trim().to_lowercase().replace(' ', "_");
+        let name = name.trim().to_ascii_lowercase().replace(' ', "_");
         COLUMNS.iter().find(|column| column.name == name)
     }
 
-    /// Puts a written value into the record; nothing written is 0.
-    pub fn fill(&self, record: &mut Record, text: &str) -> Result<(), String> {
-        let value = self.value(text)?;
-        (self.set)(record, value).ok_or_else(|| format!("{text} is too large"))
+    /// The column of a name, or a fault that lists all names.
+    pub fn find(name: &str) -> Result<&'static Column, Fault> {
+        Column::named(name).ok_or_else(|| no_columns(&[name]))
     }
 
-    fn value(&self, text: &str) -> Result<u64, String> {
-        if text.is_empty() {
-            return Ok(0);
+    /// The column that stands for a field of this record, by the field's
+    /// name there: the price of an outright and the rate of a repo share one.
+    pub fn of_field(record: &Record, field: &str) -> Option<&'static Column> {
+        let mut columns = COLUMNS.iter().filter(|column| column.field == field);
+        let fitting = columns.clone().find(|column| column.fits(record.kind));
+        fitting.or_else(|| columns.next())
+    }
+
+    /// Whether a trade of the kind may have a value here.
+    pub fn fits(&self, kind: u8) -> bool {
+        let other = if kind == OUTRIGHT { POOL } else { OUTRIGHT };
+        a_trade_of(kind).is_none() || !prices(other).contains(&self.name)
+    }
+
+    /// Whether the trade uses the field.
+    pub fn is_used(&self, record: &Record) -> bool {
+        (self.used)(record)
+    }
+
+    /// The number that the record holds, in units of the last place; 0 where
+    /// the field stands for another column.
+    pub fn get(&self, record: &Record) -> u64 {
+        match Column::of_field(record, self.field) {
+            Some(column) if column == self => (self.get)(record),
+            _ => 0,
         }
+    }
+
+    /// Puts a number into the record; none where the field can't hold it.
+    pub fn set(&self, record: &mut Record, number: u64) -> Option<()> {
+        (self.set)(record, number)
+    }
+
+    /// What a trade of the kind may have here, in words.
+    pub fn allowed(&self, kind: u8, decimals: Decimals) -> String {
         match self.unit {
-            Unit::Decimal(places) => u64::try_from(decimal::parse(text, places)?)
-                .map_err(|_| format!("{text} is below 0")),
+            Unit::Number(quantity) => quantity.allowed(decimals),
             Unit::Words(words) => {
-                let word = text.to_lowercase();
-                let found = words.iter().find(|(name, _)| *name == word);
-                found.map(|(_, value)| *value).ok_or_else(|| {
-                    let names: Vec<&str> = words.iter().map(|(name, _)| *name).collect();
-                    format!("{text} is none of {}", names.join(", "))
-                })
+                let words: Vec<&str> = words(kind).iter().map(|(word, _)| *word).collect();
+                listed(&words, "or")
             }
         }
     }
+
+    /// The value as it is written; nothing where the trade does not use it.
+    pub fn text(&self, record: &Record, decimals: Decimals) -> String {
+        let number = self.get(record);
+        if number == 0 && !self.is_used(record) {
+            return String::new();
+        }
+        match self.unit {
+            Unit::Number(quantity) => plain(number, quantity.places, decimals),
+            Unit::Words(words) => {
+                let mut words = words(record.kind).iter();
+                let word = words.find(|(_, value)| u64::from(*value) == number);
+                word.map_or_else(|| number.to_string(), |(word, _)| (*word).to_owned())
+            }
+        }
+    }
+
+    /// Puts a written value into a new record, whose kind is known by now;
+    /// nothing written is 0, where 0 stands for anything.
+    pub(crate) fn fill(
+        &self,
+        record: &mut Record,
+        text: &str,
+        decimals: Decimals,
+    ) -> Result<(), String> {
+        if text.is_empty() {
+            return self.leave_empty(record.kind);
+        }
+        if !self.fits(record.kind) {
+            return Err(unfit(text, record.kind));
+        }
+        match self.unit {
+            Unit::Words(words) => self.fill_word(record, text, words(record.kind)),
+            Unit::Number(quantity) => quantity.read(text, decimals, |number| {
+                self.set(record, u64::try_from(number).ok()?)
+            }),
+        }
+    }
+
+    fn leave_empty(&self, kind: u8) -> Result<(), String> {
+        match self.unit {
+            Unit::Words(words) if words(kind).iter().all(|(_, value)| *value != 0) => {
+                let allowed = self.allowed(kind, Decimals::Point);
+                Err(format!("nothing is given: {allowed}"))
+            }
+            _ => Ok(()),
+        }
+    }
+
+    fn fill_word(&self, record: &mut Record, text: &str, words: &[Word]) -> Result<(), String> {
+        let word = text.to_ascii_lowercase().replace('_', " ");
+        let found = words.iter().find(|(name, _)| *name == word);
+        let filled = found.and_then(|(_, value)| self.set(record, (*value).into()));
+        filled.ok_or_else(|| {
+            let allowed = self.allowed(record.kind, Decimals::Point);
+            match a_trade_of(record.kind) {
+                Some(trade) => format!("{} is not for {trade}: {allowed}", shown(text)),
+                None => format!("{} is none of {allowed}", shown(text)),
+            }
+        })
+    }
 }
 
-/// The names and meanings of the columns, a line each.
+fn unfit(text: &str, kind: u8) -> String {
+    let trade = a_trade_of(kind).unwrap_or("this trade");
+    let prices = listed(prices(kind), "and");
+    format!(
+        "{} is not for {trade}, which has {prices}: leave it empty",
+        shown(text)
+    )
+}
+
+/// The fault of names that no column has.
+pub(crate) fn no_columns(names: &[&str]) -> Fault {
+    let visible = |name: &&str| match name.trim() {
+        "" => "without a name".into(),
+        name => shown(name),
+    };
+    let names: Vec<String> = names.iter().map(visible).collect();
+    let all: Vec<&str> = COLUMNS.iter().map(|column| column.name).collect();
+    let names = listed(&names, "or");
+    Fault::new(format!(
+        "there is no column {names}: {}",
+        listed(&all, "or")
+    ))
+}
+
+/// The names of the columns, a line each with their meanings and what is
+/// allowed.
 pub fn meanings() -> String {
     let line = |column: &Column| {
         let (name, meaning) = (column.name, column.meaning);
-        let words = match column.unit {
-            Unit::Words(words) => words.iter().map(|(word, _)| *word).collect(),
-            Unit::Decimal(_) => vec![],
-        };
-        let words = if words.is_empty() {
-            String::new()
-        } else {
-            format!(": {}", words.join(", "))
-        };
-        format!("  {name:<18} {meaning}{words}\n")
+        let allowed = column.allowed(0, Decimals::Point);
+        format!("  {name:<18} {meaning}: {allowed}\n")
     };
     COLUMNS.iter().map(line).collect()
+}
+
+#[cfg(test)]
+mod tests {
+    use super::*;
+    use seddolki_books::curve::draw_curves;
+    use seddolki_books::{draw_record, Draw};
+    use seddolki_format::record::RECORD;
+
+    #[test]
+    fn names_are_found_in_any_case() {
+        for name in ["clean_price", " Clean Price ", "CLEAN_price"] {
+            assert_eq!(Column::named(name).unwrap().name, "clean_price");
+        }
+        for name in ["", "cleanprice", "clean__price", "\u{212a}ind"] {
+            assert!(Column::named(name).is_none(), "{name}");
+        }
+        let fault = Column::find("a\nb").unwrap_err().to_string();
+        assert!(
+            fault.starts_with("there is no column a\\nb: kind, side, phase"),
+            "{fault}"
+        );
+        assert!(
+            fault.ends_with("settlement_index or issue_index"),
+            "{fault}"
+        );
+    }
+
+    #[test]
+    fn every_field_has_its_column() {
+        let mut record = Record::default();
+        let fields: Vec<&str> = COLUMNS.iter().map(|column| column.field).collect();
+        for kind in [OUTRIGHT, POOL, SPECIFIED] {
+            record.kind = kind;
+            for field in &fields {
+                assert_eq!(Column::of_field(&record, field).unwrap().field, *field);
+            }
+            let price = Column::of_field(&record, "price_or_rate").unwrap();
+            let due = if kind == OUTRIGHT {
+                CLEAN_PRICE
+            } else {
+                REPO_RATE
+            };
+            assert_eq!(price.name, due);
+        }
+        assert!(Column::of_field(&record, "zero").is_none());
+    }
+
+    /// All but the two bytes due to be 0.
+    #[test]
+    fn columns_cover_the_record() {
+        let mut record = Record {
+            kind: OUTRIGHT,
+            ..Record::default()
+        };
+        for column in COLUMNS.iter().skip(1) {
+            column.set(&mut record, 0xff).unwrap();
+        }
+        let bytes: [u8; RECORD] = record.into();
+        let written = bytes.iter().filter(|byte| **byte == 0xff).count();
+        assert_eq!(written, COLUMNS.len() - 2);
+        assert_eq!(record.kind, OUTRIGHT);
+    }
+
+    #[test]
+    fn an_accepted_trade_uses_what_is_not_0() {
+        let mut draw = Draw::new(7);
+        for _ in 0..2_000 {
+            let curves = draw_curves(&mut draw);
+            let record = draw_record(&mut draw, &curves, 12);
+            for column in &COLUMNS {
+                let text = column.text(&record, Decimals::Point);
+                assert_eq!(text.is_empty(), !column.is_used(&record), "{record:?}");
+                assert!(
+                    column.is_used(&record) || column.get(&record) == 0,
+                    "{record:?}"
+                );
+            }
+        }
+    }
+
+    #[test]
+    fn meanings_name_what_is_allowed() {
+        let text = meanings();
+        assert_eq!(text.lines().count(), COLUMNS.len());
+        assert!(text.contains("\n  term               of a repo in days: 1 to 730\n"));
+        assert!(
+            text.contains("\n  nominal            of the security: 0.01 to 10,000,000,000.00\n")
+        );
+        assert!(text.contains(": buyer, seller, repo or reverse repo\n"));
+    }
 }

@@ -1,5 +1,8 @@
 //! Decimal numbers as people write them, and whole numbers of small units.
 
+use crate::fault::shown;
+use std::fmt::{self, Display, Formatter};
+
 /// Decimals of money, counted in hundredths.
 pub const MONEY: u32 = 2;
 
@@ -9,20 +12,132 @@ pub const PERCENT: u32 = 4;
 /// Decimals of a coefficient, counted in hundredths.
 pub const COEFFICIENT: u32 = 2;
 
-/// The number that a text stands for, in units of its last decimal place.
-/// Thousands may be separated by commas.
-pub fn parse(text: &str, places: u32) -> Result<i64, String> {
+/// Which sign stands before the decimals; the other one may separate
+/// thousands.
+#[derive(Clone, Copy, Debug, PartialEq, Eq)]
+pub enum Decimals {
+    /// As in `1,234.56`.
+    Point,
+    /// As in `1.234,56`.
+    Comma,
+    /// As it is written, where there is one reading alone.
+    Either,
+}
+
+/// The two signs of one way to write numbers.
+#[derive(Clone, Copy)]
+struct Signs {
+    decimal: char,
+    thousands: char,
+    name: &'static str,
+}
+
+const POINT: Signs = Signs {
+    decimal: '.',
+    thousands: ',',
+    name: "point",
+};
+
+const COMMA: Signs = Signs {
+    decimal: ',',
+    thousands: '.',
+    name: "comma",
+};
+
+impl Decimals {
+    /// The signs to write with, and those of the other way.
+    fn signs(self) -> (Signs, Signs) {
+        match self {
+            Decimals::Point | Decimals::Either => (POINT, COMMA),
+            Decimals::Comma => (COMMA, POINT),
+        }
+    }
+}
+
+/// Why a text is not taken for a number.
+#[derive(Clone, Debug, PartialEq, Eq)]
+pub struct NotTaken {
+    /// What is wrong.
+    pub reason: String,
+    /// How to write it instead, where the text tells that.
+    pub advice: Option<String>,
+}
+
+impl Display for NotTaken {
+    fn fmt(&self, f: &mut Formatter<'_>) -> fmt::Result {
+        match &self.advice {
+            Some(advice) => write!(f, "{}: {advice}", self.reason),
+            None => write!(f, "{}", self.reason),
+        }
+    }
+}
+
+/// Why a text has no reading; what says more is larger.
+#[derive(PartialEq, Eq, PartialOrd, Ord)]
+enum NoReading {
+    Form,
+    Decimals,
+    Size,
+}
+
+/// The number that a text stands for, in units of its last decimal place. A
+/// text with two readings, one of them with separated thousands, is not
+/// taken.
+pub fn parse(text: &str, places: u32, decimals: Decimals) -> Result<i64, NotTaken> {
+    let (own, other) = decimals.signs();
+    let either = decimals == Decimals::Either;
+    let doubtful = either || text.contains(own.thousands);
+    match (reading(text, places, own), reading(text, places, other)) {
+        (Ok(one), Ok(two)) if doubtful && one != two => {
+            let written = |number| grouped(number, places, decimals);
+            Err(NotTaken {
+                reason: format!("{text} can be read as {} or {}", written(one), written(two)),
+                advice: Some("write it in one of these ways".into()),
+            })
+        }
+        (Ok(number), _) => Ok(number),
+        (Err(_), Ok(number)) if either => Ok(number),
+        (Err(_), Ok(number)) => Err(NotTaken {
+            reason: format!("{text} is not a number with a decimal {}", own.name),
+            advice: Some(format!("write {}", grouped(number, places, decimals))),
+        }),
+        (Err(NoReading::Form), Err(why)) if either => Err(why.of(text, places)),
+        (Err(why), Err(_)) => Err(why.of(text, places)),
+    }
+}
+
+impl NoReading {
+    fn of(self, text: &str, places: u32) -> NotTaken {
+        let text = shown(text);
+        let reason = match self {
+            NoReading::Form => format!("{text} is not a number"),
+            NoReading::Decimals if places == 0 => format!("{text} is not a whole number"),
+            NoReading::Decimals => format!("{text} has more than {places} decimals"),
+            NoReading::Size => format!("{text} is too large"),
+        };
+        NotTaken {
+            reason,
+            advice: None,
+        }
+    }
+}
+
+fn reading(text: &str, places: u32, signs: Signs) -> Result<i64, NoReading> {
     let unsigned = text.strip_prefix(['-', '+']).unwrap_or(text);
-    let (whole, decimals) = unsigned.split_once('.').unwrap_or((unsigned, ""));
-    let whole = without_separators(whole).ok_or_else(|| format!("{text} is not a number"))?;
+    let (whole, decimals) = match unsigned.split_once(signs.decimal) {
+        Some((_, "")) => return Err(NoReading::Form),
+        Some(parts) => parts,
+        None => (unsigned, ""),
+    };
+    let whole = without_separators(whole, signs.thousands).ok_or(NoReading::Form)?;
     if !decimals.bytes().all(|byte| byte.is_ascii_digit()) {
-        return Err(format!("{text} is not a number"));
+        return Err(NoReading::Form);
     }
     if decimals.len() > places as usize {
-        return Err(format!("{text} has more than {places} decimals"));
+        return Err(NoReading::Decimals);
     }
     let digits = format!("{whole}{decimals:0<width$}", width = places as usize);
-    let number: i64 = digits.parse().map_err(|_| format!("{text} is too large"))?;
+    let number: i64 = digits.parse().map_err(|_| NoReading::Size)?;
     Ok(if text.starts_with('-') {
         -number
     } else {
@@ -30,29 +145,22 @@ pub fn parse(text: &str, places: u32) -> Result<i64, String> {
     })
 }
 
-/// Digits alone, or in groups of three behind the first.
-fn without_separators(whole: &str) -> Option<String> {
-    let groups: Vec<&str> = whole.split(',').collect();
+/// Digits alone, or in groups of three behind the first, which does not
+/// start with 0.
+fn without_separators(whole: &str, separator: char) -> Option<String> {
+    let groups: Vec<&str> = whole.split(separator).collect();
     let digits = |group: &&str| group.bytes().all(|byte| byte.is_ascii_digit());
-    let first = groups[0].len();
-    let grouped = groups.len() == 1 || (1..=3).contains(&first);
-    let right = first > 0 && grouped && groups[1..].iter().all(|group| group.len() == 3);
+    let first = groups[0];
+    let alone = groups.len() == 1 && !first.is_empty();
+    let grouped = (1..=3).contains(&first.len()) && !first.starts_with('0');
+    let right = alone || grouped && groups[1..].iter().all(|group| group.len() == 3);
     (right && groups.iter().all(digits)).then(|| groups.concat())
 }
 
-/// A number of units of the last of so many decimal places, thousands
-/// separated.
+/// A number of units of the last of so many decimal places as people read
+/// it, `1,234,567.89`.
 pub fn format(number: impl Into<i128>, places: u32) -> String {
-    let number = number.into();
-    let unit = 10_u128.pow(places);
-    let size = number.unsigned_abs();
-    let sign = if number < 0 { "-" } else { "" };
-    let whole = separated(size / unit);
-    if places == 0 {
-        return format!("{sign}{whole}");
-    }
-    let width = places as usize;
-    format!("{sign}{whole}.{:0width$}", size % unit)
+    grouped(number, places, Decimals::Point)
 }
 
 /// The same, with a plus where it is above 0.
@@ -62,12 +170,37 @@ pub fn format_signed(number: impl Into<i128>, places: u32) -> String {
     plus.to_owned() + &format(number, places)
 }
 
-fn separated(number: u128) -> String {
-    let digits = number.to_string();
+/// The same by its decimal sign, `1.234.567,89` for a comma.
+pub fn grouped(number: impl Into<i128>, places: u32, decimals: Decimals) -> String {
+    let (signs, _) = decimals.signs();
+    written(number.into(), places, signs.decimal, |whole| {
+        separated(&whole, signs.thousands)
+    })
+}
+
+/// The same as machines read it, `1234567.89` or `1234567,89`.
+pub fn plain(number: impl Into<i128>, places: u32, decimals: Decimals) -> String {
+    let (signs, _) = decimals.signs();
+    written(number.into(), places, signs.decimal, |whole| whole)
+}
+
+fn written(number: i128, places: u32, sign: char, whole: impl Fn(String) -> String) -> String {
+    let unit = 10_u128.pow(places);
+    let size = number.unsigned_abs();
+    let minus = if number < 0 { "-" } else { "" };
+    let whole = whole((size / unit).to_string());
+    if places == 0 {
+        return format!("{minus}{whole}");
+    }
+    let width = places as usize;
+    format!("{minus}{whole}{sign}{:0width$}", size % unit)
+}
+
+fn separated(digits: &str, separator: char) -> String {
     let mut text = String::new();
     for (place, digit) in digits.chars().enumerate() {
         if place > 0 && (digits.len() - place).is_multiple_of(3) {
-            text.push(',');
+            text.push(separator);
         }
         text.push(digit);
     }
@@ -76,28 +209,158 @@ fn separated(number: u128) -> String {
 
 #[cfg(test)]
 mod tests {
+    use super::Decimals::{Comma, Either, Point};
     use super::*;
+    use seddolki_books::Draw;
+
+    const ALL: [Decimals; 3] = [Point, Comma, Either];
+
+    fn message(text: &str, places: u32, decimals: Decimals) -> String {
+        parse(text, places, decimals).unwrap_err().to_string()
+    }
 
     #[test]
     fn texts_are_numbers_of_the_last_place() {
-        assert_eq!(parse("1000", MONEY), Ok(100_000));
-        assert_eq!(parse("1,234,567.8", MONEY), Ok(123_456_780));
-        assert_eq!(parse("-0.05", MONEY), Ok(-5));
-        assert_eq!(parse("13.25", PERCENT), Ok(132_500));
-        assert_eq!(parse("365", 0), Ok(365));
+        for decimals in [Point, Either] {
+            assert_eq!(parse("1,234,567.8", MONEY, decimals), Ok(123_456_780));
+            assert_eq!(parse("-0.05", MONEY, decimals), Ok(-5));
+            assert_eq!(parse("13.25", PERCENT, decimals), Ok(132_500));
+            assert_eq!(parse("1,234", MONEY, decimals), Ok(123_400));
+            assert_eq!(parse("10,950", 0, decimals), Ok(10_950));
+        }
+        for decimals in [Comma, Either] {
+            assert_eq!(parse("1.234.567,8", MONEY, decimals), Ok(123_456_780));
+            assert_eq!(parse("-0,05", MONEY, decimals), Ok(-5));
+            assert_eq!(parse("13,25", PERCENT, decimals), Ok(132_500));
+            assert_eq!(parse("1.234", MONEY, decimals), Ok(123_400));
+            assert_eq!(parse("10.950", 0, decimals), Ok(10_950));
+        }
+        for decimals in ALL {
+            assert_eq!(parse("1000", MONEY, decimals), Ok(100_000));
+            assert_eq!(parse("+365", 0, decimals), Ok(365));
+            assert_eq!(parse("007", 0, decimals), Ok(7));
+        }
     }
 
     #[test]
     fn other_texts_are_not() {
         for text in [
-            "", "-", "x", "1.2.3", "12,34", ",123", "1,2345", "1e3", "--1", "1 000",
+            "",
+            "-",
+            "x",
+            "1.2.3",
+            "1,2,3",
+            "12,3456",
+            "12.3456",
+            ",123",
+            ".123",
+            "1,2345",
+            "1e3",
+            "--1",
+            "1 000",
+            "1.",
+            "1,",
+            "0,125",
+            "0.125",
+            "1,234.567,8",
+            "1234,567",
+            "1234.567",
+            "١",
+            "1_000",
+            "1\u{a0}000",
+            "-.5",
+            "0x10",
+            "inf",
         ] {
-            assert!(parse(text, MONEY).is_err(), "{text}");
+            for decimals in ALL {
+                assert!(parse(text, MONEY, decimals).is_err(), "{text} {decimals:?}");
+            }
         }
-        assert!(parse("0.001", MONEY).unwrap_err().contains("2 decimals"));
-        assert!(parse("99999999999999999999", 0)
-            .unwrap_err()
-            .contains("too large"));
+        for decimals in ALL {
+            let large = "99999999999999999999";
+            assert_eq!(message(large, 0, decimals), format!("{large} is too large"));
+            assert_eq!(message("x", MONEY, decimals), "x is not a number");
+        }
+        assert_eq!(
+            message("0.001", MONEY, Point),
+            "0.001 has more than 2 decimals"
+        );
+        assert_eq!(
+            message("0.001", MONEY, Either),
+            "0.001 has more than 2 decimals"
+        );
+        assert_eq!(
+            message("0,001", MONEY, Either),
+            "0,001 has more than 2 decimals"
+        );
+        assert_eq!(message("1.5", 0, Point), "1.5 is not a whole number");
+        assert_eq!(message("1\n5", 0, Point), "1\\n5 is not a number");
+    }
+
+    #[test]
+    fn no_number_is_guessed_between_two_readings() {
+        let in_point =
+            "13,250 can be read as 13,250.0000 or 13.2500: write it in one of these ways";
+        assert_eq!(message("13,250", PERCENT, Point), in_point);
+        assert_eq!(message("13,250", PERCENT, Either), in_point);
+        let in_comma =
+            "13.250 can be read as 13.250,0000 or 13,2500: write it in one of these ways";
+        assert_eq!(message("13.250", PERCENT, Comma), in_comma);
+        assert_eq!(parse("13.250", PERCENT, Point), Ok(132_500));
+        assert_eq!(parse("13,250", PERCENT, Comma), Ok(132_500));
+        assert!(message("13.250", PERCENT, Either).contains("13.2500 or 13,250.0000"));
+        assert!(parse("-1,000", PERCENT, Point).is_err());
+        assert_eq!(parse("1,000,000", PERCENT, Point), Ok(10_000_000_000));
+        assert_eq!(parse("1,000.5", PERCENT, Point), Ok(10_005_000));
+    }
+
+    #[test]
+    fn the_other_decimal_sign_is_told() {
+        assert_eq!(
+            message("13,25", PERCENT, Point),
+            "13,25 is not a number with a decimal point: write 13.2500"
+        );
+        assert_eq!(
+            message("1234.5", MONEY, Comma),
+            "1234.5 is not a number with a decimal comma: write 1.234,50"
+        );
+    }
+
+    /// Every text of up to seven of these characters, read as a person would
+    /// have to: by the decimal sign, by groups, or by both.
+    #[test]
+    fn a_taken_text_has_one_reading() {
+        let mut taken = 0;
+        for text in (1..=7).flat_map(|length| texts(length, &['1', '0', '.', ','])) {
+            for places in [0, MONEY, PERCENT] {
+                let readings = [POINT, COMMA].map(|signs| reading(&text, places, signs).ok());
+                let numbers: Vec<i64> = readings.iter().flatten().copied().collect();
+                let one = numbers
+                    .first()
+                    .is_some_and(|n| numbers.iter().all(|m| m == n));
+                let either = parse(&text, places, Either);
+                assert_eq!(either.is_ok(), one, "{text} {places}");
+                for (decimals, [own, other]) in
+                    [(Point, readings), (Comma, [readings[1], readings[0]])]
+                {
+                    let (signs, _) = decimals.signs();
+                    let by_decimals = !text.contains(signs.thousands);
+                    let due = own.filter(|n| by_decimals || other.is_none_or(|m| m == *n));
+                    assert_eq!(parse(&text, places, decimals).ok(), due, "{text} {places}");
+                    taken += u32::from(due.is_some());
+                }
+            }
+        }
+        assert!(taken > 1_000, "{taken}");
+    }
+
+    fn texts(length: u32, characters: &[char]) -> Vec<String> {
+        let count = characters.len();
+        let nth = |number: usize| {
+            let place = |i| characters[number / count.pow(i) % count];
+            (0..length).map(place).collect()
+        };
+        (0..count.pow(length)).map(nth).collect()
     }
 
     #[test]
@@ -108,6 +371,36 @@ mod tests {
         assert_eq!(format(132_500, PERCENT), "13.2500");
         assert_eq!(format(10_950, 0), "10,950");
         assert_eq!(format_signed(300, COEFFICIENT), "+3.00");
+        assert_eq!(format_signed(-300, COEFFICIENT), "-3.00");
         assert_eq!(format(i64::MIN, MONEY), "-92,233,720,368,547,758.08");
+        assert_eq!(grouped(123_456_789, MONEY, Comma), "1.234.567,89");
+    }
+
+    #[test]
+    fn machines_read_them_without() {
+        assert_eq!(plain(123_456_789, MONEY, Point), "1234567.89");
+        assert_eq!(plain(123_456_789, MONEY, Comma), "1234567,89");
+        assert_eq!(plain(-5, MONEY, Either), "-0.05");
+        assert_eq!(plain(10_950, 0, Comma), "10950");
+    }
+
+    #[test]
+    fn what_is_written_is_read_as_the_same_number() {
+        let mut draw = Draw::new(1);
+        for _ in 0..2_000 {
+            let size = draw.edge(0..=i64::MAX as u64) as i64;
+            let number = if draw.once_in(2) { size } else { -size };
+            for (places, decimals) in [0, MONEY, PERCENT]
+                .iter()
+                .flat_map(|&p| ALL.map(|d| (p, d)))
+            {
+                let (few, many) = (
+                    plain(number, places, decimals),
+                    grouped(number, places, decimals),
+                );
+                assert_eq!(parse(&few, places, decimals), Ok(number), "{few}");
+                assert_eq!(parse(&many, places, decimals), Ok(number), "{many}");
+            }
+        }
     }
 }

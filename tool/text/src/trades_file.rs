@@ -1,0 +1,108 @@
+//! Files of trades, as spreadsheets read and write them.
+
+use crate::columns::{no_columns, Column, COLUMNS};
+use crate::decimal::Decimals;
+use crate::fault::Fault;
+use crate::file::content;
+use crate::lines::{Line, Lines};
+use crate::separator::{names_missing, Separator};
+use crate::trade::{record_of, values_of, Value};
+use csv::WriterBuilder;
+use seddolki_format::Record;
+
+/// A trade, and the line of the file that it stands on.
+#[derive(Clone, Copy, Debug, PartialEq, Eq)]
+pub struct Trade {
+    /// Counted from 1.
+    pub line: u64,
+    /// The trade.
+    pub record: Record,
+}
+
+/// Reads the trades of a whole file. The first line names the columns, and
+/// what separates the names says how numbers are written.
+///
+/// # Errors
+/// The faults of all lines.
+pub fn read(bytes: &[u8]) -> Result<Vec<Trade>, Vec<Fault>> {
+    let bytes = content(bytes);
+    let separator = Separator::of_file(&bytes).map_err(|fault| vec![fault])?;
+    let mut lines = Lines::new(&bytes, separator);
+    let columns = columns(lines.next())?;
+    let (mut trades, mut faults) = (vec![], vec![]);
+    for line in lines {
+        let line = line.map_err(|fault| vec![fault]);
+        match line.and_then(|line| trade(&columns, &line, separator.decimals())) {
+            Ok(trade) => trades.push(trade),
+            Err(found) => faults.extend(found),
+        }
+    }
+    if faults.is_empty() {
+        Ok(trades)
+    } else {
+        Err(faults)
+    }
+}
+
+/// The columns that the first line names.
+fn columns(line: Option<Result<Line, Fault>>) -> Result<Vec<&'static Column>, Vec<Fault>> {
+    let line = line.unwrap_or_else(|| Err(names_missing()));
+    let line = line.map_err(|fault| vec![fault])?;
+    let (mut columns, mut unknown, mut faults) = (vec![], vec![], vec![]);
+    for name in &line.values {
+        match Column::named(name) {
+            Some(column) if columns.contains(&column) => {
+                faults.push(Fault::new("it is named twice").in_column(column.name));
+            }
+            Some(column) => columns.push(column),
+            None => unknown.push(name),
+        }
+    }
+    if !unknown.is_empty() {
+        faults.push(no_columns(&unknown));
+    }
+    if faults.is_empty() {
+        Ok(columns)
+    } else {
+        Err(on_line(faults, line.number))
+    }
+}
+
+fn trade(
+    columns: &[&'static Column],
+    line: &Line,
+    decimals: Decimals,
+) -> Result<Trade, Vec<Fault>> {
+    let (due, found) = (columns.len(), line.values.len());
+    if found != due {
+        let message = format!("{due} values due by the column names, {found} found");
+        return Err(vec![Fault::new(message).on_line(line.number)]);
+    }
+    let values: Vec<Value> = columns.iter().copied().zip(&line.values).collect();
+    let record = record_of(&values, decimals).map_err(|faults| on_line(faults, line.number))?;
+    Ok(Trade {
+        line: line.number,
+        record,
+    })
+}
+
+fn on_line(faults: Vec<Fault>, line: u64) -> Vec<Fault> {
+    let faults = faults.into_iter();
+    faults.map(|fault| fault.on_line(line)).collect()
+}
+
+/// Writes trades with all columns; [`read`] gives the same records.
+pub fn write(records: &[Record], separator: Separator) -> String {
+    let mut builder = WriterBuilder::new();
+    let mut writer = builder.delimiter(separator.byte()).from_writer(vec![]);
+    let mut write = |values: Vec<String>| writer.write_record(values).expect(IN_MEMORY);
+    write(COLUMNS.iter().map(|column| column.name.into()).collect());
+    for record in records {
+        let values = values_of(record, separator.decimals()).into_iter();
+        write(values.map(|(_, text)| text).collect());
+    }
+    let bytes = writer.into_inner().expect(IN_MEMORY);
+    String::from_utf8(bytes).expect("names and values are UTF-8")
+}
+
+const IN_MEMORY: &str = "writing to memory does not fail";
