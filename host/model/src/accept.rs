@@ -1,16 +1,15 @@
 //! Accepting a book, grounds 1 to 12, and what it holds.
 
 use crate::answer::{Ground, Refusal};
-use crate::block::{check_of, Curve, Head, Header, Node, TradeBlock, BLOCK, CURVE, HEADER, TRADES};
+use crate::block::{Curve, Header, TradeBlock, BLOCK, CURVE, HEADER, TRADES};
+use crate::block_rules as rules;
+use crate::fault::{BookFault, Fault, Part};
 use crate::flows::{cash_flows, CashFlow};
 use crate::layout::Layout;
-use crate::limits::{
-    CURVES, FULL_BLOCK, MAX_BLOCKS, MAX_COMPONENT, MAX_CURRENCIES, MAX_DAY, MAX_RANGE, MAX_RATE,
-    MAX_STEPS, NODES,
-};
 use crate::record::Record;
 use crate::require::require;
-use crate::rules::accept_record;
+use crate::rules::keep_rules;
+use std::fmt::Display;
 
 /// What an accepted book holds.
 #[derive(Clone, Debug, PartialEq, Eq)]
@@ -31,109 +30,74 @@ impl Book {
     }
 }
 
-/// Length first, then block by block, the lowest ground of a block first.
+/// What the book holds, or the first ground that refuses it.
 pub fn accept(lent: &[u8], used: usize) -> Result<Book, Refusal> {
-    let bytes = used_bytes(lent, used).ok_or(Ground::Length.alone())?;
-    let blocks: Vec<&[u8]> = bytes.chunks(BLOCK).collect();
-    let header = accept_header(&blocks).map_err(Ground::alone)?;
+    take(lent, used).map_err(|fault| fault.refusal())
+}
+
+/// Why a book is refused; none if it is accepted.
+pub fn book_fault(lent: &[u8], used: usize) -> Option<BookFault> {
+    take(lent, used).err()
+}
+
+/// Length first, then block by block, the lowest ground of a block first.
+fn take(lent: &[u8], used: usize) -> Result<Book, BookFault> {
+    require(Ground::Length, rules::length(lent.len(), used))
+        .map_err(|fault| fault.in_part(0, Part::Length))?;
+    let blocks: Vec<&[u8]> = lent[..used].chunks(BLOCK).collect();
+    let header = take_header(&blocks).map_err(|fault| fault.in_part(0, Part::Header))?;
     let mut book = Book {
         account: header.account,
         curves: vec![],
         trades: vec![],
     };
-    for number in 1..blocks.len() {
-        accept_into(&mut book, &header, &blocks, number)
-            .map_err(|ground| ground.in_block(number))?;
+    let (curves, trades) = blocks[1..].split_at(header.curves.into());
+    for (number, block) in (1..).zip(curves) {
+        book.curves.push(take_curve(block, number, &header)?);
+    }
+    for (number, block) in (1 + curves.len()..).zip(trades) {
+        let last = number + 1 == blocks.len();
+        take_trades(&mut book, block, number, last)?;
     }
     Ok(book)
 }
 
-fn used_bytes(lent: &[u8], used: usize) -> Option<&[u8]> {
-    let whole = used != 0 && used.is_multiple_of(BLOCK) && used <= MAX_BLOCKS * BLOCK;
-    lent.get(..used).filter(|_| whole)
+fn in_place(block: &[u8], kind: u8, number: usize, why: impl Display) -> Result<(), Fault> {
+    require(Ground::Check, rules::check(block))?;
+    require(Ground::Place, rules::place(block, kind, number, why))
 }
 
-fn accept_into(
-    book: &mut Book,
-    header: &Header,
-    blocks: &[&[u8]],
-    number: usize,
-) -> Result<(), Ground> {
-    if number <= header.curves.into() {
-        book.curves.push(accept_curve(blocks[number], number)?);
-    } else {
-        let last = number + 1 == blocks.len();
-        let trades = accept_trades(blocks[number], number, last, &book.curves)?;
-        book.trades.extend(trades);
-    }
-    Ok(())
+fn take_header(blocks: &[&[u8]]) -> Result<Header, Fault> {
+    in_place(blocks[0], HEADER, 0, "the header is block 0")?;
+    require(Ground::Header, rules::header(blocks[0], blocks.len()))?;
+    Ok(Header::decode(blocks[0]))
 }
 
-fn in_place(block: &[u8], kind: u8, number: usize) -> Result<(), Ground> {
-    let head = Head::decode(block);
-    require(head.check == check_of(block), Ground::Check)?;
-    let right = head.kind == kind && usize::from(head.number) == number;
-    require(right, Ground::Place)
-}
-
-fn unnamed_are_zero<T: Layout>(block: &[u8]) -> bool {
-    T::decode(block).to_bytes::<BLOCK>() == block
-}
-
-fn accept_header(blocks: &[&[u8]]) -> Result<Header, Ground> {
-    in_place(blocks[0], HEADER, 0)?;
-    let header = Header::decode(blocks[0]);
-    let count = 1 + usize::from(header.curves) + usize::from(header.trade_blocks);
-    let holds = CURVES.contains(&header.curves)
-        && count == blocks.len()
-        && unnamed_are_zero::<Header>(blocks[0]);
-    require(holds, Ground::Header)?;
-    Ok(header)
-}
-
-fn accept_curve(block: &[u8], number: usize) -> Result<Curve, Ground> {
-    in_place(block, CURVE, number)?;
+fn take_curve(block: &[u8], number: usize, header: &Header) -> Result<Curve, BookFault> {
+    let why = format_args!("curves are blocks 1 to {}, by the header", header.curves);
+    in_place(block, CURVE, number, why)
+        .and_then(|()| require(Ground::Curve, rules::curve(block, number)))
+        .map_err(|fault| fault.in_part(number, Part::Curve))?;
     let curve = Curve::decode(block);
-    let holds = usize::from(curve.id) == number
-        && (1..=MAX_CURRENCIES).contains(&curve.currency.into())
-        && NODES.contains(&curve.node_count)
-        && curve.steps.iter().all(|&steps| steps <= MAX_STEPS)
-        && curve.ranges.iter().all(|&range| range <= MAX_RANGE)
-        && unnamed_are_zero::<Curve>(block)
-        && curve.places[curve.nodes().len()..]
-            .iter()
-            .all(|place| *place == Node::default());
-    require(holds, Ground::Curve)?;
-    require(nodes_hold(curve.nodes()), Ground::Node)?;
+    let count = curve.nodes().len();
+    for place in 0..count {
+        require(Ground::Node, rules::node(curve.nodes(), place))
+            .map_err(|fault| fault.in_part(number, Part::Node { place, count }))?;
+    }
     Ok(curve)
 }
 
-fn nodes_hold(nodes: &[Node]) -> bool {
-    let components = -MAX_COMPONENT..=MAX_COMPONENT;
-    nodes.windows(2).all(|pair| pair[0].day < pair[1].day)
-        && nodes.iter().all(|node| {
-            u64::from(node.day) <= MAX_DAY
-                && u64::from(node.rate) <= MAX_RATE
-                && node.components.iter().all(|c| components.contains(c))
-        })
-}
-
-fn accept_trades(
-    block: &[u8],
-    number: usize,
-    last: bool,
-    curves: &[Curve],
-) -> Result<Vec<Record>, Ground> {
-    in_place(block, TRADES, number)?;
+fn take_trades(book: &mut Book, block: &[u8], number: usize, last: bool) -> Result<(), BookFault> {
+    let why = format_args!("trades begin with block {}, by the header", 1 + book.curves.len());
+    in_place(block, TRADES, number, why)
+        .and_then(|()| require(Ground::TradeBlock, rules::trade_block(block, last)))
+        .map_err(|fault| fault.in_part(number, Part::Trades))?;
     let trades = TradeBlock::decode(block);
-    let count = usize::from(trades.count);
-    let lowest = if last { 1 } else { FULL_BLOCK };
-    require((lowest..=FULL_BLOCK).contains(&count), Ground::TradeBlock)?;
-    let (records, behind) = trades.places.split_at(count);
-    let empty = behind.iter().all(|place| *place == Record::default());
-    require(empty, Ground::TradeBlock)?;
-    for record in records {
-        accept_record(record, curves)?;
+    let count = trades.count.into();
+    for (place, record) in trades.places[..count].iter().enumerate() {
+        let part = Part::Trade { position: book.trades.len(), place, count };
+        keep_rules(record, &book.curves).map_err(|fault| fault.in_part(number, part))?;
+        book.trades.push(*record);
     }
-    Ok(records.to_vec())
+    Ok(())
 }

@@ -121,9 +121,26 @@ fn coupon_payment(record: &Record, i: u16) -> (u64, u128) {
     (day, amount)
 }
 
+/// What a flow of a trade is.
+#[derive(Clone, Copy, Debug, PartialEq, Eq)]
+pub enum Leg {
+    /// An outright's settlement cash or a repo's cash.
+    First,
+    /// What a repo pays back.
+    Second,
+    /// A payment of the security.
+    Payment,
+}
+
 /// The flows that the table gives a trade. The record has passed grounds 8
 /// to 10.
 pub fn cash_flows(record: &Record) -> Vec<CashFlow> {
+    let flows = named_flows(record).into_iter();
+    flows.map(|(_, flow)| flow).collect()
+}
+
+/// The same flows, each with what it is.
+pub fn named_flows(record: &Record) -> Vec<(Leg, CashFlow)> {
     let Some(signs) = signs_of(record) else {
         return vec![];
     };
@@ -135,20 +152,23 @@ pub fn cash_flows(record: &Record) -> Vec<CashFlow> {
     };
     let mut flows = vec![];
     if signs.first_leg != 0 {
-        let cash = first_leg(record);
-        flows.push(cash_flow(signs.first_leg, record.value_day_1, cash));
+        let flow = cash_flow(signs.first_leg, record.value_day_1, first_leg(record));
+        flows.push((Leg::First, flow));
     }
     if signs.second_leg != 0 {
         let cash = second_leg(record.repo_cash, record.price_or_rate, record.term);
-        flows.push(cash_flow(signs.second_leg, record.value_day_2, cash));
+        let flow = cash_flow(signs.second_leg, record.value_day_2, cash);
+        flows.push((Leg::Second, flow));
     }
     if signs.payments != 0 {
-        flows.extend(payments(record).into_iter().map(|(day, amount)| CashFlow {
+        let payment = |(day, amount)| CashFlow {
             curve: record.security_curve,
             day,
             amount,
             sign: signs.payments,
-        }));
+        };
+        let payments = payments(record).into_iter().map(payment);
+        flows.extend(payments.map(|flow| (Leg::Payment, flow)));
     }
     flows
 }

@@ -5,13 +5,17 @@
 
 pub mod accept;
 pub mod big;
+pub mod block_rules;
 pub mod bounds;
 pub mod calls;
 pub mod curve;
 pub mod discount;
 pub mod edit;
 pub mod exact;
+pub mod fault;
+pub mod fields;
 pub mod flows;
+pub mod found;
 pub mod list;
 pub mod margin;
 pub mod number;
@@ -21,8 +25,12 @@ pub mod scenario;
 pub mod search;
 pub mod units;
 pub mod valuation;
+pub mod words;
 
+pub use accept::book_fault;
 pub use calls::{append, check, margin, present_value, read, strike};
+pub use fault::{BookFault, Fault, Part};
 pub use list::list;
+pub use rules::record_fault;
 pub use seddolki_format::{answer, block, layout, limits, record, report};
 pub use seddolki_format::{Answer, Ground, Refusal};

@@ -1,12 +1,17 @@
 //! A rule and the ground that answers where it is broken.
 
 use crate::answer::Ground;
+use crate::fault::Fault;
+use crate::found::Kept;
 
-/// Ok if the rule holds, the ground if not.
-pub fn require(holds: bool, ground: Ground) -> Result<(), Ground> {
-    if holds {
-        Ok(())
-    } else {
-        Err(ground)
-    }
+/// Ok if the rule is kept, the ground's fault if not.
+pub fn require(ground: Ground, rule: Kept) -> Result<(), Fault> {
+    rule.map_err(|breach| Fault {
+        ground,
+        field: breach.found.about.name,
+        unit: breach.found.about.unit,
+        found: breach.found.number,
+        allowed: breach.allowed,
+        why: breach.why,
+    })
 }

@@ -1,0 +1,114 @@
+//! The rules of a book's length, its blocks and its nodes, grounds 1 to 7.
+
+use crate::block::{check_of, Curve, Head, Header, Node, TradeBlock, BLOCK};
+use crate::fields::{
+    BLOCK_KIND, CHECK, COMPONENTS, COUNT, CURRENCY, CURVE_COUNT, DAY, ID, NODE_COUNT, NUMBER,
+    RANGES, RATE, STEPS, TRADE_BLOCKS, UNNAMED, USED,
+};
+use crate::found::Kept;
+use crate::layout::Layout;
+use crate::limits::FULL_BLOCK;
+use crate::record::Record;
+use std::fmt::Display;
+
+/// Ground 1.
+pub fn length(lent: usize, used: usize) -> Kept {
+    let (block, most) = (BLOCK as i128, USED.about.most);
+    let used = USED.of(&used);
+    used.within(block..=most, USED.about.meaning)?;
+    used.multiple_of(block, USED.about.meaning)?;
+    used.at_most(lent as i128, "no more bytes are lent")
+}
+
+/// Ground 2.
+pub fn check(block: &[u8]) -> Kept {
+    let head = Head::decode(block);
+    CHECK.of(&head).is(check_of(block), CHECK.about.meaning)
+}
+
+/// Ground 3; `why` is what makes the place call for the kind.
+pub fn place(block: &[u8], kind: u8, number: usize, why: impl Display) -> Kept {
+    let head = Head::decode(block);
+    BLOCK_KIND.of(&head).is(kind, why)?;
+    NUMBER.of(&head).is(number as i128, NUMBER.about.meaning)
+}
+
+/// Ground 4, in a book of so many blocks.
+pub fn header(block: &[u8], blocks: usize) -> Kept {
+    let header = Header::decode(block);
+    USED.of(&(blocks * BLOCK)).within_limits()?;
+    let behind = blocks as i128 - 1;
+    let why = format!("curves and trade blocks are the {behind} blocks behind the header");
+    let most = behind.min(CURVE_COUNT.about.most);
+    CURVE_COUNT.of(&header).within(1..=most, &why)?;
+    let trades = behind - i128::from(header.curves);
+    TRADE_BLOCKS.of(&header).is(trades, &why)?;
+    unnamed_are_zero(block, &header, "a header")
+}
+
+/// Ground 5.
+pub fn curve(block: &[u8], number: usize) -> Kept {
+    let curve = Curve::decode(block);
+    ID.of(&curve).is(number as i128, ID.about.meaning)?;
+    CURRENCY.of(&curve).within_limits()?;
+    NODE_COUNT.of(&curve).within_limits()?;
+    for (number, steps) in (1..).zip(&curve.steps) {
+        let why = format_args!("the steps of component {number}");
+        STEPS.of(steps).within(STEPS.limits(), why)?;
+    }
+    for (number, range) in (1..).zip(&curve.ranges) {
+        let why = format_args!("the range of component {number}");
+        RANGES.of(range).within(RANGES.limits(), why)?;
+    }
+    let count = curve.nodes().len();
+    let mut named = curve;
+    named.places[count..].fill(Node::default());
+    unnamed_are_zero(block, &named, format_args!("a curve of {count} nodes"))
+}
+
+/// Ground 6, of the node at a place; those before it have passed. Each node
+/// behind it needs a later day.
+pub fn node(nodes: &[Node], place: usize) -> Kept {
+    let node = &nodes[place];
+    let behind = nodes.len() - 1 - place;
+    let latest = DAY.about.most - behind as i128;
+    if place == 0 {
+        DAY.of(node).within(0..=latest, DAY.about.meaning)?;
+    } else {
+        let before = nodes[place - 1].day;
+        let why = format_args!("{}, and node {place} has day {before}", DAY.about.meaning);
+        let next = i128::from(before) + 1;
+        DAY.of(node).within(next..=latest, why)?;
+    }
+    RATE.of(node).within_limits()?;
+    for (number, component) in (1..).zip(&node.components) {
+        let why = format_args!("how far component {number} moves the node");
+        COMPONENTS.of(component).within(COMPONENTS.limits(), why)?;
+    }
+    Ok(())
+}
+
+/// Ground 7; only the last block may be short.
+pub fn trade_block(block: &[u8], last: bool) -> Kept {
+    let mut trades = TradeBlock::decode(block);
+    if last {
+        COUNT.of(&trades).within_limits()?;
+    } else {
+        let full = FULL_BLOCK as i128;
+        COUNT.of(&trades).is(full, "only the last block of trades may hold fewer")?;
+    }
+    let count = usize::from(trades.count);
+    trades.places[count..].fill(Record::default());
+    unnamed_are_zero(block, &trades, format_args!("a block of {count} trades"))
+}
+
+/// The bytes that the content leaves over are 0.
+fn unnamed_are_zero(block: &[u8], content: &impl Layout, of: impl Display) -> Kept {
+    let named: [u8; BLOCK] = content.to_bytes();
+    match (0..BLOCK).find(|&at| block[at] != named[at]) {
+        None => Ok(()),
+        Some(at) => UNNAMED
+            .of(&block[at])
+            .is_zero(format_args!("no field takes byte {at} in {of}")),
+    }
+}
