@@ -22,8 +22,8 @@ use std::slice;
 /// A trade can be like hundreds of others. Of those before it that are like
 /// it in the same way only the first is listed: in a book of equal trades
 /// each is listed once, beside the first of all. Each field of
-/// [`Likeness::OneField`] is a way of its own; so are the two directions of
-/// a second leg, that of the other in this trade or of this in the other.
+/// [`Likeness::OneField`] is a way of its own; and to repeat another's
+/// second leg is one way, to have one's own repeated by it another.
 ///
 /// ```
 /// use seddolki::{doubles, Likeness, Record};

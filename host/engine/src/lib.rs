@@ -32,7 +32,7 @@
 //! assert_eq!(refusal.ground.number(), 1);
 //! ```
 //!
-//! A book may hold a trade twice, and the engine takes it. [`doubles`] and
+//! A book may hold a trade twice, and the engine takes it. [`doubles()`] and
 //! its kin search for trades that may have been keyed twice, before they are
 //! appended or in a whole book; the search stands beside the engine and
 //! changes none of its verdicts.

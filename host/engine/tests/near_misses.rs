@@ -48,28 +48,29 @@ fn each_pair(likeness: Likeness, mut visit: impl FnMut(&mut Draw, &[Curve], Pair
     }
 }
 
-/// Changes each field of a trade in turn, where a book accepts that, and sees
-/// that it misses the kind exactly where it should. `misses` gets the field
-/// and the changed trade.
+/// Changes each field of one of a pair in turn, where a book accepts that,
+/// and sees that it misses the kind exactly where it should. `order` gives
+/// the trade that is kept and the one that is changed; `misses` gets the
+/// field's name, the kept trade and the changed one.
 fn change_each_field(
-    (draw, curves): (&mut Draw, &[Curve]),
-    (likeness, whole, trade): (Likeness, &Record, &Record),
-    tried: &mut Tried,
-    misses: impl Fn(&str, &Record) -> bool,
-) {
-    for field in &FIELDS {
-        let Some(changed) = draw_changed(draw, trade, field, curves) else {
-            continue;
-        };
-        let missed = !are_found(likeness, whole, &changed);
-        assert_eq!(
-            missed,
-            misses(field.name, &changed),
-            "{}: {trade:?}",
-            field.name
-        );
-        *tried.entry((field.name, missed)).or_default() += 1;
-    }
+    likeness: Likeness,
+    order: fn(Pair) -> [Record; 2],
+    misses: fn(&str, &Record, &Record) -> bool,
+) -> Tried {
+    let mut tried = Tried::new();
+    each_pair(likeness, |draw, curves, pair| {
+        let [kept, trade] = order(pair);
+        for field in &FIELDS {
+            let name = field.name;
+            let Some(changed) = draw_changed(draw, &trade, field, curves) else {
+                continue;
+            };
+            let missed = !are_found(likeness, &kept, &changed);
+            assert_eq!(missed, misses(name, &kept, &changed), "{name}: {pair:?}");
+            *tried.entry((name, missed)).or_default() += 1;
+        }
+    });
+    tried
 }
 
 const TERMS: [&str; 6] = [
@@ -81,25 +82,22 @@ const TERMS: [&str; 6] = [
     "value_day_2",
 ];
 
+fn double_changed(pair: Pair) -> [Record; 2] {
+    [pair.trade, pair.double]
+}
+
+fn trade_changed(pair: Pair) -> [Record; 2] {
+    [pair.double, pair.trade]
+}
+
 #[test]
 fn a_settled_repo_with_other_terms_is_no_second_leg() {
-    let mut tried = Tried::new();
-    each_pair(
-        Likeness::SecondLeg,
-        |draw, curves, Pair { trade, double }| {
-            let kind = (Likeness::SecondLeg, &trade, &double);
-            change_each_field(
-                (draw, curves),
-                kind,
-                &mut tried,
-                |field, changed| match field {
-                    "security_curve" => trade.has_security(),
-                    "kind" | "phase" => !changed.first_leg_settled(),
-                    _ => TERMS.contains(&field),
-                },
-            );
-        },
-    );
+    let misses = |field: &str, whole: &Record, settled: &Record| match field {
+        "security_curve" => whole.has_security(),
+        "kind" | "phase" => !settled.first_leg_settled(),
+        _ => TERMS.contains(&field),
+    };
+    let tried = change_each_field(Likeness::SecondLeg, double_changed, misses);
     assert_tried(&tried, true, 50, &["cash_curve", "security_curve", "phase"]);
     assert_tried(&tried, true, 300, &["side", "repo_cash", "price_or_rate"]);
     assert_tried(&tried, true, 300, &["term", "value_day_2"]);
@@ -114,23 +112,12 @@ fn a_settled_repo_with_other_terms_is_no_second_leg() {
 
 #[test]
 fn a_repo_with_other_terms_has_not_this_second_leg() {
-    let mut tried = Tried::new();
-    each_pair(
-        Likeness::SecondLeg,
-        |draw, curves, Pair { trade, double }| {
-            let kind = (Likeness::SecondLeg, &double, &trade);
-            change_each_field(
-                (draw, curves),
-                kind,
-                &mut tried,
-                |field, changed| match field {
-                    "security_curve" => true,
-                    "kind" | "phase" => changed.first_leg_settled(),
-                    _ => TERMS.contains(&field),
-                },
-            );
-        },
-    );
+    let misses = |field: &str, _: &Record, whole: &Record| match field {
+        "security_curve" => true,
+        "kind" | "phase" => whole.first_leg_settled(),
+        _ => TERMS.contains(&field),
+    };
+    let tried = change_each_field(Likeness::SecondLeg, trade_changed, misses);
     assert_tried(&tried, true, 50, &["cash_curve", "security_curve", "phase"]);
     assert_tried(&tried, true, 300, &["side", "repo_cash", "price_or_rate"]);
     assert_tried(&tried, false, 100, &["nominal", "first_payment_day"]);
@@ -138,20 +125,11 @@ fn a_repo_with_other_terms_has_not_this_second_leg() {
 
 #[test]
 fn a_repo_that_begins_with_other_cash_is_none() {
-    let mut tried = Tried::new();
-    let likeness = Likeness::SecondLegAsFirst;
-    each_pair(likeness, |draw, curves, Pair { trade, double }| {
-        let kind = (likeness, &trade, &double);
-        change_each_field(
-            (draw, curves),
-            kind,
-            &mut tried,
-            |field, changed| match field {
-                "kind" | "phase" => changed.first_leg_settled(),
-                _ => ["side", "cash_curve", "repo_cash"].contains(&field),
-            },
-        );
-    });
+    let misses = |field: &str, _: &Record, repo: &Record| match field {
+        "kind" | "phase" => repo.first_leg_settled(),
+        _ => ["side", "cash_curve", "repo_cash"].contains(&field),
+    };
+    let tried = change_each_field(Likeness::SecondLegAsFirst, double_changed, misses);
     assert_tried(&tried, true, 300, &["side", "repo_cash"]);
     assert_tried(&tried, true, 50, &["cash_curve"]);
     assert_tried(&tried, true, 5, &["phase"]);
@@ -165,27 +143,34 @@ fn a_repo_that_begins_with_other_cash_is_none() {
 
 #[test]
 fn a_repo_that_pays_back_another_amount_is_none() {
-    let mut tried = Tried::new();
-    let likeness = Likeness::SecondLegAsFirst;
-    each_pair(likeness, |draw, curves, Pair { trade, double }| {
-        let kind = (likeness, &double, &trade);
-        change_each_field(
-            (draw, curves),
-            kind,
-            &mut tried,
-            |field, changed| match field {
-                "side" | "cash_curve" | "value_day_2" => true,
-                _ => {
-                    let paid = second_leg(changed.repo_cash, changed.price_or_rate, changed.term);
-                    paid != double.repo_cash.into()
-                }
-            },
-        );
-    });
+    let misses = |field: &str, begins: &Record, repo: &Record| match field {
+        "side" | "cash_curve" | "value_day_2" => true,
+        _ => {
+            let paid_back = second_leg(repo.repo_cash, repo.price_or_rate, repo.term);
+            paid_back != begins.repo_cash.into()
+        }
+    };
+    let tried = change_each_field(Likeness::SecondLegAsFirst, trade_changed, misses);
     assert_tried(&tried, true, 300, &["side", "repo_cash"]);
     assert_tried(&tried, true, 100, &["price_or_rate", "term", "value_day_2"]);
     assert_tried(&tried, true, 50, &["cash_curve"]);
     assert_tried(&tried, false, 20, &["price_or_rate", "term", "nominal"]);
+}
+
+#[test]
+fn an_outright_has_no_second_leg() {
+    let outright = Record {
+        kind: 1,
+        side: 1,
+        ..Record::default()
+    };
+    let repo = Record {
+        kind: 2,
+        phase: 1,
+        side: 2,
+        ..Record::default()
+    };
+    assert_eq!(Likeness::between(&outright, &repo), None);
 }
 
 #[test]

@@ -18,8 +18,8 @@ pub enum Likeness {
     SecondLeg,
     /// Two repos of opposite sides and the same cash curve; one begins on the
     /// other's value day 2, its first leg not settled, with the other's
-    /// second leg as its cash. So one cash flow stands in both: same curve,
-    /// day, amount and sign.
+    /// second leg as its cash. Its first leg is then the other's second leg
+    /// again: same curve, day, amount and sign.
     SecondLegAsFirst,
     /// Opposite sides, all else alike.
     Opposite,
