@@ -78,7 +78,7 @@ static int all_zero(const uint8_t *bytes, size_t len) {
     return 1;
 }
 
-static size_t field(const uint8_t *bytes) { return bytes[0] | (size_t)bytes[1] << 8; }
+static const seddolki_block *blocks_of(const uint8_t *book) { return (const seddolki_block *)book; }
 
 /* Flows times scenarios that are valued at most. */
 #ifndef WORK
@@ -87,30 +87,35 @@ static size_t field(const uint8_t *bytes) { return bytes[0] | (size_t)bytes[1] <
 
 /* Whether an accepted book's flows times scenarios are few. */
 static int is_quick(const uint8_t *book, size_t used) {
-    size_t curves = field(book + 8), flows = 0, scenarios = 0;
+    const seddolki_block *blocks = blocks_of(book);
+    size_t curves = seddolki_get_u16(&blocks->header.curves), flows = 0, scenarios = 0;
     for (size_t i = 1; i <= curves; i++) {
-        const uint8_t *steps = book + i * SEDDOLKI_BLOCK + 7;
+        const uint8_t *steps = blocks[i].curve.steps;
         scenarios += (2 * steps[0] + 1) * (2 * steps[1] + 1) * (2 * steps[2] + 1);
     }
-    for (size_t at = (1 + curves) * SEDDOLKI_BLOCK; at < used; at += SEDDOLKI_BLOCK)
-        for (size_t j = 0; j < book[at + 1]; j++)
-            flows += 2 + field(book + at + 4 + j * SEDDOLKI_RECORD + 16);
+    for (size_t i = 1 + curves; i < used / SEDDOLKI_BLOCK; i++)
+        for (size_t j = 0; j < blocks[i].trades.count; j++)
+            flows += 2 + seddolki_get_u16(&blocks[i].trades.places[j].payments);
     return flows * scenarios < WORK;
 }
 
 static void note_held(const uint8_t *book, size_t used) {
-    size_t curves = field(book + 8);
+    const seddolki_block *blocks = blocks_of(book);
+    size_t curves = seddolki_get_u16(&blocks->header.curves);
     curves_held[curves] = 1;
-    for (size_t at = (1 + curves) * SEDDOLKI_BLOCK; at < used; at += SEDDOLKI_BLOCK)
-        for (size_t j = 0; j < book[at + 1]; j++) {
-            const uint8_t *record = book + at + 4 + j * SEDDOLKI_RECORD;
-            held[record[0]][record[1]][record[2]][record[5]] = 1;
+    for (size_t i = 1 + curves; i < used / SEDDOLKI_BLOCK; i++)
+        for (size_t j = 0; j < blocks[i].trades.count; j++) {
+            const seddolki_record *record = &blocks[i].trades.places[j];
+            held[record->kind][record->side][record->phase][record->security] = 1;
         }
 }
 
-static void note_worst(const uint8_t *report) {
-    for (const uint8_t *curve = report + 8; curve < report + 264; curve += 32)
-        if (curve[20]) worst[curve[7] >> 7][field(curve + 16)] = 1;
+static void note_worst(const seddolki_report *report) {
+    for (size_t i = 0; i < SEDDOLKI_MAX_CURVES; i++) {
+        const seddolki_curve_figures *curve = &report->curves[i];
+        if (seddolki_get_u32(&curve->currency))
+            worst[seddolki_get_i64(&curve->base) < 0][seddolki_get_u32(&curve->scenario)] = 1;
+    }
 }
 
 static void try_margin(const input *in, seddolki_answer checked) {
@@ -127,11 +132,13 @@ static void try_margin(const input *in, seddolki_answer checked) {
         expect(!memcmp(report, before, in->report_len), "a refused margin writes nothing");
         return;
     }
-    note_worst(report);
-    expect(report[0] == 9 && !memcmp(report + 4, book + 4, 4), "a report has its head");
-    uint32_t check = block_check(report);
-    for (int i = 0; i < 4; i++)
-        expect(report[508 + i] == (uint8_t)(check >> 8 * i), "a report has its check");
+    const seddolki_block *first = blocks_of(book), *block = blocks_of(report);
+    note_worst(&block->report);
+    expect(block->head.kind == SEDDOLKI_REPORT_KIND, "a report is of its kind");
+    expect(seddolki_get_u32(&block->report.account) == seddolki_get_u32(&first->header.account),
+           "a report has the account");
+    expect(seddolki_get_u32(&block->head.check) == seddolki_check_of(block),
+           "a report has its check");
     expect(!memcmp(report + SEDDOLKI_BLOCK, before, in->report_len - SEDDOLKI_BLOCK),
            "bytes past the report stay");
 }
@@ -160,8 +167,9 @@ static void try_append(const input *in, seddolki_answer checked) {
     reached[2][0][1] = used > in->used;
     expect(!memcmp(book + used, in->lent + used, in->len - used), "bytes behind stay");
     expect(seddolki_check(book, in->len, used).number == 0, "an appended book is accepted");
-    size_t blocks = field(book + 10);
-    size_t last = (blocks - 1) * 9 + book[used - SEDDOLKI_BLOCK + 1] - 1;
+    size_t blocks = seddolki_get_u16(&blocks_of(book)->header.trade_blocks);
+    size_t count = blocks_of(book + used - SEDDOLKI_BLOCK)->trades.count;
+    size_t last = (blocks - 1) * SEDDOLKI_FULL_BLOCK + count - 1;
     uint8_t *again = lend(2, in->record, SEDDOLKI_RECORD);
     memset(again, 0, SEDDOLKI_RECORD);
     expect(seddolki_read(book, in->len, used, last, again).number == 0, "a new record is read");

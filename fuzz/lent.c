@@ -24,11 +24,3 @@ uint8_t *lend(int place, const uint8_t *bytes, size_t len) {
     if (len) memcpy(start, bytes, len);
     return start;
 }
-
-uint32_t block_check(const uint8_t *block) {
-    uint32_t sum = 1;
-    for (size_t i = 0; i < 508; i += 4)
-        sum += (uint32_t)block[i] | (uint32_t)block[i + 1] << 8 | (uint32_t)block[i + 2] << 16 |
-               (uint32_t)block[i + 3] << 24;
-    return sum;
-}

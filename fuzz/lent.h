@@ -11,7 +11,4 @@
 /* Copies bytes to the end of one of four places and gives where they start. */
 uint8_t *lend(int place, const uint8_t *bytes, size_t len);
 
-/* The check that a block's first 127 words call for. */
-uint32_t block_check(const uint8_t *block);
-
 #endif

@@ -3,11 +3,11 @@
  * of a book: one time in four any bytes change, otherwise a field in its
  * place or a whole record. The checks of the blocks are then mended.
  */
-#include "lent.h"
+#include "seddolki.h"
 
 #include <string.h>
 
-enum { HEAD = 96, BLOCK = 512, RECORD = 56, FULL = 9, TRADES = 3 };
+enum { HEAD = 96 };
 
 size_t LLVMFuzzerMutate(uint8_t *data, size_t size, size_t most);
 
@@ -17,9 +17,9 @@ static size_t draw(uint64_t *state, size_t end) {
     return (size_t)(*state >> 33) % end;
 }
 
-static void seal(uint8_t *block) {
-    uint32_t check = block_check(block);
-    for (int i = 0; i < 4; i++) block[508 + i] = (uint8_t)(check >> 8 * i);
+/* A block of the book that an input holds. */
+static seddolki_block *block_at(uint8_t *data, size_t number) {
+    return (seddolki_block *)(data + HEAD) + number;
 }
 
 /* Gives a field of 1, 2 or 4 bytes a number near its own, a small one, or any. */
@@ -43,29 +43,32 @@ static void change_some_field(uint8_t *data, size_t blocks, uint64_t *state) {
         return;
     }
     size_t within = draw(state, 8) ? 4 + draw(state, 240) : draw(state, 504);
-    change_field(data + HEAD + draw(state, blocks) * BLOCK + (within & ~(size_t)1), state);
+    change_field(block_at(data, draw(state, blocks))->bytes + (within & ~(size_t)1), state);
 }
 
 /* Puts the head's record behind the last of the last block, or takes that block's first into the head. */
 static void move_record(uint8_t *data, size_t blocks, uint64_t *state) {
     if (!blocks) return;
-    uint8_t *last = data + HEAD + (blocks - 1) * BLOCK, *record = data + 32;
-    if (last[0] != TRADES) return;
-    if (last[1] < FULL && draw(state, 4))
-        memcpy(last + 4 + RECORD * last[1]++, record, RECORD);
+    seddolki_trade_block *last = &block_at(data, blocks - 1)->trades;
+    uint8_t *record = data + 32;
+    if (last->kind != SEDDOLKI_TRADES_KIND) return;
+    if (last->count < SEDDOLKI_FULL_BLOCK && draw(state, 4))
+        memcpy(&last->places[last->count++], record, SEDDOLKI_RECORD);
     else
-        memcpy(record, last + 4 + RECORD * draw(state, FULL), RECORD);
+        memcpy(record, &last->places[draw(state, SEDDOLKI_FULL_BLOCK)], SEDDOLKI_RECORD);
 }
 
 size_t LLVMFuzzerCustomMutator(uint8_t *data, size_t size, size_t most, unsigned seed) {
     uint64_t state = seed;
-    size_t way = size < HEAD ? 0 : draw(&state, 4), blocks = size < HEAD ? 0 : (size - HEAD) / BLOCK;
+    size_t way = size < HEAD ? 0 : draw(&state, 4);
+    size_t blocks = size < HEAD ? 0 : (size - HEAD) / SEDDOLKI_BLOCK;
     if (way == 0) size = LLVMFuzzerMutate(data, size, most);
     else if (way == 1) move_record(data, blocks, &state);
     else change_some_field(data, blocks, &state);
     size_t mends = draw(&state, 16);
     if (size < HEAD || mends == 0) return size;
-    if (mends > 2) size -= (size - HEAD) % BLOCK;
-    for (size_t at = HEAD; at + BLOCK <= size; at += BLOCK) seal(data + at);
+    if (mends > 2) size -= (size - HEAD) % SEDDOLKI_BLOCK;
+    blocks = (size - HEAD) / SEDDOLKI_BLOCK;
+    for (size_t i = 0; i < blocks; i++) seddolki_seal(block_at(data, i));
     return size;
 }

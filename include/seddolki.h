@@ -235,8 +235,7 @@ enum {
  * without sign, i with one, and the number is of bits; the functions at the
  * end get and set such fields. The comment of a field starts with its first
  * byte, and leaves SEDDOLKI_ out of names. Bytes named zero are due to be 0,
- * and so are places behind the last node of a curve and the last record of a
- * block.
+ * and so are the places behind a curve's last node and a block's last record.
  */
 typedef struct {
     uint8_t bytes[2];
@@ -288,9 +287,10 @@ typedef struct {
 } seddolki_node;
 
 /*
- * A curve. Blocks 1 on, one for each curve of the header. Its scenarios add
- * to the rate of each node j * ranges[i] / steps[i] hundredths of component
- * i, for every choice of a j from -steps[i] to steps[i] for each i.
+ * A curve. Blocks 1 on, one for each curve of the header. A scenario takes
+ * for each component i a j from -steps[i] to steps[i], and adds to the rate
+ * of each node j * ranges[i] / steps[i] hundredths of component i, nothing
+ * where steps[i] is 0.
  */
 typedef struct {
     uint8_t kind;                             /* 0: CURVE_KIND */
@@ -329,16 +329,16 @@ typedef struct {
  *   period, payments, coupon                      no    no    yes   yes
  *   settlement_index, issue_index                 no    no    no    yes
  *
- * A repo of the last column has settled its first leg, and its value_day_2 is
- * at most the term; in the columns before it value_day_1 is before
- * value_day_2, and the term is their difference. The first payment falls
- * after value_day_1 of an outright, after value_day_2 of a repo, and the last
- * one, (payments - 1) * period later, at MAX_DAY at most. The two curves have
- * the same currency. No cash flow of the trade is above MAX_AMOUNT.
+ * A repo of pool 3 or specified 2 has settled its first leg, and value_day_2
+ * is at most the term; in the other repos value_day_1 is before value_day_2,
+ * and the term is their difference. The first payment falls after value_day_1
+ * of an outright, after value_day_2 of a repo; the last of the coupons, that
+ * is (payments - 1) * period later, at MAX_DAY at most. The two curves have
+ * one currency. No cash flow of the trade is above MAX_AMOUNT.
  *
- * What is wrong in bytes 0 to 5 is ground 8; in a day, the period, the
- * payments or the term, where used, 9; in any other field, or in an unused
- * one, 10.
+ * What is wrong in bytes 0 to 5 is ground 8, an unused security_curve
+ * included; in a used day, period, payments or term it is 9; in anything
+ * else, unused fields included, 10.
  */
 typedef struct {
     uint8_t kind;                   /* 0: OUTRIGHT, POOL or SPECIFIED */

@@ -4,7 +4,7 @@ mod c;
 
 use c::{compilers, Compiler, ROOT};
 use seddolki_format::block::{check_of, BLOCK};
-use std::fs::{create_dir, remove_dir_all, File};
+use std::fs::{create_dir, read, remove_dir_all, write, File};
 use std::path::{Path, PathBuf};
 use std::process::{Command, Output, Stdio};
 use std::sync::atomic::{AtomicUsize, Ordering};
@@ -159,6 +159,19 @@ fn the_example_in_c_says_why_it_has_no_totals() {
         for (arguments, message) in failures {
             assert_fails(program.command(arguments).output().unwrap(), message);
         }
+    }
+}
+
+#[test]
+fn the_example_in_c_says_where_a_book_is_wrong() {
+    let mut bytes = read(format!("{ROOT}/examples/buyer.book")).unwrap();
+    bytes[BLOCK + 20] += 1;
+    for program in totals() {
+        let book = program.folder.join("wrong.book");
+        write(&book, &bytes).unwrap();
+        let book = book.to_str().unwrap();
+        let message = format!("{book}: refused by ground 2 in block 1\n");
+        assert_fails(program.command(&[book]).output().unwrap(), &message);
     }
 }
 

@@ -142,13 +142,10 @@ fn the_header_alone_gives_no_warning() {
     let of_c = "-Wc++-compat -Wstrict-prototypes -Wmissing-prototypes -Wbad-function-cast";
     let of_cpp = "-Wold-style-cast -Wnon-virtual-dtor -Woverloaded-virtual";
     for compiler in compilers() {
-        let own = if compiler.language == "c" {
-            of_c
-        } else {
-            of_cpp
-        };
-        let mut arguments: Vec<&str> = common.split(' ').chain(own.split(' ')).collect();
-        arguments.push("include/seddolki.h");
+        let is_c = compiler.language == "c";
+        let own = if is_c { of_c } else { of_cpp };
+        let flags = common.split(' ').chain(own.split(' '));
+        let arguments: Vec<&str> = flags.chain(["include/seddolki.h"]).collect();
         compiler.compile(&arguments, "");
     }
 }

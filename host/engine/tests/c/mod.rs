@@ -25,8 +25,8 @@ const COMPILERS: [(&str, &str, [&str; 2]); 4] = [
 
 /// gcc and g++ in any case, the others where the machine has them.
 pub fn compilers() -> Vec<Compiler> {
-    let here = |program: &str| program.starts_with('g') || is_installed(program);
-    let each = COMPILERS.iter().filter(|compiler| here(compiler.0));
+    let asked = |program| ["gcc", "g++"].contains(&program) || is_installed(program);
+    let each = COMPILERS.iter().filter(|compiler| asked(compiler.0));
     each.flat_map(|&(program, language, standards)| {
         standards.map(|standard| Compiler {
             program,
