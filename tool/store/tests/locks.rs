@@ -176,7 +176,11 @@ fn many_writers_lose_nothing() {
             say: &|_| {},
         };
         // by two names of one book
-        let path = if writer % 2 == 0 { &book } else { &link };
+        let path = if writer.is_multiple_of(2) {
+            &book
+        } else {
+            &link
+        };
         for _ in 0..EDITS {
             assert!(append(path, writer, &patience).is_ok());
         }

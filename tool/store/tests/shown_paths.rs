@@ -31,7 +31,7 @@ fn what_moves_the_cursor_or_turns_text_is_escaped() {
     assert_eq!(shown(Path::new("\u{9b}31m")), "\\xc2\\x9b31m");
     assert_eq!(shown(Path::new("a\u{202e}b")), "a\\xe2\\x80\\xaeb");
     let escaped = (0..=u8::MAX).filter(|&byte| shown_bytes(&[byte]).len() > 1);
-    let controls = (0..=u8::MAX).filter(|&byte| byte < b' ' || byte > b'~');
+    let controls = (0..=u8::MAX).filter(|&byte| !(b' '..=b'~').contains(&byte));
     // no file's name has the zero, but nothing breaks by it
     assert!(escaped.eq(controls));
 }

@@ -84,14 +84,14 @@ fn standard_output_may_be_a_file() {
 
 fn a_full_or_closed_standard_output_is_told() {
     let full = File::options().write(true).open("/dev/full").unwrap();
-    let mut command = copier("/dev/null", "-");
+    let mut command = copier("/dev/zero", "-");
     assert_failed(
         command.stdout(full).output().unwrap(),
         "standard output: no space left on device",
     );
     let (reader, writer) = std::io::pipe().unwrap();
     drop(reader);
-    let mut command = copier("/dev/null", "-");
+    let mut command = copier("/dev/zero", "-");
     assert_failed(
         command.stdout(writer).output().unwrap(),
         "standard output: broken pipe",
