@@ -45,8 +45,8 @@ fn write_standard_output(bytes: &[u8], inputs: &[&Input]) -> Result<Written, Fai
     let name = Path::new("standard output");
     // what was printed before comes before
     let flushed = io::stdout().flush();
-    let stream = flushed.and_then(|()| io::stdout().as_fd().try_clone_to_owned());
-    let stream = File::from(stream.map_err(Failure::of(name))?);
+    let opened = flushed.and_then(|()| io::stdout().as_fd().try_clone_to_owned());
+    let stream = opened.map(File::from).map_err(Failure::of(name))?;
     write_through(name, stream, bytes, inputs)
 }
 

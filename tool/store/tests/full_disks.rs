@@ -44,7 +44,7 @@ impl SmallDisk {
         let mut mount = Command::new("mount");
         mount.args(["-t", "tmpfs", "-o", "size=16k", "tmpfs"]);
         let output = mount.arg(folder.path()).output().unwrap();
-        output.status.success().then_some(SmallDisk { folder })
+        output.status.success().then(|| SmallDisk { folder })
     }
 }
 
