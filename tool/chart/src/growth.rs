@@ -51,9 +51,11 @@ const SIZE: (u32, u32) = (1200, 440);
 impl Growth {
     /// Reads the benchmark's table; a refusal names the line.
     pub fn read(table: &str) -> Result<Growth, String> {
-        let mut lines = ReaderBuilder::new().from_reader(table.as_bytes());
+        let mut lines = ReaderBuilder::new()
+            .flexible(true)
+            .from_reader(table.as_bytes());
         let header = lines.headers().map_err(|error| error.to_string())?;
-        if header != &HEADER[..] {
+        if header.iter().ne(HEADER) {
             return Err(format!("the header is not {}", HEADER.join(",")));
         }
         let line = |record: csv::Result<StringRecord>| {
@@ -97,12 +99,7 @@ impl Growth {
             .collect();
         let area = line(area, &held.join(", "), TEXT)?;
         let largest = books.iter().map(|book| grows.1(book)).max().unwrap_or(0);
-        let sizes = Scale::whole(largest.max(1), 7);
-        let room = 0.05 * sizes.length();
-        let across = Axis {
-            title: grows.0,
-            scale: sizes.with_room(room, room),
-        };
+        let across = Axis::roomy(grows.0, Scale::whole(largest.max(1), 7), 0.05);
         let up = self.time_axis();
         let mut panel = Panel::new(&area, up.breadth(), &across, &up)?;
         let look = Look::new(BLUE, 2, Marker::Circle(5));
@@ -125,19 +122,29 @@ impl Growth {
 
 impl Measured {
     fn read(record: &StringRecord) -> Result<Measured, String> {
-        let cell = |column: usize| record.get(column).unwrap_or_default();
-        let count = |column: usize| {
-            let read = cell(column).parse().ok().filter(|count| *count > 0);
-            read.ok_or_else(|| format!("{} is no count: {:?}", HEADER[column], cell(column)))
+        if record.len() != HEADER.len() {
+            let (cells, due) = (record.len(), HEADER.len());
+            return Err(format!("{cells} cells in place of {due}"));
+        }
+        let known = PANELS.map(|[(what, _), ..]| what);
+        let wrong = |column: usize, due: &str| {
+            format!("{} is {due}: {:?}", HEADER[column], &record[column])
         };
-        let time = cell(6).parse().ok();
+        let count = |column: usize| {
+            let count = record[column].parse().ok().filter(|count| *count > 0);
+            count.ok_or_else(|| wrong(column, "no count"))
+        };
+        if !known.contains(&&record[0]) {
+            return Err(wrong(0, &format!("none of {}", known.join(", "))));
+        }
+        let time = record[6].parse().ok();
         let time = time.filter(|time| (0.0..1e9).contains(time));
         Ok(Measured {
-            grows: cell(0).into(),
+            grows: record[0].into(),
             curves: count(1)?,
             trades: count(2)?,
             scenarios: count(3)?,
-            milliseconds: time.ok_or_else(|| format!("{} is no time: {:?}", HEADER[6], cell(6)))?,
+            milliseconds: time.ok_or_else(|| wrong(6, "no time"))?,
         })
     }
 }

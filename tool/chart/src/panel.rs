@@ -17,7 +17,14 @@ pub struct Axis<'t> {
     pub scale: Scale,
 }
 
-impl Axis<'_> {
+impl<'t> Axis<'t> {
+    /// With room at both ends, a share of the scale's length.
+    pub fn roomy(title: &'t str, scale: Scale, share: f64) -> Self {
+        let room = share * scale.length();
+        let scale = scale.with_room(room, room);
+        Axis { title, scale }
+    }
+
     /// The room that the labels and the title of an upward axis need.
     pub fn breadth(&self) -> i32 {
         let labels = self.scale.labels().map(|label| width(&label, TEXT));
@@ -70,14 +77,14 @@ impl<'a, 'p> Panel<'a, 'p> {
         self.chart.draw_series(points).map(drop)
     }
 
-    /// Bars of a width from 0 to points, each high enough to be seen.
-    pub fn bars(&mut self, points: &[Point], width: f64, look: &Look) -> Drawn {
-        let (_, pixels) = self.chart.plotting_area().dim_in_pixel();
-        let Range { start, end } = self.chart.y_range();
-        let least = 3.0 * (end - start) / f64::from(pixels);
+    /// Bars from 0 to points, each large enough to be seen.
+    pub fn bars(&mut self, points: &[Point], look: &Look) -> Drawn {
+        let (wide, high) = self.chart.plotting_area().dim_in_pixel();
+        let half = 2.0 * length(self.chart.x_range()) / f64::from(wide);
+        let least = 3.0 * length(self.chart.y_range()) / f64::from(high);
         let bar = |(x, y): &Point| {
             let top = y.abs().max(least).copysign(*y);
-            let corners = [(x - width / 2.0, 0.0), (x + width / 2.0, top)];
+            let corners = [(x - half, 0.0), (x + half, top)];
             Rectangle::new(corners, look.line.filled())
         };
         self.chart.draw_series(points.iter().map(bar)).map(drop)
@@ -96,4 +103,8 @@ impl<'a, 'p> Panel<'a, 'p> {
         let label = EmptyElement::at(point) + text;
         self.chart.plotting_area().draw(&label)
     }
+}
+
+fn length(range: Range<f64>) -> f64 {
+    range.end - range.start
 }

@@ -18,7 +18,7 @@ pub struct Node {
     pub rate: u32,
 }
 
-/// The sums of a day's cash flows, in hundredths.
+/// The sums of a day's cash flows, in hundredths; a day once in a ladder.
 #[derive(Clone, Copy, Debug)]
 pub struct DayFlows {
     /// From today.
@@ -47,27 +47,24 @@ pub struct Rates<'a> {
 const SIZE: (u32, u32) = (1200, 900);
 const RATES_HEIGHT: i32 = 460;
 
-/// Of the length of the axis.
-const BAR_WIDTH: f64 = 0.004;
-
 impl Rates<'_> {
     /// The picture as SVG text.
     pub fn draw(&self) -> String {
         page(SIZE, |area| {
             let area = self.heading.draw(area, "rates and cash flows by day")?;
             let (upper, lower) = area.split_vertically(RATES_HEIGHT);
-            let currency = format!("cash flows, {}", self.heading.currency);
-            let (rates, sums) = (self.rate_axis(), self.sum_axis(&currency));
+            let title = format!("cash flows, {}", self.heading.currency);
+            let (rates, sums) = (self.rate_axis(), self.sum_axis(&title));
             let left = rates.breadth().max(sums.breadth());
-            self.draw_rates(&upper, left, &rates)?;
-            self.draw_ladder(&lower, left, &sums)
+            let last_day = self.last_day();
+            let days = day_axis(last_day);
+            let upper = rate_legend(&upper, self.stressed.len())?;
+            let lower = ladder_legend(&lower)?;
+            let above = Panel::new(&upper, left, &days, &rates)?;
+            let below = Panel::new(&lower, left, &days, &sums)?;
+            self.draw_rates(above, last_day)?;
+            self.draw_ladder(below)
         })
-    }
-
-    fn last_day(&self) -> u32 {
-        let nodes = self.curves().flatten().map(|node| node.day);
-        let flows = self.flows.iter().map(|flows| flows.day);
-        nodes.chain(flows).max().unwrap_or(0).max(1)
     }
 
     fn curves(&self) -> impl Iterator<Item = &[Node]> {
@@ -75,13 +72,10 @@ impl Rates<'_> {
         stressed.chain([self.base, self.worst])
     }
 
-    fn day_axis(&self) -> Axis<'static> {
-        let scale = Scale::whole(self.last_day(), 12);
-        let room = 0.01 * scale.length();
-        Axis {
-            title: "days from today",
-            scale: scale.with_room(room, room),
-        }
+    fn last_day(&self) -> u32 {
+        let nodes = self.curves().flatten().map(|node| node.day);
+        let flows = self.flows.iter().map(|flows| flows.day);
+        nodes.chain(flows).max().unwrap_or(0).max(1)
     }
 
     /// At least half a percent of what rates can be.
@@ -93,44 +87,7 @@ impl Rates<'_> {
         let widened = (0.25 - (high - low) / 2.0).max(0.0);
         let low = (low - widened).clamp(0.0, 99.5);
         let high = (high + widened).clamp(0.5, 100.0);
-        let scale = Scale::new(low, high, 8);
-        let room = 0.05 * scale.length();
-        Axis {
-            title: "rate, percent",
-            scale: scale.with_room(room, room),
-        }
-    }
-
-    fn draw_rates(&self, area: &Area, left: i32, rates: &Axis) -> Drawn {
-        let faint = if self.stressed.len() < 50 { 1.0 } else { 0.4 };
-        let stressed = Look::new(GREY.mix(faint), 1, Marker::None);
-        let base = Look::new(BLACK, 5, Marker::Circle(5));
-        let worst = Look::new(VERMILLION, 3, Marker::Triangle(8));
-        let entries = [
-            (base, "the curve".to_string()),
-            (worst, "stressed curve with the worst loss".to_string()),
-            (stressed, count(self.stressed.len(), "stressed curve")),
-        ];
-        let area = legend(area, &entries)?;
-        let mut panel = Panel::new(&area, left, &self.day_axis(), rates)?;
-        for nodes in self.stressed {
-            panel.line(self.carried_on(nodes), &stressed)?;
-        }
-        for (nodes, look) in [(self.base, base), (self.worst, worst)] {
-            panel.line(self.carried_on(nodes), &look)?;
-            panel.points(&points(nodes), &look)?;
-        }
-        Ok(())
-    }
-
-    /// The nodes, with the end nodes' rates carried on to both ends.
-    fn carried_on(&self, nodes: &[Node]) -> Vec<Point> {
-        let mut points = points(nodes);
-        if let (Some(first), Some(last)) = (points.first().copied(), points.last().copied()) {
-            points.insert(0, (0.0, first.1));
-            points.push((f64::from(self.last_day()), last.1));
-        }
-        points
+        Axis::roomy("rate, percent", Scale::new(low, high, 8), 0.05)
     }
 
     /// From the largest sum out to the largest sum in.
@@ -140,24 +97,22 @@ impl Rates<'_> {
         let outgoing = units(largest(|flows| flows.outgoing));
         let least = (0.1 * incoming.max(outgoing)).max(1.0);
         let scale = Scale::new(-outgoing.max(least), incoming.max(least), 8);
-        let room = 0.05 * scale.length();
-        Axis {
-            title,
-            scale: scale.with_room(room, room),
-        }
+        Axis::roomy(title, scale, 0.05)
     }
 
-    fn draw_ladder(&self, area: &Area, left: i32, sums: &Axis) -> Drawn {
-        let incoming = Look::new(BLUE, 1, Marker::Bar);
-        let outgoing = Look::new(ORANGE, 1, Marker::Bar);
-        let entries = [
-            (incoming, "in, upwards".to_string()),
-            (outgoing, "out, downwards".to_string()),
-        ];
-        let area = legend(area, &entries)?;
-        let days = self.day_axis();
-        let mut panel = Panel::new(&area, left, &days, sums)?;
-        let width = BAR_WIDTH * days.scale.length();
+    fn draw_rates(&self, mut panel: Panel, last_day: u32) -> Drawn {
+        let look = stressed_look(self.stressed.len());
+        for nodes in self.stressed {
+            panel.line(carried_on(nodes, last_day), &look)?;
+        }
+        for (nodes, look) in [(self.base, base_look()), (self.worst, worst_look())] {
+            panel.line(carried_on(nodes, last_day), &look)?;
+            panel.points(&points(nodes), &look)?;
+        }
+        Ok(())
+    }
+
+    fn draw_ladder(&self, mut panel: Panel) -> Drawn {
         let bars = |sum: fn(&DayFlows) -> f64| -> Vec<Point> {
             let sums = self
                 .flows
@@ -165,10 +120,63 @@ impl Rates<'_> {
                 .map(|flows| (flows.day.into(), sum(flows)));
             sums.filter(|(_, sum)| *sum != 0.0).collect()
         };
-        panel.bars(&bars(|flows| units(flows.incoming)), width, &incoming)?;
-        panel.bars(&bars(|flows| -units(flows.outgoing)), width, &outgoing)?;
+        panel.bars(&bars(|flows| units(flows.incoming)), &incoming_look())?;
+        panel.bars(&bars(|flows| -units(flows.outgoing)), &outgoing_look())?;
         panel.zero()
     }
+}
+
+fn stressed_look(count: usize) -> Look {
+    let opacity = if count < 50 { 1.0 } else { 0.4 };
+    Look::new(GREY.mix(opacity), 1, Marker::None)
+}
+
+/// Wide, so that it shows under the worst where they are one.
+fn base_look() -> Look {
+    Look::new(BLACK, 6, Marker::Circle(6))
+}
+
+fn worst_look() -> Look {
+    Look::new(VERMILLION, 3, Marker::Triangle(8))
+}
+
+fn incoming_look() -> Look {
+    Look::new(BLUE, 1, Marker::Bar)
+}
+
+fn outgoing_look() -> Look {
+    Look::new(ORANGE, 1, Marker::Bar)
+}
+
+fn rate_legend<'p>(area: &Area<'p>, stressed: usize) -> Drawn<Area<'p>> {
+    let entries = [
+        (base_look(), "the curve".into()),
+        (worst_look(), "stressed curve with the worst loss".into()),
+        (stressed_look(stressed), count(stressed, "stressed curve")),
+    ];
+    legend(area, &entries)
+}
+
+fn ladder_legend<'p>(area: &Area<'p>) -> Drawn<Area<'p>> {
+    let entries = [
+        (incoming_look(), "in, upwards".into()),
+        (outgoing_look(), "out, downwards".into()),
+    ];
+    legend(area, &entries)
+}
+
+fn day_axis(last_day: u32) -> Axis<'static> {
+    Axis::roomy("days from today", Scale::whole(last_day, 12), 0.01)
+}
+
+/// The nodes, with the end nodes' rates carried on to both ends.
+fn carried_on(nodes: &[Node], last_day: u32) -> Vec<Point> {
+    let mut points = points(nodes);
+    if let (Some(first), Some(last)) = (points.first().copied(), points.last().copied()) {
+        points.insert(0, (0.0, first.1));
+        points.push((last_day.into(), last.1));
+    }
+    points
 }
 
 fn points(nodes: &[Node]) -> Vec<Point> {
