@@ -16,18 +16,18 @@ static void print_bytes(const uint8_t *bytes, size_t count) {
     printf("\n");
 }
 
-#define SHOW(type, format, number)                                                         \
-    do {                                                                                   \
-        struct {                                                                           \
-            uint8_t before;                                                                \
-            seddolki_##type field;                                                         \
-            uint8_t behind;                                                                \
-        } place;                                                                           \
-        memset(&place, PAINT, sizeof place);                                               \
-        seddolki_set_##type(&place.field, number);                                         \
-        expect(place.before == PAINT && place.behind == PAINT, "bytes around " #type " stay"); \
-        printf(#type " %" format, seddolki_get_##type(&place.field));                      \
-        print_bytes(place.field.bytes, sizeof place.field.bytes);                          \
+#define SHOW(type, format, number)                                                      \
+    do {                                                                                \
+        struct {                                                                        \
+            uint8_t before;                                                             \
+            seddolki_##type field;                                                      \
+            uint8_t behind;                                                             \
+        } place;                                                                        \
+        memset(&place, PAINT, sizeof place);                                            \
+        seddolki_set_##type(&place.field, number);                                      \
+        expect(place.before == PAINT && place.behind == PAINT, "bytes around stay");    \
+        printf(#type " %" format, seddolki_get_##type(&place.field));                   \
+        print_bytes(place.field.bytes, sizeof place.field.bytes);                       \
     } while (0)
 
 static void show_unsigned(void) {
