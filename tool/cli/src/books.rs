@@ -8,7 +8,7 @@ use seddolki::Book;
 use seddolki_format::block::BLOCK;
 use seddolki_format::limits::MAX_BLOCKS;
 use seddolki_model::accept::{self, accept};
-use seddolki_store::{self as store, shown, Input, Patience};
+use seddolki_store::{self as store, shown, Input, Patience, Written};
 use std::path::Path;
 use std::time::Duration;
 
@@ -76,10 +76,16 @@ pub fn edit<T>(
         let given = change(&name, &mut book)?;
         Ok::<_, Ended>((book.as_bytes().to_vec(), given))
     })?;
-    if let Some(warning) = edited.warning {
+    Ok(settled(edited))
+}
+
+/// Says what went wrong after a file had its new bytes: it is written all
+/// the same.
+pub fn settled<T>(written: Written<T>) -> T {
+    if let Some(warning) = written.warning {
         print::say(&warning);
     }
-    Ok(edited.given)
+    written.result
 }
 
 pub fn patience(waiting: Waiting) -> Patience<'static> {

@@ -18,6 +18,8 @@ pub fn curve(file: &BookFile, id: u8) -> Result<&Curve, Ended> {
     let found = curves.iter().find(|curve| curve.id == id);
     found.ok_or_else(|| {
         let (name, last) = (&file.name, curves.len());
-        Ended::refused(format!("{name}: there is no curve {id}: its curves are 1 to {last}"))
+        Ended::refused(format!(
+            "{name}: there is no curve {id}: its curves are 1 to {last}"
+        ))
     })
 }

@@ -2,6 +2,7 @@
 
 use crate::ended::Ended;
 use crate::refusal::book_refused;
+use crate::trade_text::faults_told;
 use seddolki::{Book, Record};
 use seddolki_format::assemble;
 use seddolki_store::Input;
@@ -9,11 +10,7 @@ use seddolki_text::curve_file::{self, CurveFile};
 
 /// The curves of a file; every fault is told with its line.
 pub fn read_curves(name: &str, input: &Input) -> Result<CurveFile, Ended> {
-    let told = |faults: Vec<seddolki_text::Fault>| {
-        let lines = faults.iter().map(|fault| format!("{name}: {fault}"));
-        Ended::Refused(lines.collect())
-    };
-    curve_file::read(&input.bytes).map_err(told)
+    curve_file::read(&input.bytes).map_err(|faults| faults_told(name, &faults))
 }
 
 /// A book of a file's curves and these trades, if the engine accepts it.

@@ -1,7 +1,7 @@
 //! What one book has and another has not.
 
-use crate::trade_text::written;
 use crate::table::{Table, Value};
+use crate::trade_text::written;
 use crate::words;
 use seddolki::Record;
 use seddolki_format::block::{Curve, Node};
@@ -66,11 +66,20 @@ fn curve_differences(rows: &mut Rows, id: usize, before: Option<&Curve>, behind:
     rows.change("curve", Some(id), "steps", text(steps));
     rows.change("curve", Some(id), "ranges", text(ranges));
     let nodes = both.map(|curve| curve.map_or(&[][..], Curve::nodes));
-    let mut days: Vec<u16> = nodes.iter().flat_map(|nodes| nodes.iter()).map(|node| node.day).collect();
+    let mut days: Vec<u16> = nodes
+        .iter()
+        .flat_map(|nodes| nodes.iter())
+        .map(|node| node.day)
+        .collect();
     days.sort_unstable();
     days.dedup();
     for day in days {
-        let on_day = |nodes: &[Node]| nodes.iter().find(|node| node.day == day).map_or(String::new(), node);
+        let on_day = |nodes: &[Node]| {
+            nodes
+                .iter()
+                .find(|node| node.day == day)
+                .map_or(String::new(), node)
+        };
         let column = format!("node of day {day}");
         rows.change("curve", Some(id), &column, nodes.map(on_day));
     }
@@ -85,7 +94,10 @@ fn steps(curve: &Curve) -> String {
 }
 
 fn ranges(curve: &Curve) -> String {
-    curve.ranges.map(|range| decimal(range, COEFFICIENT)).join(" ")
+    curve
+        .ranges
+        .map(|range| decimal(range, COEFFICIENT))
+        .join(" ")
 }
 
 fn node(node: &Node) -> String {
@@ -110,10 +122,20 @@ fn trade_differences(rows: &mut Rows, before: &[Record], behind: &[Record]) {
                 continue;
             }
             if i < gone.len() {
-                rows.change("trade", Some(a), "", [words::trade(&before[a]), String::new()]);
+                rows.change(
+                    "trade",
+                    Some(a),
+                    "",
+                    [words::trade(&before[a]), String::new()],
+                );
             }
             if i < come.len() {
-                rows.change("trade", Some(b), "", [String::new(), words::trade(&behind[b])]);
+                rows.change(
+                    "trade",
+                    Some(b),
+                    "",
+                    [String::new(), words::trade(&behind[b])],
+                );
             }
         }
     }
@@ -138,7 +160,9 @@ fn replaced(before: &[Record], behind: &[Record]) -> Vec<Replaced> {
     let mut all = vec![];
     while a < before.len() || b < behind.len() {
         let (from_a, from_b) = (a, b);
-        while (a < before.len() || b < behind.len()) && !(a < before.len() && b < behind.len() && before[a] == behind[b]) {
+        while (a < before.len() || b < behind.len())
+            && !(a < before.len() && b < behind.len() && before[a] == behind[b])
+        {
             if b == behind.len() || (a < before.len() && common[a + 1][b] >= common[a][b + 1]) {
                 a += 1;
             } else {
@@ -146,7 +170,10 @@ fn replaced(before: &[Record], behind: &[Record]) -> Vec<Replaced> {
             }
         }
         if (from_a, from_b) != (a, b) {
-            all.push(Replaced { before: from_a..a, behind: from_b..b });
+            all.push(Replaced {
+                before: from_a..a,
+                behind: from_b..b,
+            });
         }
         while a < before.len() && b < behind.len() && before[a] == behind[b] {
             a += 1;

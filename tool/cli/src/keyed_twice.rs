@@ -14,10 +14,15 @@ pub struct Told {
 impl Told {
     /// Refuses what looks keyed twice, unless it is meant; the rest is to be
     /// told. A trade is named by its place.
-    pub fn of(doubles: &[Double], again: bool, named: impl Fn(&Placed) -> String) -> Result<Self, Ended> {
+    pub fn of(
+        doubles: &[Double],
+        again: bool,
+        named: impl Fn(&Placed) -> String,
+    ) -> Result<Self, Ended> {
         let lines = |refused: bool| -> Vec<String> {
             let own = doubles.iter().filter(|d| d.likeness.refused() == refused);
-            own.flat_map(|double| double_lines(double, &named)).collect()
+            own.flat_map(|double| double_lines(double, &named))
+                .collect()
         };
         let refused = lines(true);
         if !again && !refused.is_empty() {

@@ -22,6 +22,7 @@ mod valued;
 mod words;
 
 use arguments::Arguments;
+use clap::error::ErrorKind;
 use clap::Parser;
 use ended::Ended;
 use std::process::ExitCode;
@@ -42,5 +43,8 @@ fn help_or_misuse(error: &clap::Error) -> Result<u8, Ended> {
         return Ok(ended::DONE);
     }
     let text = text.trim_end().trim_start_matches("error: ");
+    if error.kind() == ErrorKind::DisplayHelpOnMissingArgumentOrSubcommand {
+        return Err(Ended::Misused(format!("no command is given\n\n{text}")));
+    }
     Err(Ended::Misused(text.to_owned()))
 }

@@ -1,7 +1,7 @@
 //! Files that the tool writes besides books.
 
 use crate::arguments::Output;
-use crate::books::patience;
+use crate::books::{patience, settled};
 use crate::ended::Ended;
 use seddolki_store::{self as store, Input};
 use std::path::Path;
@@ -9,6 +9,7 @@ use std::path::Path;
 /// Writes a file, and never over one of the inputs.
 pub fn write(path: &Path, text: &str, output: &Output, inputs: &[&Input]) -> Result<(), Ended> {
     let patience = patience(output.waiting);
-    store::write_output(path, text.as_bytes(), output.force, inputs, &patience)?;
+    let written = store::write_output(path, text.as_bytes(), output.force, inputs, &patience)?;
+    settled(written);
     Ok(())
 }

@@ -4,7 +4,7 @@
 use seddolki::{Book, Ground, Record, Refusal};
 use seddolki_format::block::Curve;
 use seddolki_format::limits::{FULL_BLOCK, MAX_BLOCKS};
-use seddolki_model::fault::{book_fault, record_fault, BookFault, Fault};
+use seddolki_model::{book_fault, record_fault, BookFault, Fault};
 use seddolki_text::columns::Column;
 
 /// Where a refused book breaks its rule, and why.

@@ -96,10 +96,7 @@ impl Table {
         let shown: Vec<usize> = places
             .filter(|&i| !left_out.contains(&self.columns[i]))
             .collect();
-        let mut lines: Vec<Vec<String>> = vec![shown
-            .iter()
-            .map(|&i| self.columns[i].replace('_', " "))
-            .collect()];
+        let mut lines: Vec<Vec<String>> = vec![shown.iter().map(|&i| self.heading(i)).collect()];
         let cells = |row: &Vec<Value>| shown.iter().map(|&i| row[i].for_people()).collect();
         lines.extend(self.rows.iter().map(cells));
         let left: Vec<bool> = shown.iter().map(|&i| self.is_text(i)).collect();
@@ -108,6 +105,18 @@ impl Table {
 
     pub fn text(&self) -> String {
         self.text_without(&[])
+    }
+
+    /// A column's name; of `step_2` behind `step_1` the number alone.
+    fn heading(&self, column: usize) -> String {
+        let before = column.checked_sub(1).map(|i| self.columns[i]);
+        let stem = |name: &'static str| name.rsplit_once('_');
+        match (stem(self.columns[column]), before.and_then(stem)) {
+            (Some((own, number)), Some((other, _))) if own == other && number.len() == 1 => {
+                number.to_owned()
+            }
+            _ => self.columns[column].replace('_', " "),
+        }
     }
 
     fn is_text(&self, column: usize) -> bool {
@@ -165,12 +174,19 @@ pub fn csv(tables: &[Table], decimals: Decimals) -> String {
             names.push(name);
         }
     }
-    let separator = decimals.separator();
+    let delimiter = if decimals == Decimals::Comma {
+        b';'
+    } else {
+        b','
+    };
     let mut out = csv::WriterBuilder::new()
-        .delimiter(separator)
+        .delimiter(delimiter)
         .from_writer(vec![]);
     let several = tables.len() > 1;
-    let mut lines = vec![line(several.then_some("table"), names.iter().map(|n| (*n).to_owned()))];
+    let mut lines = vec![line(
+        several.then_some("table"),
+        names.iter().map(|n| (*n).to_owned()),
+    )];
     for table in tables {
         for row in &table.rows {
             let cell = |name: &&str| {
@@ -181,7 +197,8 @@ pub fn csv(tables: &[Table], decimals: Decimals) -> String {
         }
     }
     for line in lines {
-        out.write_record(line).expect("memory takes every record of one length");
+        out.write_record(line)
+            .expect("memory takes every record of one length");
     }
     let bytes = out.into_inner().expect("memory is flushed");
     String::from_utf8(bytes).expect("texts are written as they are")

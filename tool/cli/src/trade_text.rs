@@ -6,24 +6,20 @@ use crate::table::Value;
 use seddolki::{Book, Record};
 use seddolki_format::block::Curve;
 use seddolki_text::columns::{Column, Unit, COLUMNS};
-use seddolki_text::Fault;
+use seddolki_text::trade::values_of;
+use seddolki_text::{Decimals, Fault};
 
 /// What stands on each side of the equals signs.
 pub fn named_values(arguments: &[String]) -> Result<Vec<(&'static Column, &str)>, Ended> {
-    let named = |argument: &'_ String| {
-        let (name, value) = argument.split_once('=')?;
-        Some((name, value))
-    };
-    let mut values = vec![];
-    let mut unknown = vec![];
+    let (mut values, mut unknown) = (vec![], vec![]);
     for argument in arguments {
         let Some((name, value)) = argument.split_once('=') else {
             let reason = format!("{argument}: a column and its value are written COLUMN=VALUE");
             return Err(Ended::Misused(reason));
         };
-        match Column::named(name) {
-            Some(column) => values.push((column, value.trim())),
-            None => unknown.push(format!("there is no column {name}")),
+        match Column::find(name) {
+            Ok(column) => values.push((column, value)),
+            Err(fault) => unknown.push(fault.to_string()),
         }
     }
     if unknown.is_empty() {
@@ -50,5 +46,18 @@ pub fn cells(record: &Record) -> Vec<Value> {
 }
 
 fn cell(column: &Column, record: &Record) -> Value {
-    Value::Nothing
+    if !column.is_used(record) {
+        return Value::Nothing;
+    }
+    match column.unit {
+        Unit::Words(_) => Value::Text(column.text(record, Decimals::Point)),
+        Unit::Number(quantity) if quantity.places == 0 => Value::Whole(column.get(record).into()),
+        Unit::Number(quantity) => Value::Decimal(column.get(record).into(), quantity.places),
+    }
+}
+
+/// The columns of a trade as texts, each behind its name.
+pub fn written(record: &Record) -> Vec<(&'static str, String)> {
+    let values = values_of(record, Decimals::Point).into_iter();
+    values.map(|(column, text)| (column.name, text)).collect()
 }

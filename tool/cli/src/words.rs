@@ -1,9 +1,9 @@
 //! Trades and their cash flows in plain words.
 
-use crate::decimal::{format as decimal, MONEY, PERCENT};
 use seddolki::Record;
 use seddolki_format::record::{COUPONS, FIRST_SIDE, INDEXED_COUPONS, POOL, SINGLE_PAYMENT};
 use seddolki_model::flows::{cash_flows, signs_of, CashFlow};
+use seddolki_text::decimal::{format as decimal, MONEY, PERCENT};
 
 /// A number of things.
 pub fn count(number: usize, thing: &str) -> String {

@@ -39,7 +39,10 @@ fn a_line_twice_is_refused() {
     let whole = format!("{WHOLE}{NODES}");
     for line in ["account 5\n", "steps 1 0 0\n", "ranges 1 0 0\n"] {
         let reason = refused(format!("{whole}{line}"));
-        assert!(reason.contains("line 7") && reason.contains("twice"), "{reason}");
+        assert!(
+            reason.contains("line 7") && reason.contains("twice"),
+            "{reason}"
+        );
     }
 }
 
@@ -48,7 +51,10 @@ fn a_byte_order_mark_and_ends_of_lines_of_windows_are_taken() {
     let desk = Desk::new();
     let text = format!("\u{feff}{WHOLE}{NODES}").replace('\n', "\r\n");
     desk.write("curves.txt", text);
-    assert_eq!(desk.done(&["new", "new.book", "curves.txt"]), "new.book: account 5, 1 curve, no trades\n");
+    assert_eq!(
+        desk.done(&["new", "new.book", "curves.txt"]),
+        "new.book: account 5, 1 curve, no trades\n"
+    );
 }
 
 #[test]
@@ -60,7 +66,10 @@ fn bad_lines_are_named() {
         (WHOLE.replace("1 0 0", "1 0"), "line 3"),
         (WHOLE.replace("steps 1 0 0", "steps 1 0 256"), "line 3"),
         (format!("{WHOLE}node 1 x 0 0 0\n"), "line 5"),
-        (format!("{WHOLE}{}", "node 1 1 1 1 1\n".repeat(25)), "line 29"),
+        (
+            format!("{WHOLE}{}", "node 1 1 1 1 1\n".repeat(25)),
+            "line 29",
+        ),
     ] {
         let reason = refused(&text);
         assert!(reason.contains(words), "{text}: {reason}");
@@ -71,9 +80,18 @@ fn bad_lines_are_named() {
 fn limits_are_the_engine_s_and_told_with_their_line() {
     let whole = format!("{WHOLE}{NODES}");
     for (text, words) in [
-        (whole.replace("steps 1", "steps 4"), ["line 2, curve 1: refused by ground 5", "0 to 3"]),
-        (whole.replace("node 9", "node 1"), ["line 2, curve 1: refused by ground 6", "node 2 of 2"]),
-        (whole.replace("node 9 10", "node 9 101"), ["refused by ground 6", "100.0000%"]),
+        (
+            whole.replace("steps 1", "steps 4"),
+            ["line 2, curve 1: refused by ground 5", "0 to 3"],
+        ),
+        (
+            whole.replace("node 9", "node 1"),
+            ["line 2, curve 1: refused by ground 6", "node 2 of 2"],
+        ),
+        (
+            whole.replace("node 9 10", "node 9 101"),
+            ["refused by ground 6", "100.0000%"],
+        ),
     ] {
         let reason = refused(&text);
         for word in words {
@@ -82,7 +100,10 @@ fn limits_are_the_engine_s_and_told_with_their_line() {
     }
     let curve = whole.replace("account 5\n", "");
     let reason = refused(format!("account 5\n{}", curve.repeat(9)));
-    assert!(reason.contains("refused by ground 4 in block 0"), "{reason}");
+    assert!(
+        reason.contains("refused by ground 4 in block 0"),
+        "{reason}"
+    );
 }
 
 #[test]
@@ -97,15 +118,23 @@ fn curves_are_replaced_and_trades_kept() {
     let before = desk.read("desk.book");
     // of another account, with a curve fewer than the trades use, of another currency
     for (script, words) in [
-        ("s/account 1042/account 7/", "account 7, and desk.book is of account 1042"),
+        (
+            "s/account 1042/account 7/",
+            "account 7, and desk.book is of account 1042",
+        ),
         ("/curve USD/,$d", "refused by ground 8"),
         ("s/USD/EUR/;0,/TRY/s//USD/", "refused by ground 11"),
     ] {
-        desk.shell(&format!("\"$0\" export --curves desk.book | sed '{script}' > wrong.txt"));
+        desk.shell(&format!(
+            "\"$0\" export --curves desk.book | sed '{script}' > wrong.txt"
+        ));
         let reason = desk.refused(&["curves", "desk.book", "wrong.txt"]);
         assert!(reason.contains(words), "{reason}");
         assert_eq!(desk.read("desk.book"), before);
     }
     desk.done(&["curves", "desk.book", &example("desk-curves.txt")]);
-    assert_eq!(desk.read("desk.book"), std::fs::read(example("desk.book")).unwrap());
+    assert_eq!(
+        desk.read("desk.book"),
+        std::fs::read(example("desk.book")).unwrap()
+    );
 }

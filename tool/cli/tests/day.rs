@@ -9,10 +9,14 @@ const README: &str = include_str!("../../../README.md");
 
 /// The commands of the first list of five in a text, a line each.
 fn commands(text: &str) -> Vec<&str> {
-    let lines = text.lines().map(|line| line.trim().trim_start_matches("$ "));
+    let lines = text
+        .lines()
+        .map(|line| line.trim().trim_start_matches("$ "));
     let all: Vec<&str> = lines.collect();
     let runs = all.windows(5);
-    let day = runs.into_iter().find(|run| run.iter().all(|line| line.starts_with("seddolki ")));
+    let day = runs
+        .into_iter()
+        .find(|run| run.iter().all(|line| line.starts_with("seddolki ")));
     day.expect("five commands").to_vec()
 }
 
@@ -30,7 +34,10 @@ fn margin_of_the_day(commands: &[&str]) -> String {
 fn the_help_shows_a_day_that_runs_as_written() {
     let help = Desk::new().done(&["help"]);
     let margin = margin_of_the_day(&commands(&help));
-    assert!(margin.starts_with("account ") && margin.contains("\ncurrency"), "{margin}");
+    assert!(
+        margin.starts_with("account ") && margin.contains("\ncurrency"),
+        "{margin}"
+    );
     assert_eq!(commands(&help), commands(README));
 }
 
@@ -55,7 +62,9 @@ fn every_command_has_help_a_place_in_the_manual_and_completions() {
         .collect();
     assert_eq!(names.len(), 19, "{names:?}");
     for name in names.iter().filter(|name| **name != "help") {
-        assert!(desk.done(&[name, "--help"]).contains(&format!("Usage: seddolki {name}")));
+        assert!(desk
+            .done(&[name, "--help"])
+            .contains(&format!("Usage: seddolki {name}")));
         assert!(manual.contains(&format!("\n.SS {name}\n")), "{name}");
         assert!(completions.contains(&format!("seddolki__{name}")), "{name}");
     }

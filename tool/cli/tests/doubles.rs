@@ -20,8 +20,12 @@ const REPO: [&str; 9] = [
 /// With some of its columns otherwise.
 fn repo_with(changed: &[&str]) -> Vec<String> {
     let name = |value: &str| value.split('=').next().unwrap().to_owned();
-    let kept = REPO.iter().filter(|value| changed.iter().all(|other| name(other) != name(value)));
-    kept.chain(changed).map(|value| (*value).to_owned()).collect()
+    let kept = REPO
+        .iter()
+        .filter(|value| changed.iter().all(|other| name(other) != name(value)));
+    kept.chain(changed)
+        .map(|value| (*value).to_owned())
+        .collect()
 }
 
 fn append<'a>(desk: &Desk, trade: &[String], more: &[&'a str]) -> tool::Run {
@@ -41,21 +45,52 @@ fn with_repo() -> Desk {
 
 #[test]
 fn what_looks_keyed_twice_is_refused_unless_it_is_meant() {
-    let settled = ["kind=pool repo", "phase=3", "value_day_1=0", "security=single payment", "security_curve=1", "nominal=110000", "first_payment_day=90"];
+    let settled = [
+        "kind=pool repo",
+        "phase=3",
+        "value_day_1=0",
+        "security=single payment",
+        "security_curve=1",
+        "nominal=110000",
+        "first_payment_day=90",
+    ];
     // 100,000.00 at 13.2% for 7 days: interest 253.15, withholding 37.97
-    let taken_back = ["side=reverse repo", "value_day_1=8", "value_day_2=9", "term=1", "repo_cash=100215.18", "repo_rate=13"];
+    let taken_back = [
+        "side=reverse repo",
+        "value_day_1=8",
+        "value_day_2=9",
+        "term=1",
+        "repo_cash=100215.18",
+        "repo_rate=13",
+    ];
     for (changed, words) in [
-        (&[][..], "the new trade is the same as trade 11, byte for byte"),
+        (
+            &[][..],
+            "the new trade is the same as trade 11, byte for byte",
+        ),
         (&settled, "the new trade is the second leg of trade 11"),
-        (&taken_back, "the new trade begins with the second leg of trade 11"),
+        (
+            &taken_back,
+            "the new trade begins with the second leg of trade 11",
+        ),
     ] {
         let desk = with_repo();
         let before = desk.read("desk.book");
         let trade = repo_with(changed);
         let run = append(&desk, &trade, &[]);
-        assert_eq!((run.status, run.out.as_str()), (REFUSED, ""), "{words}: {}", run.err);
+        assert_eq!(
+            (run.status, run.out.as_str()),
+            (REFUSED, ""),
+            "{words}: {}",
+            run.err
+        );
         assert!(run.err.contains(words), "{}", run.err);
-        assert!(run.err.contains("  trade 11: repo member in a pool repo, phase 1"), "{}", run.err);
+        assert!(
+            run.err
+                .contains("  trade 11: repo member in a pool repo, phase 1"),
+            "{}",
+            run.err
+        );
         assert!(run.err.contains("--again"), "{}", run.err);
         assert_eq!(desk.read("desk.book"), before);
         let run = append(&desk, &trade, &["--again"]);
@@ -68,22 +103,41 @@ fn what_looks_keyed_twice_is_refused_unless_it_is_meant() {
 #[test]
 fn the_first_leg_behind_its_settled_one_is_found_too() {
     let desk = Desk::with("desk.book");
-    let trade = ["kind=specified repo", "phase=2", "security=single payment", "security_curve=1", "nominal=110000", "first_payment_day=90", "value_day_1=0"];
+    let trade = [
+        "kind=specified repo",
+        "phase=2",
+        "security=single payment",
+        "security_curve=1",
+        "nominal=110000",
+        "first_payment_day=90",
+        "value_day_1=0",
+    ];
     assert_eq!(append(&desk, &repo_with(&trade), &[]).status, DONE);
     let run = append(&desk, &repo_with(&[]), &[]);
     assert_eq!(run.status, REFUSED);
-    assert!(run.err.contains("trade 11 is the second leg of the new trade"), "{}", run.err);
+    assert!(
+        run.err
+            .contains("trade 11 is the second leg of the new trade"),
+        "{}",
+        run.err
+    );
 }
 
 #[test]
 fn one_field_and_the_opposite_side_are_told_and_taken() {
     for (changed, words) in [
-        (["repo_cash=200000"], "differs from trade 11 in one field only: repo cash"),
+        (
+            ["repo_cash=200000"],
+            "differs from trade 11 in one field only: repo cash",
+        ),
         (["side=reverse repo"], "is the opposite side of trade 11"),
     ] {
         let desk = with_repo();
         let run = append(&desk, &repo_with(&changed), &[]);
-        assert_eq!((run.status, run.out.as_str()), (DONE, "desk.book: trade 12 is added\n"));
+        assert_eq!(
+            (run.status, run.out.as_str()),
+            (DONE, "desk.book: trade 12 is added\n")
+        );
         assert!(run.err.contains(words), "{}", run.err);
         assert_eq!(desk.trades("desk.book"), 13);
     }
@@ -96,7 +150,12 @@ fn a_file_is_not_imported_twice() {
     let before = desk.read("empty.book");
     let run = desk.run(&["import", "empty.book", &example("buyer.csv")]);
     assert_eq!(run.status, REFUSED);
-    assert!(run.err.contains("imported already: its 1 trade stand in empty.book, at position 0"), "{}", run.err);
+    assert!(
+        run.err
+            .contains("imported already: its 1 trade stand in empty.book, at position 0"),
+        "{}",
+        run.err
+    );
     assert_eq!(desk.read("empty.book"), before);
     let run = desk.run(&["import", "empty.book", &example("buyer.csv"), "--again"]);
     assert_eq!(run.status, DONE);
@@ -112,7 +171,10 @@ fn doubles_within_a_file_are_told_by_line_and_at_once() {
     desk.write("trades.csv", text);
     let run = desk.run(&["import", "desk.book", "trades.csv"]);
     assert_eq!(run.status, REFUSED);
-    for words in ["line 4 of trades.csv is the same as line 2 of trades.csv", "line 5 of trades.csv is the same as line 3 of trades.csv"] {
+    for words in [
+        "line 4 of trades.csv is the same as line 2 of trades.csv",
+        "line 5 of trades.csv is the same as line 3 of trades.csv",
+    ] {
         assert!(run.err.contains(words), "{}", run.err);
     }
     assert_eq!(desk.trades("desk.book"), 11);
@@ -121,7 +183,10 @@ fn doubles_within_a_file_are_told_by_line_and_at_once() {
 #[test]
 fn an_amended_trade_is_looked_at_too() {
     let desk = with_repo();
-    assert_eq!(append(&desk, &repo_with(&["repo_cash=5"]), &[]).status, DONE);
+    assert_eq!(
+        append(&desk, &repo_with(&["repo_cash=5"]), &[]).status,
+        DONE
+    );
     let run = desk.run(&["amend", "desk.book", "12", "repo_cash=100000"]);
     assert_eq!(run.status, REFUSED, "{}", run.err);
     assert!(run.err.contains("is the same as trade 11"), "{}", run.err);
@@ -134,9 +199,15 @@ fn a_whole_book_is_searched() {
     let desk = with_repo();
     assert_eq!(append(&desk, &repo_with(&[]), &["--again"]).status, DONE);
     let text = desk.done(&["check", "--doubles", "desk.book"]);
-    assert!(text.contains("trade 12 is the same as trade 11, byte for byte"), "{text}");
+    assert!(
+        text.contains("trade 12 is the same as trade 11, byte for byte"),
+        "{text}"
+    );
     let csv = desk.done(&["check", "--doubles", "--csv", "desk.book"]);
-    assert!(csv.contains("doubles,desk.book,") && csv.contains("same"), "{csv}");
+    assert!(
+        csv.contains("doubles,desk.book,") && csv.contains("same"),
+        "{csv}"
+    );
     let clean = Desk::with("desk.book").done(&["check", "--doubles", "desk.book"]);
     assert!(clean.contains("no trade looks keyed twice"), "{clean}");
 }

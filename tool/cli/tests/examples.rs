@@ -30,9 +30,15 @@ fn books_are_made_from_curves_and_trades() {
 fn a_buyers_margin() {
     let desk = Desk::with("buyer.book");
     let text = desk.done(&["margin", "buyer.book"]);
-    let words: Vec<Vec<&str>> = text.lines().map(|line| line.split_whitespace().collect()).collect();
+    let words: Vec<Vec<&str>> = text
+        .lines()
+        .map(|line| line.split_whitespace().collect())
+        .collect();
     assert_eq!(words[0], ["account", "7"]);
-    assert_eq!(words[3], ["1", "TRY", "100.00", "300.00", "2", "+3.00", "0.00", "0.00", "0.01"]);
+    assert_eq!(
+        words[3],
+        ["1", "TRY", "100.00", "300.00", "2", "+3.00", "0.00", "0.00", "0.01"]
+    );
     assert_eq!(words[6], ["TRY", "300.00", "100.00", "-200.00"]);
 }
 
@@ -43,7 +49,10 @@ fn a_sellers_margin() {
     let words: Vec<&str> = text.split_whitespace().collect();
     let figures = ["-100.00", "200.00", "0", "-3.00", "0.00", "0.00", "0.01"];
     assert!(words.windows(7).any(|run| run == figures), "{text}");
-    assert!(words.ends_with(&["TRY", "200.00", "-100.00", "-300.00"]), "{text}");
+    assert!(
+        words.ends_with(&["TRY", "200.00", "-100.00", "-300.00"]),
+        "{text}"
+    );
 }
 
 #[test]
@@ -99,8 +108,16 @@ fn a_trade_is_appended_and_struck() {
         "clean_price=70",
     ];
     let run = desk.run(&opposite);
-    assert_eq!((run.status, run.out.as_str()), (0, "buyer.book: trade 1 is added\n"));
-    assert!(run.err.contains("the new trade is the opposite side of trade 0"), "{}", run.err);
+    assert_eq!(
+        (run.status, run.out.as_str()),
+        (0, "buyer.book: trade 1 is added\n")
+    );
+    assert!(
+        run.err
+            .contains("the new trade is the opposite side of trade 0"),
+        "{}",
+        run.err
+    );
     let text = desk.done(&["margin", "buyer.book"]);
     let words: Vec<&str> = text.split_whitespace().collect();
     assert!(words.ends_with(&["TRY", "0.00", "0.00", "0.00"]), "{text}");
@@ -113,35 +130,82 @@ fn a_trade_is_appended_and_struck() {
 fn a_trade_is_amended_in_its_place() {
     let desk = Desk::with("desk.book");
     let before = desk.done(&["export", "desk.book"]);
-    let text = desk.done(&["amend", "desk.book", "1", "clean_price=91.25", "value_day_1=3"]);
-    assert!(text.starts_with("desk.book: trade 1 is now: sells 2,500,000.00"), "{text}");
+    let text = desk.done(&[
+        "amend",
+        "desk.book",
+        "1",
+        "clean_price=91.25",
+        "value_day_1=3",
+    ]);
+    assert!(
+        text.starts_with("desk.book: trade 1 is now: sells 2,500,000.00"),
+        "{text}"
+    );
     let behind = desk.done(&["export", "desk.book"]);
-    let changed: Vec<usize> = (0..).zip(before.lines().zip(behind.lines())).filter(|(_, (a, b))| a != b).map(|(i, _)| i).collect();
+    let changed: Vec<usize> = (0..)
+        .zip(before.lines().zip(behind.lines()))
+        .filter(|(_, (a, b))| a != b)
+        .map(|(i, _)| i)
+        .collect();
     assert_eq!(changed, [2]);
     let diff = desk.done(&["diff", "desk.book", &example("desk.book"), "--csv"]);
     let rows: Vec<&str> = diff.lines().skip(1).collect();
-    assert_eq!(rows, ["trade,1,value_day_1,3,2", "trade,1,clean_price,91.2500,91.2000"]);
+    assert_eq!(
+        rows,
+        [
+            "trade,1,value_day_1,3,2",
+            "trade,1,clean_price,91.2500,91.2000"
+        ]
+    );
     let reason = desk.refused(&["amend", "desk.book", "11", "term=7"]);
     assert!(reason.contains("ground 14"), "{reason}");
     let reason = desk.refused(&["amend", "desk.book", "3", "term=6"]);
-    assert!(reason.contains("column term: 6 is there, 7 is due"), "{reason}");
+    assert!(
+        reason.contains("column term: 6 is there, 7 is due"),
+        "{reason}"
+    );
 }
 
 #[test]
 fn two_books_are_told_apart() {
     let desk = Desk::with("desk.book");
     std::fs::copy(desk.path("desk.book"), desk.path("other.book")).unwrap();
-    assert_eq!(desk.done(&["diff", "desk.book", "other.book"]), "desk.book and other.book hold the same\n");
+    assert_eq!(
+        desk.done(&["diff", "desk.book", "other.book"]),
+        "desk.book and other.book hold the same\n"
+    );
     desk.done(&["strike", "other.book", "4"]);
-    desk.run(&["append", "other.book", "kind=pool repo", "side=repo", "phase=1", "cash_curve=2", "value_day_1=5", "value_day_2=6", "term=1", "repo_cash=77", "repo_rate=9"]);
+    desk.run(&[
+        "append",
+        "other.book",
+        "kind=pool repo",
+        "side=repo",
+        "phase=1",
+        "cash_curve=2",
+        "value_day_1=5",
+        "value_day_2=6",
+        "term=1",
+        "repo_cash=77",
+        "repo_rate=9",
+    ]);
     let diff = desk.done(&["diff", "desk.book", "other.book", "--csv"]);
     let rows: Vec<&str> = diff.lines().skip(1).collect();
     assert_eq!(rows.len(), 2, "{diff}");
-    assert!(rows[0].starts_with("trade,4,,\"reverse-repo member in a pool repo") && rows[0].ends_with(','), "{diff}");
-    assert!(rows[1].starts_with("trade,10,,,\"repo member in a pool repo, phase 1: cash 77.00"), "{diff}");
+    assert!(
+        rows[0].starts_with("trade,4,,\"reverse-repo member in a pool repo")
+            && rows[0].ends_with(','),
+        "{diff}"
+    );
+    assert!(
+        rows[1].starts_with("trade,10,,,\"repo member in a pool repo, phase 1: cash 77.00"),
+        "{diff}"
+    );
     std::fs::copy(example("buyer.book"), desk.path("buyer.book")).unwrap();
     let diff = desk.done(&["diff", "desk.book", "buyer.book"]);
-    assert!(diff.contains("account") && diff.contains("node of day 365"), "{diff}");
+    assert!(
+        diff.contains("account") && diff.contains("node of day 365"),
+        "{diff}"
+    );
 }
 
 #[test]
@@ -149,14 +213,21 @@ fn flows_are_netted_by_day_and_curve() {
     let desk = Desk::with("desk.book");
     let text = desk.done(&["flows", "desk.book", "--curve", "2", "--csv"]);
     // on day 1: 3,000,000.00 of trade 3 in; trade 4 takes its second leg in; trade 0 and 2 stand on curve 1
-    let day: Vec<&str> = text.lines().filter(|line| line.starts_with("2,TRY,1,")).collect();
+    let day: Vec<&str> = text
+        .lines()
+        .filter(|line| line.starts_with("2,TRY,1,"))
+        .collect();
     assert_eq!(day, ["2,TRY,1,5000612.46,0.00,5000612.46"]);
     let total = |text: &str| -> i64 {
-        let net = text.lines().skip(1).map(|line| line.rsplit(',').next().unwrap().replace('.', ""));
+        let net = text
+            .lines()
+            .skip(1)
+            .map(|line| line.rsplit(',').next().unwrap().replace('.', ""));
         net.map(|net| net.parse::<i64>().unwrap()).sum()
     };
     let all = desk.done(&["flows", "desk.book", "--csv"]);
-    let each = ["1", "2", "3"].map(|id| total(&desk.done(&["flows", "desk.book", "--csv", "--curve", id])));
+    let each = ["1", "2", "3"]
+        .map(|id| total(&desk.done(&["flows", "desk.book", "--csv", "--curve", id])));
     assert_eq!(total(&all), each.iter().sum::<i64>());
     let reason = desk.refused(&["flows", "desk.book", "--curve", "4"]);
     assert!(reason.contains("its curves are 1 to 3"), "{reason}");
@@ -166,18 +237,26 @@ fn flows_are_netted_by_day_and_curve() {
 fn losses_are_those_of_the_margin() {
     let desk = Desk::with("desk.book");
     let text = desk.done(&["losses", "desk.book", "--csv"]);
-    let worst: Vec<&str> = text.lines().filter(|line| line.ends_with(",worst")).collect();
+    let worst: Vec<&str> = text
+        .lines()
+        .filter(|line| line.ends_with(",worst"))
+        .collect();
     assert_eq!((text.lines().count(), worst.len()), (1 + 343 + 7 + 21, 3));
     let margin = desk.done(&["margin", "desk.book", "--csv"]);
     for (line, worst) in margin.lines().skip(1).zip(worst) {
-        let (figures, worst): (Vec<&str>, Vec<&str>) = (line.split(',').collect(), worst.split(',').collect());
+        let (figures, worst): (Vec<&str>, Vec<&str>) =
+            (line.split(',').collect(), worst.split(',').collect());
         assert_eq!(figures[3..5], worst[..2]);
         assert_eq!((figures[6], figures[7]), (worst[6], worst[2]));
     }
     // the trades of a curve add up to its figures, which stand in its last row
     let trades = desk.done(&["losses", "--trades", "desk.book", "--curve", "1", "--csv"]);
     let cents = |text: &str| text.replace('.', "").parse::<i64>().unwrap();
-    let rows: Vec<Vec<&str>> = trades.lines().skip(1).map(|line| line.splitn(7, ',').collect()).collect();
+    let rows: Vec<Vec<&str>> = trades
+        .lines()
+        .skip(1)
+        .map(|line| line.splitn(7, ',').collect())
+        .collect();
     let (all, each) = rows.split_last().unwrap();
     for column in [4, 5] {
         let sum: i64 = each.iter().map(|row| cents(row[column])).sum();
@@ -195,7 +274,9 @@ fn grounds_are_explained() {
     assert!(desk.done(&["explain", "9"]).contains("730"));
     assert_eq!(desk.run(&["explain", "17"]).status, tool::MISUSED);
     assert_eq!(desk.run(&["explain", "0"]).status, tool::MISUSED);
-    assert!(desk.done(&["explain", "9", "buyer.book"]).contains("buyer.book: accepted"));
+    assert!(desk
+        .done(&["explain", "9", "buyer.book"])
+        .contains("buyer.book: accepted"));
 }
 
 #[test]
@@ -225,11 +306,24 @@ fn a_refused_book_is_told_with_place_field_and_limit_by_every_command() {
     ] {
         let run = desk.run(arguments);
         assert_eq!(run.status, tool::REFUSED, "{arguments:?}");
-        assert!(run.err.contains("bad.book: refused by ground 9 in block 2: "), "{arguments:?}: {}", run.err);
-        assert!(run.err.contains("trade 0 (block 2, record 1 of its 1), field first_payment_day: "), "{}", run.err);
+        assert!(
+            run.err
+                .contains("bad.book: refused by ground 9 in block 2: "),
+            "{arguments:?}: {}",
+            run.err
+        );
+        assert!(
+            run.err
+                .contains("trade 0 (block 2, record 1 of its 1), field first_payment_day: "),
+            "{}",
+            run.err
+        );
     }
     assert_eq!(desk.read("bad.book"), bytes);
     let text = desk.done(&["explain", "9", "bad.book"]);
-    assert!(text.contains("bad.book: refused by ground 9 in block 2"), "{text}");
+    assert!(
+        text.contains("bad.book: refused by ground 9 in block 2"),
+        "{text}"
+    );
     assert_eq!(desk.files(), ["bad.book", "buyer.book", "trades.csv"]);
 }

@@ -45,7 +45,12 @@ fn a_failed_write_leaves_the_book_and_nothing_else() {
         format!("new new.book '{}'", example("desk-curves.txt")),
     ] {
         let run = desk.shell(&format!("{NO_ROOM} \"$0\" {command}"));
-        assert_eq!((run.status, run.out.as_str()), (FAILED, ""), "{command}: {}", run.err);
+        assert_eq!(
+            (run.status, run.out.as_str()),
+            (FAILED, ""),
+            "{command}: {}",
+            run.err
+        );
         assert_eq!(run.err.lines().count(), 1);
         assert_eq!(desk.read("desk.book"), before);
         assert_eq!(desk.files(), ["desk.book"], "{command}");
@@ -115,7 +120,10 @@ fn a_book_with_several_hard_links_is_refused_with_the_reason() {
     let before = desk.read("buyer.book");
     let reason = desk.ended(FAILED, &["strike", "buyer.book", "0"]);
     assert!(reason.contains("2 hard links"), "{reason}");
-    assert_eq!([desk.read("buyer.book"), desk.read("other.book")], [before.clone(), before]);
+    assert_eq!(
+        [desk.read("buyer.book"), desk.read("other.book")],
+        [before.clone(), before]
+    );
     fs::remove_file(desk.path("other.book")).unwrap();
     desk.done(&["strike", "buyer.book", "0"]);
 }
@@ -147,9 +155,18 @@ fn at_most_one_byte_more_than_the_largest_book_is_read() {
     let desk = Desk::new();
     let endless = desk.shell("ulimit -v 400000; timeout 20 \"$0\" check /dev/zero");
     assert_eq!(endless.status, 1, "{}", endless.err);
-    assert!(endless.err.contains("refused by ground 1"), "{}", endless.err);
-    let long = desk.shell("truncate -s 400M long.book; ulimit -v 400000; timeout 20 \"$0\" check long.book");
-    assert!(long.status == 1 && long.err.contains("refused by ground 1"), "{}", long.err);
+    assert!(
+        endless.err.contains("refused by ground 1"),
+        "{}",
+        endless.err
+    );
+    let long = desk
+        .shell("truncate -s 400M long.book; ulimit -v 400000; timeout 20 \"$0\" check long.book");
+    assert!(
+        long.status == 1 && long.err.contains("refused by ground 1"),
+        "{}",
+        long.err
+    );
     let text = desk.shell("ulimit -v 400000; timeout 20 \"$0\" new new.book /dev/zero");
     assert_eq!(text.status, 1, "{}", text.err);
     assert_eq!(desk.files(), ["long.book"]);

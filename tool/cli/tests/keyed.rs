@@ -35,11 +35,36 @@ fn refused(form: &str, line: &str, column: &str, words: &[&str]) {
 
 #[test]
 fn texts_that_are_no_value_of_their_column() {
-    refused(REPO, "swap,repo,1,2,1,8,7,500,13", "kind", &["swap", "outright, pool repo or specified repo"]);
-    refused(REPO, "pool repo,repo,1,2,1,8,7,lots,13", "repo_cash", &["lots"]);
-    refused(REPO, "pool repo,repo,1,2,1,8,7,5.001,13", "repo_cash", &["5.001", "2 decimals"]);
-    refused(REPO, "pool repo,repo,1,2,-1,8,7,500,13", "value_day_1", &["-1"]);
-    refused(REPO, "pool repo,repo,1,2,1,8,70000,500,13", "term", &["70000"]);
+    refused(
+        REPO,
+        "swap,repo,1,2,1,8,7,500,13",
+        "kind",
+        &["swap", "outright, pool repo or specified repo"],
+    );
+    refused(
+        REPO,
+        "pool repo,repo,1,2,1,8,7,lots,13",
+        "repo_cash",
+        &["lots"],
+    );
+    refused(
+        REPO,
+        "pool repo,repo,1,2,1,8,7,5.001,13",
+        "repo_cash",
+        &["5.001", "2 decimals"],
+    );
+    refused(
+        REPO,
+        "pool repo,repo,1,2,-1,8,7,500,13",
+        "value_day_1",
+        &["-1"],
+    );
+    refused(
+        REPO,
+        "pool repo,repo,1,2,1,8,70000,500,13",
+        "term",
+        &["70000"],
+    );
     let refusal = import(&format!("{REPO}pool repo,repo,1,2,1,8,7,500\n"));
     assert!(refusal.starts_with("trades.csv: line 3"), "{refusal}");
     let refusal = import(&format!("{REPO}pool repo,\"repo,1\n"));
@@ -60,23 +85,77 @@ fn sides_fit_their_kind() {
         let run = desk.run(&["append", "desk.book", &kind, &side, "cash_curve=2"]);
         assert_eq!(run.status, REFUSED);
         let line = run.err.lines().find(|line| line.contains("column side: "));
-        assert!(line.is_some_and(|line| line.contains(allowed)), "{}", run.err);
+        assert!(
+            line.is_some_and(|line| line.contains(allowed)),
+            "{}",
+            run.err
+        );
     }
     assert_eq!(desk.read("desk.book"), before);
 }
 
 #[test]
 fn numbers_that_the_engine_refuses_are_told_by_column() {
-    refused(REPO, "pool repo,repo,1,4,1,8,7,500,13", "cash_curve", &["4 is there", "1 to 3", "ground 8"]);
-    refused(REPO, "pool repo,repo,4,2,1,8,7,500,13", "phase", &["4 is there", "1 to 3"]);
-    refused(REPO, "pool repo,repo,1,2,1,8,6,500,13", "term", &["6 is there", "7 is due", "ground 9 in block 5"]);
-    refused(REPO, "pool repo,repo,1,2,1,8,7,,13", "repo_cash", &["ground 10"]);
-    refused(REPO, "pool repo,repo,1,2,1,8,7,500,101", "repo_rate", &["101", "100", "ground 10"]);
-    refused(REPO, "pool repo,repo,1,2,0,365,365,10000000000,50", "repo_cash", &["ground 12", "10,000,000,000.00"]);
-    refused(BOND, "outright,buyer,1,coupons,3,1,1,90,91,4,2,99", "security_curve", &["USD", "TRY", "ground 11"]);
-    refused(BOND, "outright,buyer,1,coupons,1,1,1,1,91,4,2,99", "first_payment_day", &["ground 9"]);
-    refused(BOND, "outright,buyer,1,coupons,1,1,1,90,367,4,2,99", "period", &["367", "1 to 366"]);
-    refused(BOND, "outright,buyer,1,single payment,1,1,1,90,,,2,99", "coupon", &["single payment"]);
+    refused(
+        REPO,
+        "pool repo,repo,1,4,1,8,7,500,13",
+        "cash_curve",
+        &["4 is there", "1 to 3", "ground 8"],
+    );
+    refused(
+        REPO,
+        "pool repo,repo,4,2,1,8,7,500,13",
+        "phase",
+        &["4 is there", "1 to 3"],
+    );
+    refused(
+        REPO,
+        "pool repo,repo,1,2,1,8,6,500,13",
+        "term",
+        &["6 is there", "7 is due", "ground 9 in block 5"],
+    );
+    refused(
+        REPO,
+        "pool repo,repo,1,2,1,8,7,,13",
+        "repo_cash",
+        &["ground 10"],
+    );
+    refused(
+        REPO,
+        "pool repo,repo,1,2,1,8,7,500,101",
+        "repo_rate",
+        &["101", "100", "ground 10"],
+    );
+    refused(
+        REPO,
+        "pool repo,repo,1,2,0,365,365,10000000000,50",
+        "repo_cash",
+        &["ground 12", "10,000,000,000.00"],
+    );
+    refused(
+        BOND,
+        "outright,buyer,1,coupons,3,1,1,90,91,4,2,99",
+        "security_curve",
+        &["USD", "TRY", "ground 11"],
+    );
+    refused(
+        BOND,
+        "outright,buyer,1,coupons,1,1,1,1,91,4,2,99",
+        "first_payment_day",
+        &["ground 9"],
+    );
+    refused(
+        BOND,
+        "outright,buyer,1,coupons,1,1,1,90,367,4,2,99",
+        "period",
+        &["367", "1 to 366"],
+    );
+    refused(
+        BOND,
+        "outright,buyer,1,single payment,1,1,1,90,,,2,99",
+        "coupon",
+        &["single payment"],
+    );
 }
 
 #[test]
@@ -87,28 +166,70 @@ fn the_right_column_is_blamed() {
         assert_eq!(run.status, REFUSED, "{values:?}");
         run.err
     };
-    let no_kind = blamed(&["side=buyer", "cash_curve=1", "security=single payment", "security_curve=1", "nominal=5", "first_payment_day=9", "clean_price=99"]);
+    let no_kind = blamed(&[
+        "side=buyer",
+        "cash_curve=1",
+        "security=single payment",
+        "security_curve=1",
+        "nominal=5",
+        "first_payment_day=9",
+        "clean_price=99",
+    ]);
     assert!(no_kind.contains("column kind: "), "{no_kind}");
     assert!(!no_kind.contains("clean_price"), "{no_kind}");
-    let no_security = blamed(&["kind=specified repo", "side=repo", "phase=1", "cash_curve=2", "value_day_1=1", "value_day_2=8", "term=7", "repo_cash=5", "repo_rate=9"]);
+    let no_security = blamed(&[
+        "kind=specified repo",
+        "side=repo",
+        "phase=1",
+        "cash_curve=2",
+        "value_day_1=1",
+        "value_day_2=8",
+        "term=7",
+        "repo_cash=5",
+        "repo_rate=9",
+    ]);
     assert!(no_security.contains("column security: "), "{no_security}");
-    assert!(no_security.contains("single payment, coupons or indexed coupons"), "{no_security}");
-    let no_indices = blamed(&["kind=outright", "side=buyer", "cash_curve=1", "security=indexed coupons", "security_curve=1", "nominal=5", "first_payment_day=9", "period=9", "payments=2", "coupon=1", "clean_price=99"]);
-    assert!(no_indices.contains("column settlement_index: "), "{no_indices}");
+    assert!(
+        no_security.contains("single payment, coupons or indexed coupons"),
+        "{no_security}"
+    );
+    let no_indices = blamed(&[
+        "kind=outright",
+        "side=buyer",
+        "cash_curve=1",
+        "security=indexed coupons",
+        "security_curve=1",
+        "nominal=5",
+        "first_payment_day=9",
+        "period=9",
+        "payments=2",
+        "coupon=1",
+        "clean_price=99",
+    ]);
+    assert!(
+        no_indices.contains("column settlement_index: "),
+        "{no_indices}"
+    );
     assert!(no_indices.contains("1 to 10,000,000"), "{no_indices}");
 }
 
 #[test]
 fn a_full_book_is_said_to_be_full() {
     let desk = Desk::with("empty.book");
-    let head = "kind,side,cash_curve,security,security_curve,nominal,first_payment_day,clean_price\n";
-    let lines = (1..=1_134).map(|nominal| format!("outright,buyer,1,single payment,1,{nominal},9,99\n"));
+    let head =
+        "kind,side,cash_curve,security,security_curve,nominal,first_payment_day,clean_price\n";
+    let lines =
+        (1..=1_134).map(|nominal| format!("outright,buyer,1,single payment,1,{nominal},9,99\n"));
     desk.write("full.csv", head.to_owned() + &lines.collect::<String>());
     desk.run(&["import", "empty.book", "full.csv"]);
     assert_eq!(desk.trades("empty.book"), 1_134);
     let run = desk.append("empty.book", &tool::outright(5_000));
     assert_eq!(run.status, REFUSED);
-    assert!(run.err.contains("ground 15") && run.err.contains("full with 1,134 trades"), "{}", run.err);
+    assert!(
+        run.err.contains("ground 15") && run.err.contains("full with 1,134 trades"),
+        "{}",
+        run.err
+    );
     assert!(!run.err.contains("column"), "{}", run.err);
 }
 
@@ -123,7 +244,10 @@ fn a_column_is_given_once() {
         assert!(run.err.contains("column nominal: "), "{}", run.err);
     }
     assert_eq!(desk.read("buyer.book"), before);
-    assert_eq!(desk.run(&["append", "buyer.book", "nominal"]).status, MISUSED);
+    assert_eq!(
+        desk.run(&["append", "buyer.book", "nominal"]).status,
+        MISUSED
+    );
 }
 
 #[test]
@@ -135,10 +259,17 @@ fn every_wrong_line_is_told_at_once() {
     desk.write("trades.csv", format!("{REPO}{lines}"));
     let run = desk.run(&["import", "desk.book", "trades.csv"]);
     assert_eq!(run.status, REFUSED);
-    for words in ["line 3, column kind", "line 5, column side", "line 5, column repo_cash"] {
+    for words in [
+        "line 3, column kind",
+        "line 5, column side",
+        "line 5, column repo_cash",
+    ] {
         assert!(run.err.contains(words), "{}", run.err);
     }
-    desk.write("trades.csv", format!("{REPO}pool repo,repo,1,2,1,8,6,5,1\npool repo,repo,1,9,1,8,7,5,1\n"));
+    desk.write(
+        "trades.csv",
+        format!("{REPO}pool repo,repo,1,2,1,8,6,5,1\npool repo,repo,1,9,1,8,7,5,1\n"),
+    );
     let run = desk.run(&["import", "desk.book", "trades.csv"]);
     for words in ["line 3, column term", "line 4, column cash_curve"] {
         assert!(run.err.contains(words), "{}", run.err);
@@ -161,16 +292,30 @@ fn column_names_are_looked_at_first() {
 #[test]
 fn a_turkish_spreadsheet_is_read_and_no_number_is_guessed() {
     let desk = Desk::with("desk.book");
-    let semicolons = "kind;side;phase;cash_curve;value_day_1;value_day_2;term;repo_cash;repo_rate\n\
+    let semicolons =
+        "kind;side;phase;cash_curve;value_day_1;value_day_2;term;repo_cash;repo_rate\n\
                       pool repo;repo;1;2;1;8;7;1.234.567,89;13,25\n";
     desk.write("trades.csv", semicolons);
     desk.done(&["import", "desk.book", "trades.csv"]);
     let shown = desk.done(&["show", "desk.book"]);
-    assert!(shown.contains("trade 11: repo member in a pool repo, phase 1: cash 1,234,567.89 at 13.2500%"), "{shown}");
+    assert!(
+        shown.contains(
+            "trade 11: repo member in a pool repo, phase 1: cash 1,234,567.89 at 13.2500%"
+        ),
+        "{shown}"
+    );
     for rate in ["13.250", "13.25"] {
-        desk.write("trades.csv", semicolons.replace("13,25", rate).replace("567,89", "567,88"));
+        desk.write(
+            "trades.csv",
+            semicolons
+                .replace("13,25", rate)
+                .replace("567,89", "567,88"),
+        );
         let refusal = desk.refused(&["import", "desk.book", "trades.csv"]);
-        assert!(refusal.contains("column repo_rate: ") && refusal.contains(rate), "{refusal}");
+        assert!(
+            refusal.contains("column repo_rate: ") && refusal.contains(rate),
+            "{refusal}"
+        );
     }
     let tabs = semicolons.replace(';', "\t").replace("567,89", "567,87");
     desk.write("trades.csv", tabs.replace("13,25", "13,250"));

@@ -25,11 +25,18 @@ fn control_characters_are_escaped() {
     for command in ["check", "margin"] {
         let name = format!("{clear}.book");
         let text = desk.done(&[command, &name, "buyer.book"]);
-        assert!(!text.contains('\u{1b}') && text.contains("[2J.book"), "{text:?}");
+        assert!(
+            !text.contains('\u{1b}') && text.contains("[2J.book"),
+            "{text:?}"
+        );
     }
     desk.write("trades.csv", "kind,side\n\u{1b}[31m,\u{7}\n");
     let run = desk.run(&["import", "buyer.book", "trades.csv"]);
-    assert!(run.status == REFUSED && !run.err.contains(['\u{1b}', '\u{7}']), "{:?}", run.err);
+    assert!(
+        run.status == REFUSED && !run.err.contains(['\u{1b}', '\u{7}']),
+        "{:?}",
+        run.err
+    );
 }
 
 #[test]
@@ -39,8 +46,17 @@ fn names_need_not_be_utf_8() {
     std::fs::copy(example("buyer.book"), desk.path(&name)).unwrap();
     let run = desk.run(&[OsStr::new("check"), &name]);
     assert_eq!(run.status, DONE, "{}", run.err);
-    assert!(run.out.starts_with("b\\xfc\\xe7er.book: accepted"), "{}", run.out);
-    let run = desk.run(&[OsStr::new("amend"), &name, OsStr::new("0"), OsStr::new("nominal=5")]);
+    assert!(
+        run.out.starts_with("b\\xfc\\xe7er.book: accepted"),
+        "{}",
+        run.out
+    );
+    let run = desk.run(&[
+        OsStr::new("amend"),
+        &name,
+        OsStr::new("0"),
+        OsStr::new("nominal=5"),
+    ]);
     assert_eq!(run.status, DONE, "{}", run.err);
     let value = OsStr::from_bytes(b"kind=\xff");
     let run = desk.run(&[OsStr::new("append"), &name, value]);
@@ -65,11 +81,18 @@ fn names_may_be_as_long_as_the_system_allows() {
 fn two_dashes_end_the_options() {
     let desk = Desk::with("buyer.book");
     std::fs::copy(desk.path("buyer.book"), desk.path("--json")).unwrap();
-    assert!(desk.done(&["check", "--", "--json"]).starts_with("--json: accepted"));
+    assert!(desk
+        .done(&["check", "--", "--json"])
+        .starts_with("--json: accepted"));
     desk.done(&["amend", "--again", "--", "--json", "0", "nominal=5"]);
     let json = desk.done(&["margin", "--json", "--", "--json"]);
     assert!(json.starts_with('{'), "{json}");
-    assert_eq!(desk.ended(MISUSED, &["strike", "--", "-1", "x"]).lines().count(), 1);
+    assert_eq!(
+        desk.ended(MISUSED, &["strike", "--", "-1", "x"])
+            .lines()
+            .count(),
+        1
+    );
 }
 
 #[test]

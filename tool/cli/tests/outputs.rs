@@ -24,7 +24,10 @@ fn a_file_that_is_there_is_kept_unless_force_is_said() {
         let desk = Desk::with("desk.book");
         desk.write("out", "my notes");
         let reason = desk.ended(FAILED, &with_name(writer, "out"));
-        assert!(reason.starts_with("out: ") && reason.contains("--force"), "{reason}");
+        assert!(
+            reason.starts_with("out: ") && reason.contains("--force"),
+            "{reason}"
+        );
         assert_eq!(desk.read("out"), b"my notes");
         let forced = with_name(writer, "out").into_iter().chain(["--force"]);
         desk.run(&forced.collect::<Vec<_>>());
@@ -42,7 +45,13 @@ fn an_input_is_never_written_over_by_any_name() {
             symlink("desk.book", desk.path("link")).unwrap();
             fs::hard_link(desk.path("desk.book"), desk.path("hard")).unwrap();
             fs::create_dir(desk.path("folder")).unwrap();
-            for name in ["desk.book", "./desk.book", "folder/../desk.book", "link", "hard"] {
+            for name in [
+                "desk.book",
+                "./desk.book",
+                "folder/../desk.book",
+                "link",
+                "hard",
+            ] {
                 let arguments = [&with_name(writer, name)[..], force].concat();
                 desk.ended(FAILED, &arguments);
                 assert_eq!(desk.read("desk.book"), before, "{arguments:?}");
@@ -55,7 +64,8 @@ fn an_input_is_never_written_over_by_any_name() {
 #[test]
 fn what_is_no_file_is_written_through() {
     let desk = Desk::with("desk.book");
-    let run = desk.shell("mkfifo pipe; cat pipe > got & \"$0\" export desk.book pipe; wait; test -p pipe");
+    let run = desk
+        .shell("mkfifo pipe; cat pipe > got & \"$0\" export desk.book pipe; wait; test -p pipe");
     assert_eq!((run.status, run.err.as_str()), (DONE, ""));
     let exported = desk.done(&["export", "desk.book"]);
     assert_eq!(desk.read("got"), exported.as_bytes());

@@ -21,7 +21,11 @@ fn edits_at_the_same_time_are_all_kept() {
     let desk = Desk::with("buyer.book");
     let adding: Vec<_> = (1..=8)
         .map(|nominal| {
-            let arguments = [vec!["append".into(), "buyer.book".into()], outright(nominal)].concat();
+            let arguments = [
+                vec!["append".into(), "buyer.book".into()],
+                outright(nominal),
+            ]
+            .concat();
             let mut command = desk.tool(&arguments);
             command.stdout(Stdio::null()).stderr(Stdio::null());
             command.spawn().unwrap()
@@ -46,7 +50,11 @@ fn a_lock_is_waited_for_and_told_and_then_given_up() {
     assert_eq!((run.status, run.out.as_str()), (FAILED, ""));
     let lines: Vec<&str> = run.err.lines().collect();
     assert_eq!(lines.len(), 2, "{}", run.err);
-    assert!(lines[0].contains("buyer.book: waiting up to 1 s for "), "{}", lines[0]);
+    assert!(
+        lines[0].contains("buyer.book: waiting up to 1 s for "),
+        "{}",
+        lines[0]
+    );
     assert!(lines[1].contains("buyer.book: "), "{}", lines[1]);
     assert_eq!(desk.read("buyer.book"), before);
     let run = desk.run(&["strike", "buyer.book", "0", "--wait", "0"]);
@@ -64,12 +72,18 @@ fn a_lock_that_is_let_go_in_time_is_taken() {
     let held = File::open(desk.path(".")).unwrap();
     held.lock().unwrap();
     let mut command = desk.tool(&["strike", "buyer.book", "0"]);
-    let child = command.stdout(Stdio::null()).stderr(Stdio::piped()).spawn().unwrap();
+    let child = command
+        .stdout(Stdio::null())
+        .stderr(Stdio::piped())
+        .spawn()
+        .unwrap();
     sleep(Duration::from_millis(400));
     drop(held);
     let output = child.wait_with_output().unwrap();
     assert_eq!(output.status.code(), Some(DONE));
-    assert!(String::from_utf8(output.stderr).unwrap().contains("waiting up to 10 s"));
+    assert!(String::from_utf8(output.stderr)
+        .unwrap()
+        .contains("waiting up to 10 s"));
     assert_eq!(desk.trades("buyer.book"), 0);
 }
 
@@ -100,7 +114,12 @@ fn killed_edits_leave_a_whole_book_and_the_next_edit_tidies_up() {
         assert!((before..=before + 1).contains(&desk.trades("buyer.book")));
         left += temporary(&desk).len();
         if !temporary(&desk).is_empty() {
-            desk.done(&["amend", "buyer.book", "0", &format!("nominal={}", round + 1)]);
+            desk.done(&[
+                "amend",
+                "buyer.book",
+                "0",
+                &format!("nominal={}", round + 1),
+            ]);
             assert_eq!(desk.files(), ["buyer.book"]);
         }
     }

@@ -33,7 +33,10 @@ fn drawn_books_are_shown_and_drawn() {
         let desk = Desk::new();
         desk.write("a.book", assemble(&book));
         for command in ["show", "margin", "flows", "losses"] {
-            assert!(!desk.done(&[command, "a.book"]).is_empty(), "seed {seed}: {command}");
+            assert!(
+                !desk.done(&[command, "a.book"]).is_empty(),
+                "seed {seed}: {command}"
+            );
         }
         desk.done(&["plot", "a.book", "1", "rates.svg"]);
         desk.done(&["plot", "--losses", "a.book", "1", "losses.svg"]);
@@ -61,11 +64,24 @@ fn every_column_of_every_kind_is_amended() {
         let mut lines = line.lines();
         let names: Vec<&str> = lines.next().unwrap().split(',').collect();
         let values: Vec<&str> = lines.nth(1).unwrap().split(',').collect();
-        let pairs = names.iter().zip(values).map(|(name, value)| format!("{name}={value}"));
-        let mut arguments = vec!["amend".to_owned(), "--again".into(), "a.book".into(), "0".into()];
+        let pairs = names
+            .iter()
+            .zip(values)
+            .map(|(name, value)| format!("{name}={value}"));
+        let mut arguments = vec![
+            "amend".to_owned(),
+            "--again".into(),
+            "a.book".into(),
+            "0".into(),
+        ];
         arguments.extend(pairs);
         let run = desk.run(&arguments);
-        assert_eq!(run.status, tool::DONE, "seed {seed}: {from:?} {to:?} {}", run.err);
+        assert_eq!(
+            run.status,
+            tool::DONE,
+            "seed {seed}: {from:?} {to:?} {}",
+            run.err
+        );
         let amended = Book::from_bytes(desk.read("a.book"));
         let records: Vec<Record> = amended.records().unwrap().collect();
         assert_eq!(records[0], to);

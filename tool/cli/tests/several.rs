@@ -18,10 +18,17 @@ fn margins_of_several_books_have_totals() {
     let text = desk.done(&["margin", "buyer.book", "seller.book", "desk.book"]);
     let lines: Vec<&str> = text.lines().collect();
     assert!(lines[0].starts_with("book "), "{text}");
-    assert!(lines[1].starts_with("buyer.book ") && lines[1].ends_with("300.00         100.00        -200.00"), "{text}");
+    assert!(
+        lines[1].starts_with("buyer.book ")
+            && lines[1].ends_with("300.00         100.00        -200.00"),
+        "{text}"
+    );
     // of buyer.book and seller.book alone: 300 + 200, 100 - 100, -200 - 300
     let pair = desk.done(&["margin", "buyer.book", "seller.book", "--csv"]);
-    assert!(pair.contains("\ntotals,,,,TRY,,,,,,,,500.00,0.00,-500.00,2\n"), "{pair}");
+    assert!(
+        pair.contains("\ntotals,,,,TRY,,,,,,,,500.00,0.00,-500.00,2\n"),
+        "{pair}"
+    );
 }
 
 #[test]
@@ -30,8 +37,17 @@ fn a_bad_book_does_not_stop_the_others_and_the_worst_status_counts() {
     desk.write("bad.book", [0; 1024]);
     let run = desk.run(&["margin", "buyer.book", "bad.book", "desk.book"]);
     assert_eq!(run.status, REFUSED);
-    assert!(run.out.contains("buyer.book") && run.out.contains("desk.book"), "{}", run.out);
-    assert!(run.err.starts_with("seddolki: bad.book: refused by ground 2"), "{}", run.err);
+    assert!(
+        run.out.contains("buyer.book") && run.out.contains("desk.book"),
+        "{}",
+        run.out
+    );
+    assert!(
+        run.err
+            .starts_with("seddolki: bad.book: refused by ground 2"),
+        "{}",
+        run.err
+    );
     let run = desk.run(&["margin", "bad.book", "no.book", "desk.book"]);
     assert_eq!(run.status, FAILED);
     assert_eq!(run.err.lines().count(), 2);

@@ -32,7 +32,11 @@ fn what_was_asked_for_and_cannot_be_printed_is_a_failure() {
     for command in ["margin", "show", "flows", "export"] {
         let run = desk.shell(&format!("\"$0\" {command} desk.book > /dev/full"));
         assert_eq!(run.status, FAILED, "{command}");
-        assert!(run.err.starts_with("seddolki: standard output: "), "{}", run.err);
+        assert!(
+            run.err.starts_with("seddolki: standard output: "),
+            "{}",
+            run.err
+        );
     }
 }
 
@@ -58,7 +62,9 @@ fn a_refusal_that_cannot_be_told_is_still_one_and_nothing_panics() {
 #[test]
 fn a_reader_that_stops_early_is_no_fault() {
     let desk = Desk::with("desk.book");
-    let run = desk.shell("set -o pipefail; for i in 1 2 3 4 5 6 7 8 9; do \"$0\" show desk.book; done | head -n 1");
+    let run = desk.shell(
+        "set -o pipefail; for i in 1 2 3 4 5 6 7 8 9; do \"$0\" show desk.book; done | head -n 1",
+    );
     assert_eq!((run.out.as_str(), run.err.as_str()), ("account 1042\n", ""));
 }
 
@@ -67,7 +73,10 @@ fn each_way_to_end_has_its_status() {
     let desk = Desk::with("buyer.book");
     assert_eq!(desk.run(&["check", "buyer.book"]).status, DONE);
     assert_eq!(desk.run(&["strike", "buyer.book", "1"]).status, REFUSED);
-    assert_eq!(desk.run(&["append", "buyer.book", "knd=outright"]).status, REFUSED);
+    assert_eq!(
+        desk.run(&["append", "buyer.book", "knd=outright"]).status,
+        REFUSED
+    );
     assert_eq!(desk.run(&["sell", "buyer.book"]).status, MISUSED);
     assert_eq!(desk.run::<&str>(&[]).status, MISUSED);
     assert_eq!(desk.run(&["append", "buyer.book", "kind"]).status, MISUSED);

@@ -15,8 +15,13 @@ fn documented() -> BTreeMap<(String, String), Vec<String>> {
     for row in rows {
         let cells: Vec<&str> = row.split('|').map(str::trim).collect();
         if let [command, table, columns, ""] = cells[..] {
-            let columns = columns.split(", ").map(|name| name.trim_matches('`').to_owned());
-            let key = (command.trim_matches('`').to_owned(), table.trim_matches('`').to_owned());
+            let columns = columns
+                .split(", ")
+                .map(|name| name.trim_matches('`').to_owned());
+            let key = (
+                command.trim_matches('`').to_owned(),
+                table.trim_matches('`').to_owned(),
+            );
             tables.insert(key, columns.collect());
         }
     }
@@ -26,7 +31,10 @@ fn documented() -> BTreeMap<(String, String), Vec<String>> {
 /// The arguments of each command that prints a table with rows.
 fn commands() -> Vec<(&'static str, Vec<&'static str>)> {
     vec![
-        ("check --doubles", vec!["check", "--doubles", "doubled.book"]),
+        (
+            "check --doubles",
+            vec!["check", "--doubles", "doubled.book"],
+        ),
         ("show", vec!["show", "desk.book"]),
         ("margin", vec!["margin", "desk.book", "buyer.book"]),
         ("flows", vec!["flows", "desk.book"]),
@@ -40,7 +48,12 @@ fn desk() -> Desk {
     let desk = Desk::with("desk.book");
     std::fs::copy(tool::example("buyer.book"), desk.path("buyer.book")).unwrap();
     std::fs::copy(tool::example("buyer.book"), desk.path("doubled.book")).unwrap();
-    desk.run(&["import", "doubled.book", &tool::example("buyer.csv"), "--again"]);
+    desk.run(&[
+        "import",
+        "doubled.book",
+        &tool::example("buyer.csv"),
+        "--again",
+    ]);
     desk
 }
 
@@ -54,7 +67,9 @@ fn every_table_is_documented_with_its_columns() {
     let (desk, mut left) = (desk(), documented());
     for (command, arguments) in commands() {
         for (table, rows) in json(&desk, &arguments).as_object().unwrap() {
-            let first = rows[0].as_object().unwrap_or_else(|| panic!("{command} {table}"));
+            let first = rows[0]
+                .as_object()
+                .unwrap_or_else(|| panic!("{command} {table}"));
             let columns: Vec<String> = first.keys().cloned().collect();
             let due = left.remove(&(command.to_owned(), table.clone()));
             assert_eq!(due, Some(columns), "{command} {table}");
@@ -73,13 +88,20 @@ fn plain(value: &Value) -> String {
 }
 
 fn csv_rows(text: &str, separator: u8) -> Vec<BTreeMap<String, String>> {
-    let mut reader = csv::ReaderBuilder::new().delimiter(separator).from_reader(text.as_bytes());
+    let mut reader = csv::ReaderBuilder::new()
+        .delimiter(separator)
+        .from_reader(text.as_bytes());
     let names = reader.headers().unwrap().clone();
     let row = |record: csv::StringRecord| {
         let cells = names.iter().zip(record.iter());
-        cells.map(|(name, cell)| (name.to_owned(), cell.to_owned())).collect()
+        cells
+            .map(|(name, cell)| (name.to_owned(), cell.to_owned()))
+            .collect()
     };
-    reader.records().map(|record| row(record.unwrap())).collect()
+    reader
+        .records()
+        .map(|record| row(record.unwrap()))
+        .collect()
 }
 
 #[test]
@@ -121,15 +143,25 @@ fn figures_are_exact_texts_and_counts_are_numbers() {
     let margin = json(&desk(), &["margin", "buyer.book"]);
     let curve = &margin["curves"][0];
     assert_eq!((&curve["curve"], &curve["account"]), (&1.into(), &7.into()));
-    assert_eq!((&curve["base"], &curve["worst_loss"]), (&"100.00".into(), &"300.00".into()));
-    assert_eq!((&curve["scenario"], &curve["coefficient_1"]), (&2.into(), &"3.00".into()));
+    assert_eq!(
+        (&curve["base"], &curve["worst_loss"]),
+        (&"100.00".into(), &"300.00".into())
+    );
+    assert_eq!(
+        (&curve["scenario"], &curve["coefficient_1"]),
+        (&2.into(), &"3.00".into())
+    );
     assert_eq!(margin["currencies"][0]["total"], "-200.00");
 }
 
 #[test]
 fn only_one_form_can_be_asked_for() {
     let desk = desk();
-    for forms in [["--json", "--csv"], ["--csv", "--semicolon"], ["--json", "--semicolon"]] {
+    for forms in [
+        ["--json", "--csv"],
+        ["--csv", "--semicolon"],
+        ["--json", "--semicolon"],
+    ] {
         let run = desk.run(&["margin", "buyer.book", forms[0], forms[1]]);
         assert_eq!(run.status, tool::MISUSED);
     }

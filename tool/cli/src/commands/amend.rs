@@ -13,7 +13,8 @@ use seddolki_format::assemble;
 use seddolki_model::accept;
 use seddolki_store::shown;
 use seddolki_text::columns::Column;
-use seddolki_text::trade::amended;
+use seddolki_text::trade::amend;
+use seddolki_text::Decimals;
 
 pub fn run(arguments: &Amend) -> Result<u8, Ended> {
     let given = named_values(&arguments.values)?;
@@ -42,15 +43,18 @@ fn changed(
 ) -> Result<Record, Ended> {
     let Some(record) = parts.trades.get(position) else {
         let refusal = Ground::Position.alone();
-        return Err(Ended::refused(format!("{name}: position {position}: {refusal}")));
+        return Err(Ended::refused(format!(
+            "{name}: position {position}: {refusal}"
+        )));
     };
-    amended(record, given).map_err(|faults| faults_told(name, &faults))
+    amend(record, given, Decimals::Point).map_err(|faults| faults_told(name, &faults))
 }
 
 /// The book with the trade in its place, if the engine accepts it.
 fn judged(name: &str, parts: &accept::Book, record: &Record) -> Result<Book, Ended> {
     let book = Book::from_bytes(assemble(parts.account, &parts.curves, &parts.trades));
     let reason = |refusal| format!("{name}: {}", record_refused(record, &parts.curves, refusal));
-    book.check().map_err(|refusal| Ended::refused(reason(refusal)))?;
+    book.check()
+        .map_err(|refusal| Ended::refused(reason(refusal)))?;
     Ok(book)
 }

@@ -2,18 +2,20 @@
 
 use crate::arguments::Append;
 use crate::books::{accepted_parts, edit};
-use crate::trade_text::{appended, named_values};
 use crate::ended::{Ended, DONE};
 use crate::keyed_twice::Told;
 use crate::print;
+use crate::trade_text::{appended, faults_told, named_values};
 use seddolki::{doubles_of, Placed};
 use seddolki_store::shown;
 use seddolki_text::trade::record_of;
+use seddolki_text::Decimals;
 
 pub fn run(arguments: &Append) -> Result<u8, Ended> {
     let name = shown(&arguments.book);
     let given = named_values(&arguments.values)?;
-    let record = record_of(&given).map_err(|faults| told(&name, &faults))?;
+    let record = record_of(&given, Decimals::Point);
+    let record = record.map_err(|faults| faults_told(&name, &faults))?;
     let (position, notes) = edit(&arguments.book, arguments.waiting, |name, book| {
         let parts = accepted_parts(name, book)?;
         let position = appended(book, &parts.curves, &record)
@@ -32,9 +34,4 @@ pub fn run(arguments: &Append) -> Result<u8, Ended> {
     print::notice(&format!("{name}: trade {position} is added"));
     notes.say();
     Ok(DONE)
-}
-
-fn told(name: &str, faults: &[seddolki_text::Fault]) -> Ended {
-    let lines = faults.iter().map(|fault| format!("{name}: {fault}"));
-    Ended::Refused(lines.collect())
 }

@@ -20,20 +20,32 @@ pub fn run(arguments: &Check) -> Result<u8, Ended> {
     one_stream(paths.iter().map(PathBuf::as_path))?;
     let (checked, worst) = over_books(paths, |path| {
         let file = accepted(path)?;
-        let trades = if arguments.doubles { &file.parts.trades[..] } else { &[] };
+        let trades = if arguments.doubles {
+            &file.parts.trades[..]
+        } else {
+            &[]
+        };
         let doubles = doubles(trades);
         Ok(Checked { file, doubles })
     });
     if !checked.is_empty() {
         let tables = [books_table(&checked), doubles_table(&checked)];
-        let text = |_: &[Table; 2]| checked.iter().map(|one| text(one, arguments.doubles)).collect();
+        let text = |_: &[Table; 2]| {
+            checked
+                .iter()
+                .map(|one| text(one, arguments.doubles))
+                .collect()
+        };
         arguments.form.print(&tables, text)?;
     }
     Ok(worst)
 }
 
 fn text(checked: &Checked, doubles: bool) -> String {
-    let Checked { file, doubles: found } = checked;
+    let Checked {
+        file,
+        doubles: found,
+    } = checked;
     let (name, account) = (&file.name, file.parts.account);
     let curves = count(file.parts.curves.len(), "curve");
     let trades = count(file.parts.trades.len(), "trade");
@@ -69,7 +81,11 @@ fn doubles_table(checked: &[Checked]) -> Table {
     let mut table = Table::new("doubles", &columns);
     for Checked { file, doubles } in checked {
         for double in doubles {
-            let taken = if double.likeness.refused() { "no" } else { "yes" };
+            let taken = if double.likeness.refused() {
+                "no"
+            } else {
+                "yes"
+            };
             table.push(vec![
                 Value::text(&file.name),
                 Value::count(double.earlier.position),

@@ -11,7 +11,9 @@ pub fn run(arguments: &Diff) -> Result<u8, Ended> {
     let (before, behind) = (accepted(&arguments.book)?, accepted(&arguments.other)?);
     let table = differences(&before.parts, &behind.parts);
     let names = format!("{} and {}", before.name, behind.name);
-    arguments.form.print(&[table], |[table]| text(table, &names))?;
+    arguments
+        .form
+        .print(&[table], |[table]| text(table, &names))?;
     Ok(DONE)
 }
 

@@ -6,7 +6,9 @@ use crate::ended::{Ended, DONE};
 use crate::print;
 use crate::refusal::book_refused;
 use seddolki::{Book, Ground};
-use seddolki_model::fault::rule;
+fn rule(g: Ground) -> String {
+    g.sentence().into()
+}
 use seddolki_store::{read_at_most, shown};
 use std::path::Path;
 
@@ -30,7 +32,10 @@ fn applied(ground: Ground, path: &Path) -> Result<String, Ended> {
             format!("{name}: {}", book_refused(&book, refusal))
         }
         Err(refusal) => {
-            format!("{name}: not by this one, but {}", book_refused(&book, refusal))
+            format!(
+                "{name}: not by this one, but {}",
+                book_refused(&book, refusal)
+            )
         }
     })
 }

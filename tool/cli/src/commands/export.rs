@@ -6,22 +6,21 @@ use crate::ended::{Ended, DONE};
 use crate::words::count;
 use crate::{outputs, print};
 use seddolki_store::shown;
-use seddolki_text::decimal::Decimals;
-use seddolki_text::{curve_file, trades_file};
+use seddolki_text::{curve_file, trades_file, Separator};
 
 pub fn run(arguments: &Export) -> Result<u8, Ended> {
     let file = accepted(&arguments.one.book)?;
     let parts = &file.parts;
-    let decimals = if arguments.semicolon {
-        Decimals::Comma
+    let separator = if arguments.semicolon {
+        Separator::Semicolon
     } else {
-        Decimals::Point
+        Separator::Comma
     };
     let (text, holds) = if arguments.curves {
         let text = curve_file::write(parts.account, &parts.curves);
         (text, count(parts.curves.len(), "curve"))
     } else {
-        let text = trades_file::write(&parts.trades, decimals);
+        let text = trades_file::write(&parts.trades, separator);
         (text, count(parts.trades.len(), "trade"))
     };
     outputs::write(&arguments.file, &text, &arguments.output, &[&file.input])?;

@@ -2,10 +2,10 @@
 
 use crate::arguments::Import;
 use crate::books::{accepted_parts, edit, one_stream, text};
-use crate::trade_text::appended;
 use crate::ended::{Ended, DONE};
 use crate::keyed_twice::Told;
 use crate::print;
+use crate::trade_text::{appended, faults_told};
 use crate::words::count;
 use seddolki::{doubles_among, stands_already, Book, Placed, Record};
 use seddolki_format::block::Curve;
@@ -49,11 +49,11 @@ fn read(arguments: &Import) -> Result<Lines, Ended> {
     one_stream([arguments.book.as_path(), &arguments.trades])?;
     let name = shown(&arguments.trades);
     let read = trades_file::read(&text(&arguments.trades)?.bytes);
-    let told = |faults: Vec<seddolki_text::Fault>| {
-        let lines = faults.iter().map(|fault| format!("{name}: {fault}"));
-        Ended::Refused(lines.collect())
-    };
-    let (numbers, records) = read.map_err(told)?.into_iter().unzip();
+    let trades = read.map_err(|faults| faults_told(&name, &faults))?;
+    let (numbers, records) = trades
+        .iter()
+        .map(|trade| (trade.line, trade.record))
+        .unzip();
     Ok(Lines {
         name,
         numbers,

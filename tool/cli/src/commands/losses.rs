@@ -24,10 +24,7 @@ pub fn run(arguments: &Losses) -> Result<u8, Ended> {
 
 fn curve_cells(valued: &Valued) -> Vec<Value> {
     let currency = currency_name(valued.figures.currency);
-    vec![
-        Value::Whole(valued.curve.id.into()),
-        Value::text(currency),
-    ]
+    vec![Value::Whole(valued.curve.id.into()), Value::text(currency)]
 }
 
 fn by_scenario(valued: &[Valued]) -> Table {
@@ -51,7 +48,11 @@ fn by_scenario(valued: &[Valued]) -> Table {
             row.extend(coefficients.map(Value::coefficient));
             row.push(Value::money(*loss));
             let worst = scenario == one.figures.scenario as usize;
-            row.push(if worst { Value::text("worst") } else { Value::Nothing });
+            row.push(if worst {
+                Value::text("worst")
+            } else {
+                Value::Nothing
+            });
             table.push(row);
         }
     }
@@ -62,7 +63,9 @@ fn by_scenario(valued: &[Valued]) -> Table {
 fn by_trade(file: &BookFile, valued: &[Valued]) -> Table {
     let mut table = Table::new(
         "trades",
-        &["curve", "currency", "scenario", "position", "base", "loss", "trade"],
+        &[
+            "curve", "currency", "scenario", "position", "base", "loss", "trade",
+        ],
     );
     for one in valued {
         let mut push = |position, base: i64, loss: i64, trade: String| {
@@ -77,7 +80,12 @@ fn by_trade(file: &BookFile, valued: &[Valued]) -> Table {
             push(Value::count(part.position), part.base, part.loss, trade);
         }
         let figures = one.figures;
-        push(Value::Nothing, figures.base, figures.worst_loss, "all trades".into());
+        push(
+            Value::Nothing,
+            figures.base,
+            figures.worst_loss,
+            "all trades".into(),
+        );
     }
     table
 }

@@ -30,11 +30,23 @@ fn page(tool: &Command) -> String {
 /// A command: how it is used, what it does, and its arguments.
 fn section(command: &Command) -> String {
     let name = command.get_name();
-    let usage = command.clone().bin_name(format!("seddolki {name}")).render_usage().to_string();
+    let usage = command
+        .clone()
+        .bin_name(format!("seddolki {name}"))
+        .render_usage()
+        .to_string();
     let usage = usage.trim_start_matches("Usage: ").replace('\n', " ");
     let about = text_of(command.get_about());
-    let mut text = format!(".SS {}\n.nf\n{}\n.fi\n.PP\n{}.\n", escaped(name), escaped(&usage), escaped(&about));
-    for argument in command.get_arguments().filter(|argument| !argument.is_hide_set()) {
+    let mut text = format!(
+        ".SS {}\n.nf\n{}\n.fi\n.PP\n{}.\n",
+        escaped(name),
+        escaped(&usage),
+        escaped(&about)
+    );
+    for argument in command
+        .get_arguments()
+        .filter(|argument| !argument.is_hide_set())
+    {
         text += &described(argument);
     }
     let more = text_of(command.get_after_help());
@@ -45,7 +57,9 @@ fn section(command: &Command) -> String {
 }
 
 fn described(argument: &Arg) -> String {
-    let value = argument.get_value_names().map_or(String::new(), |names| names.join(" "));
+    let value = argument
+        .get_value_names()
+        .map_or(String::new(), |names| names.join(" "));
     let name = match argument.get_long() {
         Some(long) if argument.get_action().takes_values() => format!("--{long} {value}"),
         Some(long) => format!("--{long}"),

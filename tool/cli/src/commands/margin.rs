@@ -33,7 +33,9 @@ pub fn run(arguments: &Margin) -> Result<u8, Ended> {
     }
     let several = paths.len() > 1;
     let tables = [curves(&margined), currencies(&margined), totals(&margined)];
-    arguments.form.print(&tables, |tables| text(tables, several))?;
+    arguments
+        .form
+        .print(&tables, |tables| text(tables, several))?;
     Ok(worst)
 }
 
@@ -108,7 +110,14 @@ fn curve_cells(id: usize, figures: &CurveFigures, curve: &Curve) -> Vec<Value> {
 fn currencies(margined: &[Margined]) -> Table {
     let mut table = Table::new(
         "currencies",
-        &["book", "account", "currency", "initial", "variation", "total"],
+        &[
+            "book",
+            "account",
+            "currency",
+            "initial",
+            "variation",
+            "total",
+        ],
     );
     for Margined { file, report } in margined {
         for (name, figures) in report.present_currencies() {

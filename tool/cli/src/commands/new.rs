@@ -1,11 +1,11 @@
 //! A new book of curves alone.
 
 use crate::arguments::New;
-use crate::books::{is_stream, patience, text};
+use crate::books::{is_stream, patience, settled, text};
 use crate::curves_text::{book_of, read_curves};
 use crate::ended::{Ended, DONE};
-use crate::words::count;
 use crate::print;
+use crate::words::count;
 use seddolki_store::{self as store, shown};
 
 pub fn run(arguments: &New) -> Result<u8, Ended> {
@@ -15,10 +15,17 @@ pub fn run(arguments: &New) -> Result<u8, Ended> {
     let book = book_of(&name, &file, &[])?;
     let patience = patience(arguments.waiting);
     if is_stream(&arguments.book) {
-        store::write_output(&arguments.book, book.as_bytes(), false, &[&input], &patience)?;
+        let written = store::write_output(
+            &arguments.book,
+            book.as_bytes(),
+            false,
+            &[&input],
+            &patience,
+        )?;
+        settled(written);
         return Ok(DONE);
     }
-    store::create(&arguments.book, book.as_bytes(), &patience)?;
+    settled(store::create(&arguments.book, book.as_bytes(), &patience)?);
     let count = count(file.curves.len(), "curve");
     let (name, account) = (shown(&arguments.book), file.account);
     print::notice(&format!("{name}: account {account}, {count}, no trades"));

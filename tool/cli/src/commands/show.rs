@@ -2,9 +2,9 @@
 
 use crate::arguments::Show;
 use crate::books::accepted;
-use crate::trade_text::cells;
 use crate::ended::{Ended, DONE};
 use crate::table::{Table, Value};
+use crate::trade_text::cells;
 use crate::words::{self, count, named_flows};
 use seddolki::Record;
 use seddolki_format::block::Curve;
@@ -17,7 +17,12 @@ use seddolki_text::decimal::{format as decimal, COEFFICIENT, MONEY, PERCENT};
 
 pub fn run(arguments: &Show) -> Result<u8, Ended> {
     let book = accepted(&arguments.one.book)?.parts;
-    let tables = [curves(&book), nodes(&book.curves), trades(&book), flows(&book)];
+    let tables = [
+        curves(&book),
+        nodes(&book.curves),
+        trades(&book),
+        flows(&book),
+    ];
     arguments.form.print(&tables, |_| text(&book))?;
     Ok(DONE)
 }
@@ -65,7 +70,15 @@ fn curves(book: &Book) -> Table {
     let mut table = Table::new(
         "curves",
         &[
-            "account", "curve", "currency", "scenarios", "steps_1", "steps_2", "steps_3", "range_1", "range_2",
+            "account",
+            "curve",
+            "currency",
+            "scenarios",
+            "steps_1",
+            "steps_2",
+            "steps_3",
+            "range_1",
+            "range_2",
             "range_3",
         ],
     );
@@ -77,14 +90,25 @@ fn curves(book: &Book) -> Table {
             Value::count(scenarios(curve).len()),
         ];
         row.extend(curve.steps.map(|steps| Value::Whole(steps.into())));
-        row.extend(curve.ranges.map(|range| Value::Decimal(range.into(), COEFFICIENT)));
+        row.extend(
+            curve
+                .ranges
+                .map(|range| Value::Decimal(range.into(), COEFFICIENT)),
+        );
         table.push(row);
     }
     table
 }
 
 fn nodes(curves: &[Curve]) -> Table {
-    let columns = ["curve", "day", "rate", "component_1", "component_2", "component_3"];
+    let columns = [
+        "curve",
+        "day",
+        "rate",
+        "component_1",
+        "component_2",
+        "component_3",
+    ];
     let mut table = Table::new("nodes", &columns);
     for curve in curves {
         for node in curve.nodes() {

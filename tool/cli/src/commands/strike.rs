@@ -11,9 +11,9 @@ pub fn run(arguments: &Strike) -> Result<u8, Ended> {
     let position = arguments.position;
     let struck = edit(&arguments.book, arguments.waiting, |name, book| {
         let record = book.read(position);
-        book.strike(position).and(record).map_err(|refusal| {
-            Ended::refused(format!("{name}: position {position}: {refusal}"))
-        })
+        book.strike(position)
+            .and(record)
+            .map_err(|refusal| Ended::refused(format!("{name}: position {position}: {refusal}")))
     })?;
     let (name, words) = (shown(&arguments.book), trade(&struck));
     print::notice(&format!("{name}: trade {position} is struck: {words}"));

@@ -105,9 +105,17 @@ impl Desk {
 
     /// Runs, and expects that exit status, nothing printed, and one line of
     /// reason, which is given.
-    pub fn ended<S: AsRef<std::ffi::OsStr> + std::fmt::Debug>(&self, status: i32, arguments: &[S]) -> String {
+    pub fn ended<S: AsRef<std::ffi::OsStr> + std::fmt::Debug>(
+        &self,
+        status: i32,
+        arguments: &[S],
+    ) -> String {
         let run = self.run(arguments);
-        assert_eq!((run.status, run.out.as_str()), (status, ""), "{arguments:?}: {run:?}");
+        assert_eq!(
+            (run.status, run.out.as_str()),
+            (status, ""),
+            "{arguments:?}: {run:?}"
+        );
         let line = run.err.strip_suffix('\n').unwrap();
         assert!(!line.contains('\n'), "{line}");
         line.strip_prefix("seddolki: ").unwrap().to_owned()
