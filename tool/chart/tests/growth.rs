@@ -54,6 +54,15 @@ fn points_stand_at_their_size_and_time() {
 }
 
 #[test]
+fn only_what_is_held_is_said_to_be() {
+    let more = "trades,4,400,343,700,193452,4\n";
+    let picture = Growth::read(&(table("2") + more)).unwrap().draw();
+    let picture = Picture::sound(&picture);
+    assert!(picture.says("scenarios a curve: 343"));
+    assert!(!picture.says("curves: 3, scenarios a curve: 343"));
+}
+
+#[test]
 fn any_times_are_drawn() {
     for time in ["0", "0.0001", "1e-320", "0.801", "1234.5", "999999999"] {
         let picture = Growth::read(&table(time)).unwrap().draw();
