@@ -127,19 +127,33 @@ fn the_program_says_what_failed_and_writes_nothing() {
     let path = |name| folder.path().join(name).to_str().unwrap().to_string();
     let (wrong, none, new) = (path("wrong.csv"), path("none.csv"), path("new.svg"));
     let unreachable = path("none/new.svg");
+    let (good, link) = (path("good.csv"), path("link.svg"));
     fs::write(&wrong, "a,b\n").unwrap();
+    fs::write(&good, table("1")).unwrap();
+    std::os::unix::fs::symlink(&good, &link).unwrap();
     for (operands, status, told) in [
-        (vec![TABLE], 2, "usage: growth CSV SVG".to_string()),
-        (vec![&wrong, &wrong], 2, "usage: growth CSV SVG".to_string()),
+        (vec![TABLE], 2, "usage: growth CSV SVG".into()),
+        (vec![TABLE, &new, &new], 2, "usage: growth CSV SVG".into()),
         (vec![&wrong, &new], 1, format!("{wrong}: the header is not")),
         (vec![&none, &new], 3, format!("{none}: ")),
         (vec![TABLE, &unreachable], 3, format!("{unreachable}: ")),
+        (
+            vec![&good, &good],
+            3,
+            format!("{good}: is the table itself"),
+        ),
+        (
+            vec![&good, &link],
+            3,
+            format!("{link}: is the table itself"),
+        ),
     ] {
         let run = growth(&operands);
         assert_eq!(run.status.code(), Some(status), "{run:?}");
         let message = String::from_utf8(run.stderr).unwrap();
         assert!(message.starts_with(&told), "{message}");
     }
-    assert_eq!(fs::read_dir(&folder).unwrap().count(), 1);
+    assert_eq!(fs::read_dir(&folder).unwrap().count(), 3);
     assert_eq!(fs::read_to_string(wrong).unwrap(), "a,b\n");
+    assert_eq!(fs::read_to_string(good).unwrap(), table("1"));
 }
