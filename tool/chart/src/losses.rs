@@ -1,7 +1,7 @@
 //! The losses of a curve by scenario.
 
 use crate::heading::Heading;
-use crate::numbers::money;
+use crate::numbers::{money, units};
 use crate::page::{page, Area, Drawn};
 use crate::panel::{Axis, Panel, Point};
 use crate::scale::Scale;
@@ -99,9 +99,4 @@ impl Losses<'_> {
             _ => HPos::Right,
         }
     }
-}
-
-/// Whole units of the currency.
-fn units(hundredths: i64) -> f64 {
-    hundredths as f64 / 100.0
 }

@@ -1,4 +1,9 @@
-//! Numbers as text, their thousands set apart.
+//! Amounts, and numbers as text with their thousands set apart.
+
+/// Hundredths as units of the currency.
+pub fn units(hundredths: impl Into<i128>) -> f64 {
+    hundredths.into() as f64 / 100.0
+}
 
 /// A value rounded to so many decimals.
 pub fn rounded(value: f64, decimals: usize) -> String {

@@ -2,7 +2,7 @@
 
 use crate::heading::Heading;
 use crate::legend::legend;
-use crate::numbers::count;
+use crate::numbers::{count, units};
 use crate::page::{page, Area, Drawn};
 use crate::panel::{Axis, Panel, Point};
 use crate::scale::Scale;
@@ -186,9 +186,4 @@ fn points(nodes: &[Node]) -> Vec<Point> {
 
 fn percent(node: &Node) -> f64 {
     f64::from(node.rate) / 10_000.0
-}
-
-/// Whole units of the currency.
-fn units(hundredths: u64) -> f64 {
-    hundredths as f64 / 100.0
 }

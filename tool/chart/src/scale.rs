@@ -7,7 +7,7 @@ use plotters::coord::ranged1d::{
 use plotters::coord::types::{RangedCoordf64, RangedCoordi32};
 use std::ops::Range;
 
-/// A coordinate whose ticks stay within the data when room is left around it.
+/// A coordinate whose ticks stay as they are when room is left around it.
 #[derive(Clone)]
 pub struct Scale {
     span: RangedCoordf64,
@@ -20,11 +20,8 @@ impl Scale {
     pub fn new(low: f64, high: f64, most_ticks: usize) -> Self {
         let within = RangedCoordf64::from(low..high).key_points(BoldPoints(most_ticks));
         let ticks = outwards(within, low, high);
-        let ends = (ticks.first().copied(), ticks.last().copied());
-        let (low, high) = (
-            low.min(ends.0.unwrap_or(low)),
-            high.max(ends.1.unwrap_or(high)),
-        );
+        let low = ticks.first().map_or(low, |first| first.min(low));
+        let high = ticks.last().map_or(high, |last| last.max(high));
         Scale {
             span: RangedCoordf64::from(low..high),
             decimals: decimals(&ticks),

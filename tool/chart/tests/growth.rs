@@ -54,6 +54,15 @@ fn points_stand_at_their_size_and_time() {
 }
 
 #[test]
+fn only_what_is_held_is_said_to_be() {
+    let more = "trades,4,400,343,700,193452,4\n";
+    let picture = Growth::read(&(table("2") + more)).unwrap().draw();
+    let picture = Picture::sound(&picture);
+    assert!(picture.says("scenarios a curve: 343"));
+    assert!(!picture.says("curves: 3, scenarios a curve: 343"));
+}
+
+#[test]
 fn any_times_are_drawn() {
     for time in ["0", "0.0001", "1e-320", "0.801", "1234.5", "999999999"] {
         let picture = Growth::read(&table(time)).unwrap().draw();
@@ -118,19 +127,33 @@ fn the_program_says_what_failed_and_writes_nothing() {
     let path = |name| folder.path().join(name).to_str().unwrap().to_string();
     let (wrong, none, new) = (path("wrong.csv"), path("none.csv"), path("new.svg"));
     let unreachable = path("none/new.svg");
+    let (good, link) = (path("good.csv"), path("link.svg"));
     fs::write(&wrong, "a,b\n").unwrap();
+    fs::write(&good, table("1")).unwrap();
+    std::os::unix::fs::symlink(&good, &link).unwrap();
     for (operands, status, told) in [
-        (vec![TABLE], 2, "usage: growth CSV SVG".to_string()),
-        (vec![&wrong, &wrong], 2, "usage: growth CSV SVG".to_string()),
+        (vec![TABLE], 2, "usage: growth CSV SVG".into()),
+        (vec![TABLE, &new, &new], 2, "usage: growth CSV SVG".into()),
         (vec![&wrong, &new], 1, format!("{wrong}: the header is not")),
         (vec![&none, &new], 3, format!("{none}: ")),
         (vec![TABLE, &unreachable], 3, format!("{unreachable}: ")),
+        (
+            vec![&good, &good],
+            3,
+            format!("{good}: is the table itself"),
+        ),
+        (
+            vec![&good, &link],
+            3,
+            format!("{link}: is the table itself"),
+        ),
     ] {
         let run = growth(&operands);
         assert_eq!(run.status.code(), Some(status), "{run:?}");
         let message = String::from_utf8(run.stderr).unwrap();
         assert!(message.starts_with(&told), "{message}");
     }
-    assert_eq!(fs::read_dir(&folder).unwrap().count(), 1);
+    assert_eq!(fs::read_dir(&folder).unwrap().count(), 3);
     assert_eq!(fs::read_to_string(wrong).unwrap(), "a,b\n");
+    assert_eq!(fs::read_to_string(good).unwrap(), table("1"));
 }

@@ -54,6 +54,11 @@ fn the_first_worst_is_marked() {
         let tip = signs[0].points()[0].0;
         let worst = picture.all("polyline", "stroke", VERMILLION)[0].points()[1].0;
         assert!((tip - worst).abs() <= 1.0, "{tip} {worst}");
+        let stems = picture.all("polyline", "stroke", BLUE);
+        let ends = stems.iter().flat_map(|stem| stem.points());
+        let highest = ends.map(|(_, y)| y).fold(f64::MAX, f64::min);
+        let label = picture.texts().into_iter().find(|label| label.text == text);
+        assert!(label.unwrap().number("y") < highest - 10.0);
     }
 }
 
@@ -92,9 +97,12 @@ fn any_number_of_scenarios_is_drawn() {
 fn ticks(picture: &Picture) -> Vec<f64> {
     let labels = picture.all("text", "text-anchor", "end");
     let labels = labels.into_iter().filter(|label| !label.text.contains(' '));
-    labels
-        .map(|label| label.text.replace(',', "").parse().unwrap())
-        .collect()
+    let number = |label: &Element| {
+        let number: f64 = label.text.replace(',', "").parse().unwrap();
+        assert!(number != 0.0 || !label.text.starts_with('-'));
+        number
+    };
+    labels.map(number).collect()
 }
 
 #[test]
