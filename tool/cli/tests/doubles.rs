@@ -4,17 +4,17 @@ mod tool;
 
 use tool::{example, Desk, DONE, REFUSED};
 
-/// A pool repo of 100,000.00 at 13.2% for 7 days from day 1, as append takes it.
+/// A pool repo of 100,000.00 at 14.1% for 7 days from today, as append takes it.
 const REPO: [&str; 9] = [
     "kind=pool repo",
     "side=repo",
     "phase=1",
     "cash_curve=2",
-    "value_day_1=1",
-    "value_day_2=8",
+    "value_day_1=0",
+    "value_day_2=7",
     "term=7",
     "repo_cash=100000",
-    "repo_rate=13.2",
+    "repo_rate=14.1",
 ];
 
 /// With some of its columns otherwise.
@@ -54,13 +54,13 @@ fn what_looks_keyed_twice_is_refused_unless_it_is_meant() {
         "nominal=110000",
         "first_payment_day=90",
     ];
-    // 100,000.00 at 13.2% for 7 days: interest 253.15, withholding 37.97
+    // 100,000.00 at 14.1% for 7 days: interest 270.41, withholding 40.56
     let taken_back = [
         "side=reverse repo",
-        "value_day_1=8",
-        "value_day_2=9",
+        "value_day_1=7",
+        "value_day_2=8",
         "term=1",
-        "repo_cash=100215.18",
+        "repo_cash=100229.85",
         "repo_rate=13",
     ];
     for (changed, words) in [

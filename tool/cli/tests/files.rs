@@ -6,7 +6,7 @@ mod tool;
 use std::fs::{self, Permissions};
 use std::os::unix::fs::{chown, symlink, MetadataExt, PermissionsExt};
 use std::os::unix::process::CommandExt;
-use tool::{example, finish, outright, Desk, Run, DONE, FAILED};
+use tool::{example, finish, Desk, Run, DONE, FAILED};
 
 const NOBODY: u32 = 65534;
 
