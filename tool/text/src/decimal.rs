@@ -72,8 +72,7 @@ impl Display for NotTaken {
     }
 }
 
-/// Why a text has no reading; what says more is larger.
-#[derive(PartialEq, Eq, PartialOrd, Ord)]
+/// Why a text has no reading.
 enum NoReading {
     Form,
     Decimals,
@@ -97,12 +96,12 @@ pub fn parse(text: &str, places: u32, decimals: Decimals) -> Result<i64, NotTake
         }
         (Ok(number), _) => Ok(number),
         (Err(_), Ok(number)) if either => Ok(number),
-        (Err(_), Ok(number)) => Err(NotTaken {
+        (Err(NoReading::Form), Ok(number)) => Err(NotTaken {
             reason: format!("{text} is not a number with a decimal {}", own.name),
             advice: Some(format!("write {}", grouped(number, places, decimals))),
         }),
         (Err(NoReading::Form), Err(why)) if either => Err(why.of(text, places)),
-        (Err(why), Err(_)) => Err(why.of(text, places)),
+        (Err(why), _) => Err(why.of(text, places)),
     }
 }
 
@@ -292,6 +291,10 @@ mod tests {
         assert_eq!(
             message("0,001", MONEY, Either),
             "0,001 has more than 2 decimals"
+        );
+        assert_eq!(
+            message("5.001", MONEY, Point),
+            "5.001 has more than 2 decimals"
         );
         assert_eq!(message("1.5", 0, Point), "1.5 is not a whole number");
         assert_eq!(message("1\n5", 0, Point), "1\\n5 is not a number");

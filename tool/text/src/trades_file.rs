@@ -73,10 +73,8 @@ fn trade(
     line: &Line,
     decimals: Decimals,
 ) -> Result<Trade, Vec<Fault>> {
-    let (due, found) = (columns.len(), line.values.len());
-    if found != due {
-        let message = format!("{due} values due by the column names, {found} found");
-        return Err(vec![Fault::new(message).on_line(line.number)]);
+    if line.values.len() != columns.len() {
+        return Err(vec![miscounted(columns.len(), line)]);
     }
     let values: Vec<Value> = columns.iter().copied().zip(&line.values).collect();
     let record = record_of(&values, decimals).map_err(|faults| on_line(faults, line.number))?;
@@ -84,6 +82,19 @@ fn trade(
         line: line.number,
         record,
     })
+}
+
+fn miscounted(due: usize, line: &Line) -> Fault {
+    let found = line.values.len();
+    // most likely by a quote that is not closed on its line
+    let spread = line.values.iter().any(|value| value.contains('\n'));
+    let note = if spread {
+        ", and one holds a line end"
+    } else {
+        ""
+    };
+    let message = format!("{due} values due by the column names, {found} found{note}");
+    Fault::new(message).on_line(line.number)
 }
 
 fn on_line(faults: Vec<Fault>, line: u64) -> Vec<Fault> {
