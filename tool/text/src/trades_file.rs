@@ -1,8 +1,9 @@
 //! Files of trades, as spreadsheets read and write them.
 
-use crate::columns::{no_columns, Column, COLUMNS};
+use crate::column::Column;
+use crate::columns::{no_columns, COLUMNS};
 use crate::decimal::Decimals;
-use crate::fault::Fault;
+use crate::fault::{faultless, Fault};
 use crate::file::content;
 use crate::lines::{Line, Lines};
 use crate::separator::{names_missing, Separator};
@@ -37,11 +38,7 @@ pub fn read(bytes: &[u8]) -> Result<Vec<Trade>, Vec<Fault>> {
             Err(found) => faults.extend(found),
         }
     }
-    if faults.is_empty() {
-        Ok(trades)
-    } else {
-        Err(faults)
-    }
+    faultless(trades, faults)
 }
 
 /// The columns that the first line names.
@@ -61,11 +58,7 @@ fn columns(line: Option<Result<Line, Fault>>) -> Result<Vec<&'static Column>, Ve
     if !unknown.is_empty() {
         faults.push(no_columns(&unknown));
     }
-    if faults.is_empty() {
-        Ok(columns)
-    } else {
-        Err(on_line(faults, line.number))
-    }
+    faultless(columns, on_line(faults, line.number))
 }
 
 fn trade(

@@ -157,7 +157,7 @@ fn all_wrong_lines_are_told_at_once() {
             "line 6: 1,250 is too large: 0.00 to 100.00",
             "line 6: x is not a number: 0.00 to 100.00",
             "line 6: 1.001 has more than 2 decimals: 0.00 to 100.00",
-            "line 7: 5 numbers due, 4 found",
+            "line 7: 5 numbers due, 4 found: a day, a rate and 3 components",
             "line 8: 65536 is too large: 0 to 10,950",
             "line 8: -1 is too small: 0.0000 to 100.0000",
             "line 8: 9999999 is too large: -100.0000 to 100.0000",
@@ -165,7 +165,7 @@ fn all_wrong_lines_are_told_at_once() {
             "line 9: it is not written in UTF-8",
             "line 10: 1 currency due, 0 found: TRY, USD or EUR",
             "line 11: 256 is too large: 0 to 3",
-            "line 13: 5 numbers due, 0 found",
+            "line 13: 5 numbers due, 0 found: a day, a rate and 3 components",
         ]
     );
 }
