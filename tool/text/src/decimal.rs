@@ -72,8 +72,7 @@ impl Display for NotTaken {
     }
 }
 
-/// Why a text has no reading; what says more is larger.
-#[derive(PartialEq, Eq, PartialOrd, Ord)]
+/// Why a text has no reading.
 enum NoReading {
     Form,
     Decimals,
@@ -87,37 +86,38 @@ pub fn parse(text: &str, places: u32, decimals: Decimals) -> Result<i64, NotTake
     let (own, other) = decimals.signs();
     let either = decimals == Decimals::Either;
     let doubtful = either || text.contains(own.thousands);
+    let written = |number| grouped(number, places, decimals);
+    let not_taken = |reason: String, advice| NotTaken {
+        reason: format!("{} {reason}", shown(text)),
+        advice,
+    };
     match (reading(text, places, own), reading(text, places, other)) {
         (Ok(one), Ok(two)) if doubtful && one != two => {
-            let written = |number| grouped(number, places, decimals);
-            Err(NotTaken {
-                reason: format!("{text} can be read as {} or {}", written(one), written(two)),
-                advice: Some("write it in one of these ways".into()),
-            })
+            let reason = format!("can be read as {} or {}", written(one), written(two));
+            let advice = "write it in one of these ways";
+            Err(not_taken(reason, Some(advice.into())))
         }
         (Ok(number), _) => Ok(number),
         (Err(_), Ok(number)) if either => Ok(number),
-        (Err(_), Ok(number)) => Err(NotTaken {
-            reason: format!("{text} is not a number with a decimal {}", own.name),
-            advice: Some(format!("write {}", grouped(number, places, decimals))),
-        }),
-        (Err(NoReading::Form), Err(why)) if either => Err(why.of(text, places)),
-        (Err(why), Err(_)) => Err(why.of(text, places)),
+        (Err(NoReading::Form), Ok(number)) => {
+            let reason = format!("is not a number with a decimal {}", own.name);
+            Err(not_taken(
+                reason,
+                Some(format!("write {}", written(number))),
+            ))
+        }
+        (Err(NoReading::Form), Err(why)) if either => Err(not_taken(why.reason(places), None)),
+        (Err(why), _) => Err(not_taken(why.reason(places), None)),
     }
 }
 
 impl NoReading {
-    fn of(self, text: &str, places: u32) -> NotTaken {
-        let text = shown(text);
-        let reason = match self {
-            NoReading::Form => format!("{text} is not a number"),
-            NoReading::Decimals if places == 0 => format!("{text} is not a whole number"),
-            NoReading::Decimals => format!("{text} has more than {places} decimals"),
-            NoReading::Size => format!("{text} is too large"),
-        };
-        NotTaken {
-            reason,
-            advice: None,
+    fn reason(&self, places: u32) -> String {
+        match self {
+            NoReading::Form => "is not a number".into(),
+            NoReading::Decimals if places == 0 => "is not a whole number".into(),
+            NoReading::Decimals => format!("has more than {places} decimals"),
+            NoReading::Size => "is too large".into(),
         }
     }
 }
@@ -292,6 +292,10 @@ mod tests {
         assert_eq!(
             message("0,001", MONEY, Either),
             "0,001 has more than 2 decimals"
+        );
+        assert_eq!(
+            message("5.001", MONEY, Point),
+            "5.001 has more than 2 decimals"
         );
         assert_eq!(message("1.5", 0, Point), "1.5 is not a whole number");
         assert_eq!(message("1\n5", 0, Point), "1\\n5 is not a number");

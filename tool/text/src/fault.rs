@@ -70,6 +70,15 @@ pub fn shown(text: &str) -> String {
     start + more
 }
 
+/// The value where nothing is wrong, and else all that is.
+pub(crate) fn faultless<T, F>(value: T, faults: Vec<F>) -> Result<T, Vec<F>> {
+    if faults.is_empty() {
+        Ok(value)
+    } else {
+        Err(faults)
+    }
+}
+
 /// Names in a row, as `a, b or c`.
 pub(crate) fn listed<T: Display>(names: &[T], last_by: &str) -> String {
     let names: Vec<String> = names.iter().map(T::to_string).collect();

@@ -1,11 +1,32 @@
 //! Trades and curves as text: what is written is turned into records and
 //! curves and back. No rule of a book is tested here beyond what is written;
 //! limits are named in messages, and the engine judges by them.
+//!
+//! ```
+//! use seddolki_text::trade::record_of;
+//! use seddolki_text::{Column, Decimals};
+//!
+//! # fn main() -> Result<(), seddolki_text::Fault> {
+//! let values = [
+//!     (Column::find("kind")?, "pool repo"),
+//!     (Column::find("side")?, "buyer"),
+//!     (Column::find("repo_cash")?, "1,000.00"),
+//! ];
+//! let faults = record_of(&values, Decimals::Point).unwrap_err();
+//! assert_eq!(
+//!     faults[0].to_string(),
+//!     "column side: buyer is not for a pool repo: repo or reverse repo"
+//! );
+//! # Ok(())
+//! # }
+//! ```
 
 #![forbid(unsafe_code)]
 #![warn(missing_docs)]
 
-pub mod columns;
+mod column;
+mod columns;
+mod curve_draft;
 pub mod curve_file;
 pub mod decimal;
 mod fault;
@@ -18,7 +39,8 @@ pub mod trade;
 pub mod trades_file;
 mod words;
 
-pub use columns::{Column, COLUMNS};
+pub use column::{Column, Unit};
+pub use columns::{meanings, COLUMNS};
 pub use decimal::Decimals;
 pub use fault::{shown, Fault};
 pub use quantity::Quantity;

@@ -1,6 +1,6 @@
 //! What stands between the values of a line.
 
-use crate::columns::Column;
+use crate::column::Column;
 use crate::decimal::Decimals;
 use crate::fault::{listed, Fault};
 use std::fmt::{self, Display, Formatter};

@@ -1,8 +1,9 @@
 //! A trade from named values, and back.
 
-use crate::columns::{Column, COLUMNS};
+use crate::column::Column;
+use crate::columns::COLUMNS;
 use crate::decimal::Decimals;
-use crate::fault::{listed, shown, Fault};
+use crate::fault::{faultless, listed, shown, Fault};
 use seddolki_format::Record;
 
 /// A column and what is written there.
@@ -23,11 +24,7 @@ pub fn record_of(values: &[Value], decimals: Decimals) -> Result<Record, Vec<Fau
         let fault = filled.map_err(|message| Fault::new(message).in_column(column.name));
         faults.extend(fault.err());
     }
-    if faults.is_empty() {
-        Ok(record)
-    } else {
-        Err(faults)
-    }
+    faultless(record, faults)
 }
 
 /// What is written for a column; nothing if it is not given.

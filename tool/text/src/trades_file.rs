@@ -1,8 +1,9 @@
 //! Files of trades, as spreadsheets read and write them.
 
-use crate::columns::{no_columns, Column, COLUMNS};
+use crate::column::Column;
+use crate::columns::{no_columns, COLUMNS};
 use crate::decimal::Decimals;
-use crate::fault::Fault;
+use crate::fault::{faultless, Fault};
 use crate::file::content;
 use crate::lines::{Line, Lines};
 use crate::separator::{names_missing, Separator};
@@ -37,11 +38,7 @@ pub fn read(bytes: &[u8]) -> Result<Vec<Trade>, Vec<Fault>> {
             Err(found) => faults.extend(found),
         }
     }
-    if faults.is_empty() {
-        Ok(trades)
-    } else {
-        Err(faults)
-    }
+    faultless(trades, faults)
 }
 
 /// The columns that the first line names.
@@ -61,11 +58,7 @@ fn columns(line: Option<Result<Line, Fault>>) -> Result<Vec<&'static Column>, Ve
     if !unknown.is_empty() {
         faults.push(no_columns(&unknown));
     }
-    if faults.is_empty() {
-        Ok(columns)
-    } else {
-        Err(on_line(faults, line.number))
-    }
+    faultless(columns, on_line(faults, line.number))
 }
 
 fn trade(
@@ -73,10 +66,8 @@ fn trade(
     line: &Line,
     decimals: Decimals,
 ) -> Result<Trade, Vec<Fault>> {
-    let (due, found) = (columns.len(), line.values.len());
-    if found != due {
-        let message = format!("{due} values due by the column names, {found} found");
-        return Err(vec![Fault::new(message).on_line(line.number)]);
+    if line.values.len() != columns.len() {
+        return Err(vec![miscounted(columns.len(), line)]);
     }
     let values: Vec<Value> = columns.iter().copied().zip(&line.values).collect();
     let record = record_of(&values, decimals).map_err(|faults| on_line(faults, line.number))?;
@@ -84,6 +75,19 @@ fn trade(
         line: line.number,
         record,
     })
+}
+
+fn miscounted(due: usize, line: &Line) -> Fault {
+    let found = line.values.len();
+    // most likely by a quote that is not closed on its line
+    let spread = line.values.iter().any(|value| value.contains('\n'));
+    let note = if spread {
+        ", and one holds a line end"
+    } else {
+        ""
+    };
+    let message = format!("{due} values due by the column names, {found} found{note}");
+    Fault::new(message).on_line(line.number)
 }
 
 fn on_line(faults: Vec<Fault>, line: u64) -> Vec<Fault> {

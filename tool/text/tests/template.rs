@@ -1,0 +1,40 @@
+//! The files that a new user starts from.
+
+use seddolki::Book;
+use seddolki_format::record::{OUTRIGHT, POOL, SPECIFIED};
+use seddolki_format::{assemble, Record};
+use seddolki_text::{curve_file, template, trades_file};
+
+#[test]
+fn the_engine_takes_the_trades_on_the_curves() {
+    let file = curve_file::read(template::CURVES.as_bytes()).unwrap();
+    let trades = trades_file::read(template::TRADES.as_bytes()).unwrap();
+    let mut book = Book::from_bytes(assemble(file.account, &file.curves, &[]));
+    for (position, trade) in trades.iter().enumerate() {
+        assert_eq!(
+            book.append(&trade.record),
+            Ok(position),
+            "line {}",
+            trade.line
+        );
+    }
+    let report = book.margin().unwrap();
+    assert_eq!(report.present_curves().count(), 2);
+    assert!(report
+        .present_curves()
+        .all(|(_, curve)| curve.worst_loss > 0));
+}
+
+#[test]
+fn trades_of_each_kind_are_shown() {
+    let trades = trades_file::read(template::TRADES.as_bytes()).unwrap();
+    let records: Vec<Record> = trades.iter().map(|trade| trade.record).collect();
+    let forms = records.iter().map(|record| (record.kind, record.phase));
+    let forms: Vec<(u8, u8)> = forms.collect();
+    assert_eq!(
+        forms,
+        [(OUTRIGHT, 0), (OUTRIGHT, 0), (POOL, 1), (SPECIFIED, 1)]
+    );
+    let written = trades_file::write(&records, seddolki_text::Separator::Comma);
+    assert_eq!(written, template::TRADES);
+}

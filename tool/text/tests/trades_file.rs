@@ -1,0 +1,254 @@
+//! Files of trades, read and written.
+
+use seddolki_books::curve::draw_curves;
+use seddolki_books::{draw_record, Draw};
+use seddolki_format::record::{OUTRIGHT, POOL};
+use seddolki_format::Record;
+use seddolki_text::trades_file::{read, write};
+use seddolki_text::{Separator, COLUMNS};
+
+const REPO: &str = "kind,side,phase,cash_curve,value_day_1,value_day_2,term,repo_cash,repo_rate\n\
+                    pool repo,repo,1,2,1,8,7,500.00,13.2\n";
+
+const BOND: &str = "kind,side,cash_curve,nominal,clean_price\n";
+
+/// The line and the record of each trade.
+fn trades(file: impl AsRef<[u8]>) -> Vec<(u64, Record)> {
+    let trades = read(file.as_ref()).unwrap().into_iter();
+    trades.map(|trade| (trade.line, trade.record)).collect()
+}
+
+fn refused(file: impl AsRef<[u8]>) -> Vec<String> {
+    let faults = read(file.as_ref()).unwrap_err();
+    faults.iter().map(ToString::to_string).collect()
+}
+
+fn repo() -> Record {
+    Record {
+        kind: POOL,
+        side: 1,
+        phase: 1,
+        cash_curve: 2,
+        value_day_1: 1,
+        value_day_2: 8,
+        term: 7,
+        repo_cash: 50_000,
+        price_or_rate: 132_000,
+        ..Record::default()
+    }
+}
+
+#[test]
+fn separators_tell_how_numbers_are_written() {
+    assert_eq!(trades(REPO), [(2, repo())]);
+    let semicolons = REPO.replace(',', ";");
+    assert_eq!(trades(semicolons.replace('.', ",")), [(2, repo())]);
+    assert_eq!(
+        refused(&semicolons),
+        [
+            "line 2, column repo_cash: 500.00 is not a number with a decimal comma: write 500,00",
+            "line 2, column repo_rate: 13.2 is not a number with a decimal comma: write 13,2000",
+        ]
+    );
+    let tabs = REPO.replace(',', "\t");
+    assert_eq!(trades(&tabs), [(2, repo())]);
+    assert_eq!(trades(tabs.replace('.', ",")), [(2, repo())]);
+    for sign in [".", ","] {
+        let faults = refused(tabs.replace("13.2", &format!("13{sign}200")));
+        assert!(
+            faults[0].starts_with("line 2, column repo_rate: 13"),
+            "{faults:?}"
+        );
+        assert!(faults[0].contains("can be read as 13"), "{faults:?}");
+    }
+}
+
+#[test]
+fn marks_line_ends_and_empty_lines_are_taken() {
+    let mut spread = REPO.replace("13.2\n", "13.2\n\n \n,,,,,,,,\n") + REPO.lines().nth(1).unwrap();
+    assert_eq!(trades(&spread), [(2, repo()), (6, repo())]);
+    spread = format!("\u{feff}\n,,,\n{spread}\n,,,\n");
+    assert_eq!(trades(&spread), [(4, repo()), (8, repo())]);
+    assert_eq!(
+        trades(spread.replace('\n', "\r\n")),
+        [(4, repo()), (8, repo())]
+    );
+    assert_eq!(
+        trades(spread.replace('\n', "\r")),
+        [(4, repo()), (8, repo())]
+    );
+}
+
+#[test]
+fn names_come_in_any_order_and_case() {
+    let file = "\"Repo Rate\", REPO_CASH,Term,value day 2,value_day_1,cash_curve,phase,side,kind\n\
+                13.2,\"500\",7,8,1,2,1,Repo,POOL REPO\n";
+    assert_eq!(trades(file), [(2, repo())]);
+    assert!(trades("kind\n").is_empty());
+    assert_eq!(
+        refused("\"kind\"\noutright\n"),
+        ["line 2, column side: nothing is given: buyer or seller"]
+    );
+}
+
+#[test]
+fn column_names_are_looked_at_first() {
+    let missing = ["the line of column names is missing"];
+    assert_eq!(refused(""), missing);
+    assert_eq!(refused("\u{feff}\n,;\n\n"), missing);
+    let names: Vec<&str> = COLUMNS.iter().map(|column| column.name).collect();
+    let (last, others) = names.split_last().unwrap();
+    let all = format!("{} or {last}", others.join(", "));
+    assert_eq!(
+        refused("kind,sid,Kind,\nswap,,,\n"),
+        [
+            "line 1, column kind: it is named twice".to_owned(),
+            format!("line 1: there is no column sid or without a name: {all}"),
+        ]
+    );
+    let allowed = "comma, semicolon or tab";
+    assert_eq!(
+        refused("\nkind side\n"),
+        [format!(
+            "line 2: nothing stands between the column names: {allowed}"
+        )]
+    );
+    assert_eq!(
+        refused("kind;side,phase\n"),
+        [format!(
+            "line 1: comma and semicolon stand between the column names: {allowed}"
+        )]
+    );
+    assert_eq!(
+        refused("kind;side\tphase,term\n"),
+        [format!(
+            "line 1: comma, semicolon and tab stand between the column names: {allowed}"
+        )]
+    );
+    assert_eq!(
+        refused("kind,\"a;b\"\n"),
+        [format!("line 1: there is no column a;b: {all}")]
+    );
+    assert_eq!(refused("kind,\"side\n"), ["line 1: a quote is not closed"]);
+    assert_eq!(
+        refused(b"kind,s\xfede\n"),
+        ["line 1: it is not written in UTF-8"]
+    );
+    let utf_16: Vec<u8> = "\u{feff}kind,side\n"
+        .encode_utf16()
+        .flat_map(u16::to_le_bytes)
+        .collect();
+    assert_eq!(refused(utf_16), ["line 1: it is not written in UTF-8"]);
+}
+
+#[test]
+fn every_wrong_line_is_told_at_once() {
+    let lines = b"outright,buyer,1,\"1,000.00\",99\n\
+        outright,repo,1,1,000.00,99\n\
+        outright,repo,1,\"1,000.00\",\"99,5\"\n\
+        \n\
+        outright,buyer,\"1,100,99\n\
+        outright,buyer,-1,100,99\n\
+        outright,buyer,\"1\"1,100,99\n\
+        outright,b\xfcyer,1,100,99\n\
+        ,buyer,1,100,99\n\
+        outright,buyer,300,\"1\n0\",99\n\
+        outright,buyer,1,100,\n\
+        outright,seller,1,100\n\
+        outright,\"seller,1,100,99\n\
+        outright,seller,1,100,99\"\n";
+    let file = [BOND.as_bytes(), lines].concat();
+    assert_eq!(
+        refused(&file),
+        [
+            "line 3: 5 values due by the column names, 6 found",
+            "line 4, column side: repo is not for an outright: buyer or seller",
+            "line 4, column clean_price: 99,5 is not a number with a decimal point: write 99.5000",
+            "line 6: a quote is not closed",
+            "line 7, column cash_curve: -1 is too small: 1 to 8",
+            "line 8: text stands behind a closing quote",
+            "line 9: it is not written in UTF-8",
+            "line 10, column kind: nothing is given: outright, pool repo or specified repo",
+            "line 11, column cash_curve: 300 is too large: 1 to 8",
+            "line 11, column nominal: 1\\n0 is not a number: 0.01 to 10,000,000,000.00",
+            "line 14: 5 values due by the column names, 4 found",
+            "line 15: 5 values due by the column names, 2 found, and one holds a line end",
+        ]
+    );
+}
+
+fn drawn(draw: &mut Draw, count: u64) -> Vec<Record> {
+    let curves = draw_curves(draw);
+    let record = |_| draw_record(draw, &curves, 120);
+    (0..count).map(record).collect()
+}
+
+#[test]
+fn what_is_written_is_read_as_the_same_records() {
+    let mut draw = Draw::new(3);
+    for count in 0..40 {
+        let records = drawn(&mut draw, count);
+        for separator in Separator::ALL {
+            let file = write(&records, separator);
+            let due: Vec<(u64, Record)> = (2..).zip(records.iter().copied()).collect();
+            assert_eq!(trades(&file), due, "{file}");
+        }
+    }
+}
+
+#[test]
+fn written_files_have_all_columns() {
+    let names = "kind;side;phase;cash_curve;security;security_curve;nominal;value_day_1;\
+                 value_day_2;term;first_payment_day;period;payments;coupon;clean_price;accrued;\
+                 repo_cash;repo_rate;settlement_index;issue_index\n";
+    assert_eq!(write(&[], Separator::Semicolon), names);
+    let bond = Record {
+        kind: OUTRIGHT,
+        side: 2,
+        security: 1,
+        nominal: 123_456_789,
+        ..Record::default()
+    };
+    assert_eq!(
+        write(&[repo(), bond], Separator::Semicolon),
+        names.to_owned()
+            + "pool repo;repo;1;2;none;;;1;8;7;;;;;;;500,00;13,2000;;\n\
+               outright;seller;;0;single payment;0;1234567,89;0;;;0;;;;0,0000;0,0000;;;;\n"
+    );
+    let commas = write(&[repo()], Separator::Comma);
+    assert!(
+        commas.ends_with("\npool repo,repo,1,2,none,,,1,8,7,,,,,,,500.00,13.2000,,\n"),
+        "{commas}"
+    );
+}
+
+/// What is still read is written and read as the same; all else has a line.
+#[test]
+fn spoiled_files_are_told_by_line() {
+    let mut draw = Draw::new(4);
+    let mut taken = 0;
+    for _ in 0..2_000 {
+        let separator = draw.pick(&Separator::ALL);
+        let mut bytes = write(&drawn(&mut draw, 2), separator).into_bytes();
+        let names = bytes.iter().position(|byte| *byte == b'\n').unwrap();
+        let first = draw.pick(&[0, names, names]);
+        for _ in 0..draw.within(1..=2) {
+            let place = first + draw.place(bytes.len() - first);
+            bytes[place] = draw.pick(b"0123456789\"\n\r,;\t.\xff x");
+        }
+        let lines = bytes.split(|byte| b"\r\n".contains(byte)).count() as u64;
+        match read(&bytes) {
+            Ok(trades) => {
+                taken += 1;
+                let records: Vec<Record> = trades.iter().map(|trade| trade.record).collect();
+                let again = read(write(&records, separator).as_bytes()).unwrap();
+                assert!(again.iter().map(|trade| trade.record).eq(records));
+            }
+            Err(faults) => {
+                let mut told = faults.iter().map(|fault| fault.line.unwrap());
+                assert!(told.all(|line| (1..=lines).contains(&line)), "{faults:?}");
+            }
+        }
+    }
+    assert!((200..1_800).contains(&taken), "{taken}");
+}
