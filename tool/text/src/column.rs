@@ -1,6 +1,6 @@
 //! A named column of a trade.
 
-use crate::columns::{no_columns, prices, COLUMNS};
+use crate::columns::{is_due_rate, no_columns, prices, COLUMNS};
 use crate::decimal::{plain, Decimals};
 use crate::fault::{listed, shown, Fault};
 use crate::quantity::Quantity;
@@ -133,14 +133,21 @@ impl Column {
         }
     }
 
-    fn leave_empty(&self, kind: u8) -> Result<(), String> {
+    /// Whether a trade of that kind has to be given a value here: a word,
+    /// where none stands for 0, or the rate of a repo.
+    pub(crate) fn is_due(&self, kind: u8) -> bool {
         match self.unit {
-            Unit::Words(words) if words(kind).iter().all(|(_, value)| *value != 0) => {
-                let allowed = self.allowed(kind, Decimals::Point);
-                Err(format!("nothing is given: {allowed}"))
-            }
-            _ => Ok(()),
+            Unit::Words(words) => words(kind).iter().all(|(_, value)| *value != 0),
+            Unit::Number(_) => is_due_rate(self.name, kind),
         }
+    }
+
+    fn leave_empty(&self, kind: u8) -> Result<(), String> {
+        if self.is_due(kind) {
+            let allowed = self.allowed(kind, Decimals::Point);
+            return Err(format!("nothing is given: {allowed}"));
+        }
+        Ok(())
     }
 
     fn fill_word(&self, record: &mut Record, text: &str, words: &[Word]) -> Result<(), String> {

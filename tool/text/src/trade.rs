@@ -66,7 +66,10 @@ pub fn values_of(record: &Record, decimals: Decimals) -> Vec<(&'static Column, S
 pub fn amend(record: &Record, values: &[Value], decimals: Decimals) -> Result<Record, Vec<Fault>> {
     let given = |column: &Column| values.iter().any(|(other, _)| *other == column);
     let mut kept = values_of(record, decimals);
-    kept.retain(|(column, _)| !given(column) && column.get(record) != 0);
+    kept.retain(|(column, _)| {
+        let held = column.get(record) != 0 || column.is_due(record.kind);
+        held && !given(column)
+    });
     let kept = kept.iter().map(|(column, text)| (*column, text.as_str()));
     let all: Vec<Value> = kept.chain(values.iter().copied()).collect();
     record_of(&all, decimals)

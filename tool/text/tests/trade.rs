@@ -87,8 +87,12 @@ fn words_fit_their_kind() {
             "repo or reverse repo",
         ),
     ] {
+        let priced = match kind {
+            "outright" => format!("kind={kind}"),
+            _ => format!("kind={kind}; repo_rate=13"),
+        };
         for side in ["buyer", "seller", "repo", "reverse repo", "lender", "1"] {
-            let text = format!("side={side}; kind={kind}");
+            let text = format!("side={side}; {priced}");
             match sides.iter().position(|own| *own == side) {
                 Some(place) => assert_eq!(made(&text).unwrap().side, place as u8 + 1),
                 None => assert_eq!(
@@ -97,7 +101,7 @@ fn words_fit_their_kind() {
                 ),
             }
         }
-        for text in [format!("kind={kind}"), format!("kind={kind}; side= ")] {
+        for text in [priced.clone(), format!("{priced}; side= ")] {
             let nothing = format!("column side: nothing is given: {allowed}");
             assert_eq!(refused(&text), [nothing]);
         }
@@ -124,8 +128,8 @@ fn a_missing_kind_is_the_fault_of_its_column() {
 #[test]
 fn prices_fit_their_kind() {
     let outright = "kind=outright; side=buyer; ";
-    let pool = "kind=pool repo; side=repo; ";
-    let specified = "kind=specified repo; side=repo; ";
+    let pool = "kind=pool repo; side=repo; repo_rate=0; ";
+    let specified = "kind=specified repo; side=repo; repo_rate=13; ";
     let repo_prices = "which has repo_rate and repo_cash: leave it empty";
     for (trade, value, due) in [
         (
@@ -167,11 +171,25 @@ fn prices_fit_their_kind() {
         990_000
     );
     assert_eq!(
-        made(&format!("{pool}repo_rate=13; clean_price="))
+        made(&format!("{specified}clean_price="))
             .unwrap()
             .price_or_rate,
         130_000
     );
+}
+
+#[test]
+fn a_rate_of_0_has_to_be_said() {
+    let nothing = "column repo_rate: nothing is given: 0.0000 to 100.0000";
+    for kind in ["pool repo", "specified repo"] {
+        let trade = format!("kind={kind}; side=repo; ");
+        assert_eq!(refused(&trade), [nothing]);
+        assert_eq!(refused(&format!("{trade}repo_rate= ")), [nothing]);
+        let repo = made(&format!("{trade}repo_rate=0")).unwrap();
+        assert_eq!(repo.price_or_rate, 0);
+        assert_eq!(amended(&repo, "repo_cash=5").unwrap().price_or_rate, 0);
+        assert_eq!(amended(&repo, "repo_rate=").unwrap_err(), [nothing]);
+    }
 }
 
 #[test]
@@ -292,7 +310,7 @@ fn an_amended_kind_takes_its_words_and_prices_along() {
     };
     let side = "column side: buyer is not for a pool repo: repo or reverse repo";
     assert_eq!(
-        amended(&bond, "kind=pool repo").unwrap_err(),
+        amended(&bond, "kind=pool repo; repo_rate=0").unwrap_err(),
         [
             side.into(),
             unfit("clean_price", "98.7500"),
