@@ -81,6 +81,14 @@ impl<'a> Place<'a> {
     }
 }
 
+impl Drop for Place<'_> {
+    /// Closing is not enough where a process that another thread has just
+    /// started still has the folder open.
+    fn drop(&mut self) {
+        let _ = self.folder.unlock();
+    }
+}
+
 /// The last name of a path is new, what is before it is not.
 fn resolve_new(path: &Path) -> io::Result<PathBuf> {
     let name = path.file_name().filter(|name| {
