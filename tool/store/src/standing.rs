@@ -47,6 +47,7 @@ impl<'a> Standing<'a> {
         let temporary = self.place.write_beside(0o600, bytes)?;
         keep_owner_and_mode(&self.metadata, &temporary.file)
             .map_err(Failure::because(given, "its owner and mode can't be kept"))?;
+        self.place.sync(&temporary)?;
         self.refuse_change_meanwhile()?;
         temporary
             .replace(&self.place.target)
