@@ -22,6 +22,7 @@ pub fn create(path: &Path, bytes: &[u8], patience: &Patience) -> Result<Written,
         return Err(Failure::new(path, reason));
     }
     let temporary = place.write_beside(0o666, bytes)?;
+    place.sync(&temporary)?;
     let named = temporary.take_new_name(&place.target);
     named.map_err(|error| match error.kind() {
         // the folder is writable, or there would be no temporary file

@@ -21,10 +21,9 @@ pub struct Input {
 pub(crate) type Identity = (u64, u64);
 
 impl Input {
-    /// Whether it was read from that file. What can be read and written at
-    /// once, as a terminal can, is never the same.
+    /// Whether it was read from that file.
     pub(crate) fn is(&self, file: &Metadata) -> bool {
-        self.file.is_some() && self.file == stored(file)
+        self.file == Some(identity(file))
     }
 }
 
@@ -32,7 +31,8 @@ pub(crate) fn identity(file: &Metadata) -> Identity {
     (file.dev(), file.ino())
 }
 
-/// The file or disk that keeps its bytes, and would lose them to an output.
+/// What keeps its bytes, and would lose them to an output; a terminal, a FIFO
+/// or a device like it would not.
 fn stored(file: &Metadata) -> Option<Identity> {
     let kind = file.file_type();
     (kind.is_file() || kind.is_block_device()).then(|| identity(file))

@@ -20,8 +20,7 @@ pub struct Patience<'a> {
 const PAUSE: Duration = Duration::from_millis(20);
 
 impl Patience<'_> {
-    /// Locks a folder for what writes the file at `path`. The lock ends when
-    /// the folder is closed.
+    /// Locks a folder for what writes the file at `path`.
     pub(crate) fn lock(&self, path: &Path, folder: &Path, opened: &File) -> Result<(), Failure> {
         let start = Instant::now();
         let mut told = false;
@@ -80,4 +79,17 @@ fn device_numbers(device: u64) -> (u64, u64) {
     let major = (device >> 8) & 0xfff | (device >> 32) & !0xfff;
     let minor = device & 0xff | (device >> 12) & 0xffff_ff00;
     (major, minor)
+}
+
+#[cfg(test)]
+mod tests {
+    use super::device_numbers;
+
+    #[test]
+    fn device_numbers_are_unpacked() {
+        assert_eq!(device_numbers(0xfe00), (0xfe, 0));
+        assert_eq!(device_numbers(0x811), (8, 0x11));
+        assert_eq!(device_numbers(0x1230_00cd), (0, 0x1_23cd));
+        assert_eq!(device_numbers(0xabcd_e000_000f_ff01), (0xabcd_efff, 1));
+    }
 }

@@ -65,6 +65,12 @@ impl<'a> Place<'a> {
         Temporary::write(folder, mode, bytes).map_err(Failure::because(self.given, &what))
     }
 
+    /// Waits until a temporary file is on the disk.
+    pub(crate) fn sync(&self, temporary: &Temporary) -> Result<(), Failure> {
+        let synced = temporary.file.sync_all();
+        synced.map_err(Failure::because(self.given, "can't be synced"))
+    }
+
     /// What is left to do when the file has its new bytes and its name.
     pub(crate) fn finish(&self) -> Written {
         let warning = self.folder.sync_all().err().map(|error| {
@@ -78,6 +84,14 @@ impl<'a> Place<'a> {
             result: (),
             warning,
         }
+    }
+}
+
+impl Drop for Place<'_> {
+    /// Closing is not enough where a process that another thread has just
+    /// started still has the folder open.
+    fn drop(&mut self) {
+        let _ = self.folder.unlock();
     }
 }
 

@@ -1,6 +1,6 @@
 //! A file that is there, and what takes its place.
 
-use crate::input::{bytes_of, identity};
+use crate::input::{bytes_of, identity, Identity};
 use crate::place::Place;
 use crate::{Failure, Patience, Written};
 use std::fs::{self, File, Metadata, OpenOptions};
@@ -47,6 +47,7 @@ impl<'a> Standing<'a> {
         let temporary = self.place.write_beside(0o600, bytes)?;
         keep_owner_and_mode(&self.metadata, &temporary.file)
             .map_err(Failure::because(given, "its owner and mode can't be kept"))?;
+        self.place.sync(&temporary)?;
         self.refuse_change_meanwhile()?;
         temporary
             .replace(&self.place.target)
@@ -56,23 +57,19 @@ impl<'a> Standing<'a> {
 
     /// Other programs do not know of the lock.
     fn refuse_change_meanwhile(&self) -> Result<(), Failure> {
-        let given = self.place.given;
-        let failed = |error| Failure::because(given, "was changed meanwhile")(error);
-        let now = self.file.metadata().map_err(failed)?;
-        let named = fs::symlink_metadata(&self.place.target).map_err(failed)?;
-        if identity(&named) == identity(&now) && state(&now) == state(&self.metadata) {
+        let found = fs::symlink_metadata(&self.place.target);
+        let found = found.map_err(Failure::of(self.place.given))?;
+        if state(&found) == state(&self.metadata) {
             return Ok(());
         }
-        Err(Failure::new(
-            given,
-            "was changed meanwhile by another program",
-        ))
+        let reason = "was changed meanwhile by another program";
+        Err(Failure::new(self.place.given, reason))
     }
 }
 
-/// It differs after whatever changes a file.
-fn state(file: &Metadata) -> (u64, i64, i64) {
-    (file.len(), file.ctime(), file.ctime_nsec())
+/// Whatever changes a file changes this.
+fn state(file: &Metadata) -> (Identity, u64, i64, i64) {
+    (identity(file), file.len(), file.ctime(), file.ctime_nsec())
 }
 
 fn keep_owner_and_mode(old: &Metadata, new: &File) -> io::Result<()> {

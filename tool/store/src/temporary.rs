@@ -35,13 +35,11 @@ impl Temporary {
 
     /// Takes the place of another file.
     pub(crate) fn replace(self, target: &Path) -> io::Result<()> {
-        self.file.sync_all()?;
         Ok(self.path.persist(target)?)
     }
 
     /// Takes a name that no other file has.
     pub(crate) fn take_new_name(self, target: &Path) -> io::Result<()> {
-        self.file.sync_all()?;
         Ok(self.path.persist_noclobber(target)?)
     }
 }

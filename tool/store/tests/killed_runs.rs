@@ -5,9 +5,8 @@ mod common;
 use common::{again, edit_to, folder_with, given, leftovers, mode, names, state, Faults};
 use std::collections::BTreeSet;
 use std::fs;
-use std::os::unix::fs::MetadataExt;
 use std::path::Path;
-use std::process::Stdio;
+use std::process::{Child, Stdio};
 use std::thread::sleep;
 use std::time::Duration;
 
@@ -67,27 +66,35 @@ fn edit_for_ever(book: &Path) -> ! {
     }
 }
 
+/// Waits for the first edit of a process, and for a moment more.
+fn let_edit(editor: &mut Child, book: &Path, moment: Duration) {
+    let written = || fs::metadata(book).unwrap().modified().unwrap();
+    let before = written();
+    while written() == before {
+        assert_eq!(editor.try_wait().unwrap(), None);
+        sleep(Duration::from_millis(1));
+    }
+    sleep(moment);
+}
+
 #[test]
 fn killed_at_any_moment_a_book_is_whole() {
     if let Some(book) = given() {
         edit_for_ever(&book);
     }
     let (folder, book) = folder_with("desk.book", VERSIONS[0]);
-    let (mut changed, mut left) = (0, 0);
+    let mut left = 0;
     for round in 0..60 {
-        let before = fs::metadata(&book).unwrap().ino();
-        let mut editor = again(killed_at_any_moment_a_book_is_whole, &book);
-        let mut editor = editor.stdout(Stdio::null()).spawn().unwrap();
-        sleep(Duration::from_micros(10_000 + 313 * round));
+        let mut command = again(killed_at_any_moment_a_book_is_whole, &book);
+        let mut editor = command.stdout(Stdio::null()).spawn().unwrap();
+        let_edit(&mut editor, &book, Duration::from_micros(97 * round));
         editor.kill().unwrap();
         editor.wait().unwrap();
         let bytes = fs::read(&book).unwrap();
         assert!(VERSIONS.contains(&&bytes[..]), "{} bytes", bytes.len());
-        changed += usize::from(fs::metadata(&book).unwrap().ino() != before);
         left += leftovers(folder.path()).len();
     }
-    println!("{changed} runs changed the book, {left} left a file");
-    assert!(changed > 0);
+    println!("{left} of 60 killed runs left a file");
     assert!(edit_to(&book, b"new").is_ok());
     assert_eq!(names(folder.path()), ["desk.book"]);
 }

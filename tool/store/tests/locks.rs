@@ -15,10 +15,10 @@ use std::time::{Duration, Instant};
 
 const TEN_SECONDS: Duration = Duration::from_secs(10);
 
-/// The lock, until it is dropped; another command could not have it more.
+/// The lock as another command has it, until it is dropped.
 fn hold(folder: &Path) -> File {
     let held = File::open(folder).unwrap();
-    held.try_lock().unwrap();
+    held.lock().unwrap();
     held
 }
 
