@@ -2,13 +2,13 @@
 
 use crate::answer::{Ground, Refusal};
 use crate::block::{Curve, Header, TradeBlock, BLOCK, CURVE, HEADER, TRADES};
-use crate::block_rules as rules;
 use crate::fault::{BookFault, Fault, Part};
 use crate::flows::{cash_flows, CashFlow};
 use crate::layout::Layout;
 use crate::record::Record;
 use crate::require::require;
-use crate::rules::keep_rules;
+use crate::rules::{blocks as rules, keep_rules};
+use crate::words::Unit;
 use std::fmt::Display;
 
 /// What an accepted book holds.
@@ -37,11 +37,11 @@ pub fn accept(lent: &[u8], used: usize) -> Result<Book, Refusal> {
 
 /// Why a book is refused; none if it is accepted.
 pub fn book_fault(lent: &[u8], used: usize) -> Option<BookFault> {
-    take(lent, used).err()
+    take(lent, used).err().map(|fault| *fault)
 }
 
 /// Length first, then block by block, the lowest ground of a block first.
-fn take(lent: &[u8], used: usize) -> Result<Book, BookFault> {
+fn take(lent: &[u8], used: usize) -> Result<Book, Box<BookFault>> {
     require(Ground::Length, rules::length(lent.len(), used))
         .map_err(|fault| fault.in_part(0, Part::Length))?;
     let blocks: Vec<&[u8]> = lent[..used].chunks(BLOCK).collect();
@@ -73,8 +73,12 @@ fn take_header(blocks: &[&[u8]]) -> Result<Header, Fault> {
     Ok(Header::decode(blocks[0]))
 }
 
-fn take_curve(block: &[u8], number: usize, header: &Header) -> Result<Curve, BookFault> {
-    let why = format_args!("curves are blocks 1 to {}, by the header", header.curves);
+fn take_curve(block: &[u8], number: usize, header: &Header) -> Result<Curve, Box<BookFault>> {
+    let last = header.curves.into();
+    let why = format_args!(
+        "by the header, curves are block {}",
+        Unit::Whole.range(1, last)
+    );
     in_place(block, CURVE, number, why)
         .and_then(|()| require(Ground::Curve, rules::curve(block, number)))
         .map_err(|fault| fault.in_part(number, Part::Curve))?;
@@ -87,15 +91,25 @@ fn take_curve(block: &[u8], number: usize, header: &Header) -> Result<Curve, Boo
     Ok(curve)
 }
 
-fn take_trades(book: &mut Book, block: &[u8], number: usize, last: bool) -> Result<(), BookFault> {
-    let why = format_args!("trades begin with block {}, by the header", 1 + book.curves.len());
+fn take_trades(
+    book: &mut Book,
+    block: &[u8],
+    number: usize,
+    last: bool,
+) -> Result<(), Box<BookFault>> {
+    let first = 1 + book.curves.len();
+    let why = format_args!("by the header, trades begin in block {first}");
     in_place(block, TRADES, number, why)
         .and_then(|()| require(Ground::TradeBlock, rules::trade_block(block, last)))
         .map_err(|fault| fault.in_part(number, Part::Trades))?;
     let trades = TradeBlock::decode(block);
     let count = trades.count.into();
     for (place, record) in trades.places[..count].iter().enumerate() {
-        let part = Part::Trade { position: book.trades.len(), place, count };
+        let part = Part::Trade {
+            position: book.trades.len(),
+            place,
+            count,
+        };
         keep_rules(record, &book.curves).map_err(|fault| fault.in_part(number, part))?;
         book.trades.push(*record);
     }

@@ -5,9 +5,10 @@ use crate::words::Unit;
 use std::error::Error;
 use std::fmt::{self, Display, Formatter};
 
-/// What is wrong: the field, what stands there, what may stand there.
+/// What is wrong: the field, what stands there, what may stand there. It is
+/// told in words, or not where `W` is ().
 #[derive(Clone, Debug, PartialEq, Eq)]
-pub struct Fault {
+pub struct Fault<W = String> {
     /// The ground that answers.
     pub ground: Ground,
     /// The field by its name in the layout; `used` for the used length,
@@ -18,9 +19,9 @@ pub struct Fault {
     /// The number that is there.
     pub found: i128,
     /// What may stand there, in the unit that people write.
-    pub allowed: String,
+    pub allowed: W,
     /// Why nothing else may.
-    pub why: String,
+    pub why: W,
 }
 
 impl Fault {
@@ -31,12 +32,12 @@ impl Fault {
     }
 
     /// The fault with the place that it was found in.
-    pub fn in_part(self, block: usize, part: Part) -> BookFault {
-        BookFault {
+    pub(crate) fn in_part(self, block: usize, part: Part) -> Box<BookFault> {
+        Box::new(BookFault {
             block,
             part,
             fault: self,
-        }
+        })
     }
 }
 
@@ -54,13 +55,12 @@ impl Error for Fault {}
 pub enum Part {
     /// The used length.
     Length,
+    /// The header's block.
     Header,
+    /// A curve's block, none of its nodes by itself.
     Curve,
     /// A node by its place in the curve, from 0, and how many there are.
-    Node {
-        place: usize,
-        count: usize,
-    },
+    Node { place: usize, count: usize },
     /// A block of trades, none of them by itself.
     Trades,
     /// A trade by its position in the book, and by its place in the block of
@@ -75,8 +75,11 @@ pub enum Part {
 /// Where in a book, and why.
 #[derive(Clone, Debug, PartialEq, Eq)]
 pub struct BookFault {
+    /// The block that the refusal names.
     pub block: usize,
+    /// What of the book is meant.
     pub part: Part,
+    /// What is wrong there.
     pub fault: Fault,
 }
 

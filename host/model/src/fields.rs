@@ -16,7 +16,7 @@ use std::ops::RangeInclusive;
 
 /// A field of a record, a block or a node.
 pub struct Field<T> {
-    pub about: About,
+    pub about: &'static About,
     read: fn(&T) -> i128,
 }
 
@@ -49,9 +49,10 @@ const CURRENCY_NAMES: Unit = Unit::Named(1, &CURRENCIES);
 
 /// A table: the field's name, the unit, the limits, the meaning.
 macro_rules! fields {
-    ($type:ty, $read:expr; $($constant:ident = $name:expr, $unit:expr, $limits:expr, $meaning:expr;)*) => {$(
+    ($type:ty, $read:expr; $($constant:ident = $name:expr, $unit:expr, $limits:expr, $meaning:literal;)*) => {$(
+        #[doc = $meaning]
         pub const $constant: Field<$type> = Field {
-            about: About {
+            about: &About {
                 name: $name,
                 unit: $unit,
                 least: *$limits.start() as i128,
@@ -61,7 +62,7 @@ macro_rules! fields {
             read: $read,
         };
     )*};
-    ($type:ty; $($constant:ident = $field:ident, $unit:expr, $limits:expr, $meaning:expr;)*) => {$(
+    ($type:ty; $($constant:ident = $field:ident, $unit:expr, $limits:expr, $meaning:literal;)*) => {$(
         fields! { $type, |content| content.$field.into();
             $constant = stringify!($field), $unit, $limits, $meaning;
         }

@@ -1,7 +1,6 @@
 //! A number found in a field, held against what may stand there.
 
 use crate::words::Unit;
-use std::collections::BTreeSet;
 use std::fmt::Display;
 use std::ops::RangeInclusive;
 
@@ -20,81 +19,99 @@ pub struct About {
     pub meaning: &'static str,
 }
 
+/// Whether a broken rule is put in words.
+pub trait Tell {
+    fn tell(words: impl Display) -> Self;
+}
+
+impl Tell for String {
+    fn tell(words: impl Display) -> Self {
+        words.to_string()
+    }
+}
+
+/// Where the ground alone is asked for.
+impl Tell for () {
+    fn tell(_: impl Display) -> Self {}
+}
+
 /// The number that a field holds.
 #[derive(Clone, Copy, Debug)]
 pub struct Found {
-    pub about: About,
+    pub about: &'static About,
     pub number: i128,
 }
 
 /// A rule that a number breaks.
 #[derive(Clone, Debug)]
-pub struct Breach {
+pub struct Breach<W = String> {
     pub found: Found,
-    /// What may stand there, in words.
-    pub allowed: String,
+    /// What may stand there.
+    pub allowed: W,
     /// Why nothing else may.
-    pub why: String,
+    pub why: W,
 }
 
 /// Whether a rule is kept.
-pub type Kept = Result<(), Breach>;
+pub type Kept<W = String> = Result<(), Breach<W>>;
 
 impl Found {
     /// Within the limits that hold for every book.
-    pub fn within_limits(self) -> Kept {
-        let About { least, most, .. } = self.about;
+    pub fn within_limits<W: Tell>(self) -> Kept<W> {
+        let About { least, most, .. } = *self.about;
         self.within(least..=most, self.about.meaning)
     }
 
     /// Within a range that is not empty.
-    pub fn within(self, range: RangeInclusive<i128>, why: impl Display) -> Kept {
-        let allowed = || self.about.unit.range(*range.start(), *range.end());
+    pub fn within<W: Tell>(self, range: RangeInclusive<i128>, why: impl Display) -> Kept<W> {
+        let allowed = self.about.unit.range(*range.start(), *range.end());
         self.require(range.contains(&self.number), allowed, why)
     }
 
-    pub fn at_most(self, most: i128, why: impl Display) -> Kept {
-        let allowed = || format!("at most {}", self.about.unit.words(most));
+    pub fn at_most<W: Tell>(self, most: i128, why: impl Display) -> Kept<W> {
+        let allowed = format_args!("at most {}", self.about.unit.words(most));
         self.require(self.number <= most, allowed, why)
     }
 
-    pub fn is(self, due: impl Into<i128>, why: impl Display) -> Kept {
+    pub fn is<W: Tell>(self, due: impl Into<i128>, why: impl Display) -> Kept<W> {
         let due = due.into();
         self.within(due..=due, why)
     }
 
-    pub fn is_zero(self, why: impl Display) -> Kept {
+    pub fn is_zero<W: Tell>(self, why: impl Display) -> Kept<W> {
         self.is(0, why)
     }
 
     /// One of a list, which may name a number more than once.
-    pub fn one_of(self, list: impl Iterator<Item = u8> + Clone, why: impl Display) -> Kept {
+    pub fn one_of<W: Tell>(
+        self,
+        list: impl Iterator<Item = u8> + Clone,
+        why: impl Display,
+    ) -> Kept<W> {
         let numbers = list.map(i128::from);
         let holds = numbers.clone().any(|number| number == self.number);
-        let allowed = || self.about.unit.one_of(numbers.collect::<BTreeSet<_>>());
-        self.require(holds, allowed, why)
+        self.require(holds, self.about.unit.one_of(numbers), why)
     }
 
-    pub fn multiple_of(self, size: i128, why: impl Display) -> Kept {
-        let allowed = || format!("a multiple of {}", self.about.unit.words(size));
+    pub fn multiple_of<W: Tell>(self, size: i128, why: impl Display) -> Kept<W> {
+        let allowed = format_args!("a multiple of {}", self.about.unit.words(size));
         self.require(self.number % size == 0, allowed, why)
     }
 
-    /// The rule broken.
-    pub fn breach(self, allowed: impl Into<String>, why: impl Display) -> Breach {
-        Breach {
-            found: self,
-            allowed: allowed.into(),
-            why: why.to_string(),
-        }
-    }
-
     /// Nothing is put in words where the rule is kept.
-    fn require(self, holds: bool, allowed: impl FnOnce() -> String, why: impl Display) -> Kept {
+    pub fn require<W: Tell>(
+        self,
+        holds: bool,
+        allowed: impl Display,
+        why: impl Display,
+    ) -> Kept<W> {
         if holds {
-            Ok(())
-        } else {
-            Err(self.breach(allowed(), why))
+            return Ok(());
         }
+        Err(Breach {
+            found: self,
+            allowed: W::tell(allowed),
+            why: W::tell(why),
+        })
     }
 }

@@ -5,21 +5,22 @@
 
 pub mod accept;
 pub mod big;
-pub mod block_rules;
 pub mod bounds;
 pub mod calls;
 pub mod curve;
 pub mod discount;
 pub mod edit;
 pub mod exact;
+pub mod explain;
 pub mod fault;
-pub mod fields;
+mod fields;
 pub mod flows;
-pub mod found;
+mod found;
 pub mod list;
 pub mod margin;
 pub mod number;
-pub mod require;
+mod reasons;
+mod require;
 pub mod rules;
 pub mod scenario;
 pub mod search;
@@ -29,6 +30,7 @@ pub mod words;
 
 pub use accept::book_fault;
 pub use calls::{append, check, margin, present_value, read, strike};
+pub use explain::rule;
 pub use fault::{BookFault, Fault, Part};
 pub use list::list;
 pub use rules::record_fault;

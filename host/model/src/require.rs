@@ -5,7 +5,7 @@ use crate::fault::Fault;
 use crate::found::Kept;
 
 /// Ok if the rule is kept, the ground's fault if not.
-pub fn require(ground: Ground, rule: Kept) -> Result<(), Fault> {
+pub fn require<W>(ground: Ground, rule: Kept<W>) -> Result<(), Fault<W>> {
     rule.map_err(|breach| Fault {
         ground,
         field: breach.found.about.name,

@@ -1,6 +1,7 @@
 //! Numbers in the units that people write them in.
 
-use std::fmt::{self, Display, Formatter};
+use std::collections::BTreeSet;
+use std::fmt::{from_fn, Display};
 
 /// What the numbers of a field count.
 #[derive(Clone, Copy, Debug, PartialEq, Eq)]
@@ -17,44 +18,13 @@ pub enum Unit {
     Named(u8, &'static [&'static str]),
 }
 
-/// A number with its unit, put in words where it is displayed.
-#[derive(Clone, Copy, Debug)]
-pub struct Words {
-    unit: Unit,
-    number: i128,
-}
-
 impl Unit {
     /// A number as people write it.
-    pub fn words(self, number: impl Into<i128>) -> Words {
-        Words {
-            unit: self,
-            number: number.into(),
-        }
-    }
-
-    /// All numbers from the least to the most; names one by one.
-    pub fn range(self, least: i128, most: i128) -> String {
-        match self {
-            _ if least == most => self.words(least).to_string(),
-            Unit::Named(..) => self.one_of(least..=most),
-            _ => format!("{} to {}", self.words(least), self.words(most)),
-        }
-    }
-
-    /// Numbers of which one is to be chosen.
-    pub fn one_of(self, numbers: impl IntoIterator<Item = i128>) -> String {
-        let words = numbers.into_iter().map(|number| self.words(number));
-        joined(&words.map(|words| words.to_string()).collect::<Vec<_>>(), "or")
-    }
-}
-
-impl Display for Words {
-    fn fmt(&self, f: &mut Formatter<'_>) -> fmt::Result {
-        let number = self.number;
-        match self.unit {
-            Unit::Whole => write!(f, "{}", decimal(number, 0)),
-            Unit::Money | Unit::Coefficient => write!(f, "{}", decimal(number, 2)),
+    pub fn words(self, number: impl Into<i128>) -> impl Display {
+        let number = number.into();
+        from_fn(move |f| match self {
+            Unit::Whole => f.write_str(&decimal(number, 0)),
+            Unit::Money | Unit::Coefficient => f.write_str(&decimal(number, 2)),
             Unit::Percent => write!(f, "{}%", decimal(number, 4)),
             Unit::Named(first, names) => {
                 let place = usize::try_from(number - i128::from(first));
@@ -63,13 +33,32 @@ impl Display for Words {
                     None => write!(f, "{number}"),
                 }
             }
-        }
+        })
+    }
+
+    /// All numbers from the least to the most; names one by one.
+    pub fn range(self, least: i128, most: i128) -> impl Display {
+        from_fn(move |f| match self {
+            _ if least == most => write!(f, "{}", self.words(least)),
+            Unit::Named(..) => write!(f, "{}", self.one_of(least..=most)),
+            _ => write!(f, "{} to {}", self.words(least), self.words(most)),
+        })
+    }
+
+    /// Numbers of which one is to be chosen, each named once.
+    pub fn one_of(self, numbers: impl Iterator<Item = i128> + Clone) -> impl Display {
+        from_fn(move |f| {
+            let numbers: BTreeSet<i128> = numbers.clone().collect();
+            let words = numbers.iter().map(|&number| self.words(number));
+            f.write_str(&joined(words, "or"))
+        })
     }
 }
 
 /// Items with commas between them, the last two with a word.
-pub fn joined(items: &[String], word: &str) -> String {
-    match items {
+pub fn joined(items: impl Iterator<Item = impl Display>, word: &str) -> String {
+    let items: Vec<String> = items.map(|item| item.to_string()).collect();
+    match &items[..] {
         [before @ .., last] if !before.is_empty() => {
             format!("{} {word} {last}", before.join(", "))
         }

@@ -11,13 +11,14 @@ use crate::limits::FULL_BLOCK;
 use crate::record::Record;
 use std::fmt::Display;
 
-/// Ground 1.
+/// Ground 1; a book of one block is left to ground 4.
 pub fn length(lent: usize, used: usize) -> Kept {
-    let (block, most) = (BLOCK as i128, USED.about.most);
-    let used = USED.of(&used);
-    used.within(block..=most, USED.about.meaning)?;
-    used.multiple_of(block, USED.about.meaning)?;
-    used.at_most(lent as i128, "no more bytes are lent")
+    let found = USED.of(&used);
+    if used != BLOCK {
+        found.within_limits()?;
+    }
+    found.multiple_of(BLOCK as i128, USED.about.meaning)?;
+    found.at_most(lent as i128, "no more bytes are lent")
 }
 
 /// Ground 2.
@@ -38,11 +39,12 @@ pub fn header(block: &[u8], blocks: usize) -> Kept {
     let header = Header::decode(block);
     USED.of(&(blocks * BLOCK)).within_limits()?;
     let behind = blocks as i128 - 1;
-    let why = format!("curves and trade blocks are the {behind} blocks behind the header");
+    let why =
+        format_args!("with the header, curves and trade blocks are the book's {blocks} blocks");
     let most = behind.min(CURVE_COUNT.about.most);
-    CURVE_COUNT.of(&header).within(1..=most, &why)?;
+    CURVE_COUNT.of(&header).within(1..=most, why)?;
     let trades = behind - i128::from(header.curves);
-    TRADE_BLOCKS.of(&header).is(trades, &why)?;
+    TRADE_BLOCKS.of(&header).is(trades, why)?;
     unnamed_are_zero(block, &header, "a header")
 }
 
@@ -95,7 +97,9 @@ pub fn trade_block(block: &[u8], last: bool) -> Kept {
         COUNT.of(&trades).within_limits()?;
     } else {
         let full = FULL_BLOCK as i128;
-        COUNT.of(&trades).is(full, "only the last block of trades may hold fewer")?;
+        COUNT
+            .of(&trades)
+            .is(full, "only the last block of trades may hold fewer")?;
     }
     let count = usize::from(trades.count);
     trades.places[count..].fill(Record::default());

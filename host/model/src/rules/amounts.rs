@@ -1,0 +1,92 @@
+//! Amounts, prices, rates and indices, fields due to be 0, and the flows
+//! that amounts make, grounds 10 and 12.
+
+use crate::fields::{
+    Field, ACCRUED, CLEAN_PRICE, COUPON, FIRST_PAYMENT_DAY, ISSUE_INDEX, NOMINAL, PAYMENT_COUNT,
+    PERIOD, REPO_CASH, REPO_RATE, SETTLEMENT_INDEX, TERM, VALUE_DAY_1, VALUE_DAY_2, ZERO,
+};
+use crate::flows::{named_flows, Leg};
+use crate::found::{Kept, Tell};
+use crate::limits::MAX_AMOUNT;
+use crate::reasons;
+use crate::record::Record;
+use crate::words::Unit;
+
+/// Ground 10, on the fields that the record uses.
+pub fn hold<W: Tell>(record: &Record) -> Kept<W> {
+    if record.is_repo() {
+        REPO_CASH.of(record).within_limits()?;
+        REPO_RATE.of(record).within_limits()?;
+    } else {
+        CLEAN_PRICE.of(record).within_limits()?;
+        ACCRUED.of(record).within_limits()?;
+    }
+    if record.has_security() {
+        NOMINAL.of(record).within_limits()?;
+    }
+    if record.has_coupons() {
+        COUPON.of(record).within_limits()?;
+    }
+    if record.is_indexed() {
+        SETTLEMENT_INDEX.of(record).within_limits()?;
+        ISSUE_INDEX.of(record).within_limits()?;
+    }
+    Ok(())
+}
+
+/// Ground 10, on the fields that the record does not use.
+pub fn unused_are_zero<W: Tell>(record: &Record) -> Kept<W> {
+    ZERO.of(record).within_limits()?;
+    if record.is_repo() {
+        all_zero(record, &[ACCRUED], reasons::NO_ACCRUED)?;
+    } else {
+        let second_leg = [VALUE_DAY_2, TERM, REPO_CASH];
+        all_zero(record, &second_leg, reasons::NO_SECOND_LEG)?;
+    }
+    if record.first_leg_settled() {
+        all_zero(record, &[VALUE_DAY_1], reasons::NO_FIRST_LEG)?;
+    }
+    if !record.has_security() {
+        all_zero(record, &[FIRST_PAYMENT_DAY, NOMINAL], reasons::NO_SECURITY)?;
+    }
+    if !record.has_coupons() {
+        let coupons = [PERIOD, PAYMENT_COUNT, COUPON];
+        all_zero(record, &coupons, reasons::NO_COUPONS)?;
+    }
+    if !record.is_indexed() {
+        let indices = [SETTLEMENT_INDEX, ISSUE_INDEX];
+        all_zero(record, &indices, reasons::NO_INDICES)?;
+    }
+    Ok(())
+}
+
+fn all_zero<W: Tell>(record: &Record, fields: &[Field<Record>], why: &str) -> Kept<W> {
+    let mut found = fields.iter().map(|field| field.of(record));
+    found.try_for_each(|found| found.is_zero(why))
+}
+
+/// Ground 12.
+pub fn flows_within_limit<W: Tell>(record: &Record) -> Kept<W> {
+    named_flows(record).into_iter().try_for_each(|(leg, flow)| {
+        let (field, name) = made_by(leg, record);
+        let unit = field.about.unit;
+        let why = format_args!(
+            "it makes a {name} of {} on day {}, and a flow is {} at most",
+            unit.words(flow.amount as i128),
+            Unit::Whole.words(flow.day),
+            unit.words(MAX_AMOUNT)
+        );
+        let holds = flow.amount <= MAX_AMOUNT.into();
+        field.of(record).require(holds, "less", why)
+    })
+}
+
+/// The amount that a flow comes from, and the flow's name.
+fn made_by(leg: Leg, record: &Record) -> (Field<Record>, &'static str) {
+    match leg {
+        Leg::First if record.is_repo() => (REPO_CASH, "first leg"),
+        Leg::First => (NOMINAL, "settlement cash"),
+        Leg::Second => (REPO_CASH, "second leg"),
+        Leg::Payment => (NOMINAL, "payment"),
+    }
+}
