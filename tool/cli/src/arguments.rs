@@ -75,7 +75,7 @@ pub enum Command {
 /// Of every command that writes into a folder.
 #[derive(Args, Clone, Copy, Debug)]
 pub struct Waiting {
-    /// Wait so long for another command that writes in the same folder
+    /// How long to wait for another command that is writing there
     #[arg(long, value_name = "SECONDS", default_value_t = 10, value_parser = clap::value_parser!(u64).range(..=86_400))]
     pub wait: u64,
 }
@@ -127,7 +127,7 @@ pub struct Again {
 }
 
 #[derive(Args, Debug)]
-#[command(after_help = seddolki_text::columns::meanings())]
+#[command(after_help = seddolki_text::meanings())]
 pub struct Append {
     pub book: PathBuf,
     /// Columns that the trade does not use are left out
@@ -140,7 +140,7 @@ pub struct Append {
 }
 
 #[derive(Args, Debug)]
-#[command(after_help = format!("{}\n{}", crate::commands::import::FORM, seddolki_text::columns::meanings()))]
+#[command(after_help = format!("{}\n{}", crate::commands::import::FORM, seddolki_text::meanings()))]
 pub struct Import {
     pub book: PathBuf,
     /// The file of trades; - is standard input
@@ -152,7 +152,7 @@ pub struct Import {
 }
 
 #[derive(Args, Debug)]
-#[command(after_help = seddolki_text::columns::meanings())]
+#[command(after_help = seddolki_text::meanings())]
 pub struct Amend {
     pub book: PathBuf,
     /// As show lists them, from 0

@@ -1,11 +1,12 @@
 //! Refusals in words: the verdict is the engine's, and the second
 //! implementation says where and why.
 
+use crate::words::count;
 use seddolki::{Book, Ground, Record, Refusal};
 use seddolki_format::block::Curve;
 use seddolki_format::limits::{FULL_BLOCK, MAX_BLOCKS};
 use seddolki_model::{book_fault, record_fault, BookFault, Fault};
-use seddolki_text::columns::Column;
+use seddolki_text::Column;
 
 /// Where a refused book breaks its rule, and why.
 pub fn where_and_why(book: &Book, refusal: Refusal) -> Option<BookFault> {
@@ -26,7 +27,7 @@ pub fn book_refused(book: &Book, refusal: Refusal) -> String {
 pub fn record_refused(record: &Record, curves: &[Curve], refusal: Refusal) -> String {
     if refusal.ground == Ground::BookSpace {
         let most = (MAX_BLOCKS - 1 - curves.len()) * FULL_BLOCK;
-        return format!("{refusal}: the book is full with {most} trades");
+        return format!("{refusal}: the book is full with {}", count(most, "trade"));
     }
     let fault = record_fault(record, curves).filter(|fault| fault.ground == refusal.ground);
     match fault {

@@ -5,8 +5,8 @@ use crate::refusal::record_refused;
 use crate::table::Value;
 use seddolki::{Book, Record};
 use seddolki_format::block::Curve;
-use seddolki_text::columns::{Column, Unit, COLUMNS};
 use seddolki_text::trade::values_of;
+use seddolki_text::{Column, Unit, COLUMNS};
 use seddolki_text::{Decimals, Fault};
 
 /// What stands on each side of the equals signs.

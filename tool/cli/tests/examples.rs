@@ -289,8 +289,8 @@ fn a_refused_book_is_told_with_place_field_and_limit_by_every_command() {
     bytes[2 * 512 + 4 + 13] = 0;
     seddolki_format::block::seal(&mut bytes[2 * 512..]);
     desk.write("bad.book", &bytes);
-    desk.write("trades.csv", "kind\n");
-    for arguments in [
+    desk.write("trades.csv", "kind,side\n");
+    let mut runs: Vec<tool::Run> = [
         &["check", "bad.book"][..],
         &["show", "bad.book"],
         &["margin", "bad.book"],
@@ -303,15 +303,16 @@ fn a_refused_book_is_told_with_place_field_and_limit_by_every_command() {
         &["amend", "bad.book", "0", "nominal=5"],
         &["import", "bad.book", "trades.csv"],
         &["curves", "bad.book", &example("curve.txt")],
-        &["append", "bad.book", "kind=outright"],
-    ] {
-        let run = desk.run(arguments);
-        assert_eq!(run.status, tool::REFUSED, "{arguments:?}");
+    ]
+    .map(|arguments| desk.run(arguments))
+    .into();
+    runs.push(desk.append("bad.book", &tool::outright(5)));
+    for run in runs {
+        assert_eq!(run.status, tool::REFUSED, "{run:?}");
         assert!(
             run.err
                 .contains("bad.book: refused by ground 9 in block 2: "),
-            "{arguments:?}: {}",
-            run.err
+            "{run:?}"
         );
         assert!(
             run.err

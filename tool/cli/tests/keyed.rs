@@ -100,7 +100,7 @@ fn numbers_that_the_engine_refuses_are_told_by_column() {
         REPO,
         "pool repo,repo,1,4,1,8,7,500,13",
         "cash_curve",
-        &["4 is there", "1 to 3", "ground 8"],
+        &["4 is there", "1, 2 or 3", "ground 8"],
     );
     refused(
         REPO,
@@ -190,7 +190,7 @@ fn the_right_column_is_blamed() {
     ]);
     assert!(no_security.contains("column security: "), "{no_security}");
     assert!(
-        no_security.contains("single payment, coupons or indexed coupons"),
+        no_security.contains("1 (single payment), 2 (coupons) or 3 (indexed coupons) is due"),
         "{no_security}"
     );
     let no_indices = blamed(&[

@@ -80,7 +80,7 @@ fn each_way_to_end_has_its_status() {
     assert_eq!(desk.run(&["sell", "buyer.book"]).status, MISUSED);
     assert_eq!(desk.run::<&str>(&[]).status, MISUSED);
     assert_eq!(desk.run(&["append", "buyer.book", "kind"]).status, MISUSED);
-    assert_eq!(desk.run(&["append", "-", "kind=outright"]).status, MISUSED);
+    assert_eq!(desk.append("-", &outright(5)).status, MISUSED);
     assert_eq!(desk.run(&["check", "no.book"]).status, FAILED);
     assert_eq!(desk.run(&["check", "."]).status, FAILED);
     assert_eq!(desk.files(), ["buyer.book"]);

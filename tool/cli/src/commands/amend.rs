@@ -12,8 +12,8 @@ use seddolki::{doubles_at, Book, Ground, Placed, Record};
 use seddolki_format::assemble;
 use seddolki_model::accept;
 use seddolki_store::shown;
-use seddolki_text::columns::Column;
 use seddolki_text::trade::amend;
+use seddolki_text::Column;
 use seddolki_text::Decimals;
 
 pub fn run(arguments: &Amend) -> Result<u8, Ended> {

@@ -6,9 +6,7 @@ use crate::ended::{Ended, DONE};
 use crate::print;
 use crate::refusal::book_refused;
 use seddolki::{Book, Ground};
-fn rule(g: Ground) -> String {
-    g.sentence().into()
-}
+use seddolki_model::explain::rule;
 use seddolki_store::{read_at_most, shown};
 use std::path::Path;
 

@@ -12,8 +12,8 @@ use seddolki_format::report::currency_name;
 use seddolki_model::accept::Book;
 use seddolki_model::flows::CashFlow;
 use seddolki_model::scenario::scenarios;
-use seddolki_text::columns::COLUMNS;
 use seddolki_text::decimal::{format as decimal, COEFFICIENT, MONEY, PERCENT};
+use seddolki_text::COLUMNS;
 
 pub fn run(arguments: &Show) -> Result<u8, Ended> {
     let book = accepted(&arguments.one.book)?.parts;
