@@ -60,7 +60,7 @@ use std::slice;
 /// assert_eq!(
 ///     doubles(&[returned, repo])[0].to_string(),
 ///     "trade 0 begins with the second leg of trade 1: \
-///      other side, same cash curve, cash 1,002.15 on day 7"
+///      other side, cash 1,002.15 on day 7"
 /// );
 /// ```
 pub fn doubles(trades: &[Record]) -> Vec<Double> {

@@ -66,7 +66,7 @@ fn of_a_repo_it_is_said_which_one_has_the_second_leg() {
     let is_leg = |leg, whole| format!("trade {leg} is the second leg of trade {whole}: {terms}");
     assert_eq!(words([repo, settled]), is_leg(1, 0));
     assert_eq!(words([settled, repo]), is_leg(0, 1));
-    let cash = "other side, same cash curve, cash 1,002.15 on day 7";
+    let cash = "other side, cash 1,002.15 on day 7";
     let begins =
         |leg, whole| format!("trade {leg} begins with the second leg of trade {whole}: {cash}");
     assert_eq!(words([repo, returned]), begins(1, 0));

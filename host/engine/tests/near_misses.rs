@@ -127,11 +127,11 @@ fn a_repo_with_other_terms_has_not_this_second_leg() {
 fn a_repo_that_begins_with_other_cash_is_none() {
     let misses = |field: &str, _: &Record, repo: &Record| match field {
         "kind" | "phase" => repo.first_leg_settled(),
-        _ => ["side", "cash_curve", "repo_cash"].contains(&field),
+        _ => ["side", "repo_cash"].contains(&field),
     };
     let tried = change_each_field(Likeness::SecondLegAsFirst, double_changed, misses);
     assert_tried(&tried, true, 300, &["side", "repo_cash"]);
-    assert_tried(&tried, true, 50, &["cash_curve"]);
+    assert_tried(&tried, false, 50, &["cash_curve"]);
     assert_tried(&tried, true, 5, &["phase"]);
     assert_tried(
         &tried,
@@ -144,7 +144,7 @@ fn a_repo_that_begins_with_other_cash_is_none() {
 #[test]
 fn a_repo_that_pays_back_another_amount_is_none() {
     let misses = |field: &str, begins: &Record, repo: &Record| match field {
-        "side" | "cash_curve" | "value_day_2" => true,
+        "side" | "value_day_2" => true,
         _ => {
             let paid_back = second_leg(repo.repo_cash, repo.price_or_rate, repo.term);
             paid_back != begins.repo_cash.into()
@@ -153,8 +153,12 @@ fn a_repo_that_pays_back_another_amount_is_none() {
     let tried = change_each_field(Likeness::SecondLegAsFirst, trade_changed, misses);
     assert_tried(&tried, true, 300, &["side", "repo_cash"]);
     assert_tried(&tried, true, 100, &["price_or_rate", "term", "value_day_2"]);
-    assert_tried(&tried, true, 50, &["cash_curve"]);
-    assert_tried(&tried, false, 20, &["price_or_rate", "term", "nominal"]);
+    assert_tried(
+        &tried,
+        false,
+        20,
+        &["price_or_rate", "term", "nominal", "cash_curve"],
+    );
 }
 
 #[test]

@@ -106,7 +106,7 @@ fn numbers_that_the_engine_refuses_are_told_by_column() {
         REPO,
         "pool repo,repo,4,2,1,8,7,500,13",
         "phase",
-        &["4 is there", "1 to 3"],
+        &["4 is there", "1, 2 or 3"],
     );
     refused(
         REPO,

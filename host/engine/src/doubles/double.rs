@@ -84,7 +84,7 @@ impl Double {
             let day = repo.value_day_1;
             return format!(
                 "{repeats} begins with the second leg of {whole}: \
-                 other side, same cash curve, cash {cash} on day {day}"
+                 other side, cash {cash} on day {day}"
             );
         }
         let curves = if both_have_security(first, second) {

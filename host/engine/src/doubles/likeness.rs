@@ -16,10 +16,10 @@ pub enum Likeness {
     /// count where both have a security. Kind, security and nominal do not
     /// count.
     SecondLeg,
-    /// Two repos of opposite sides and the same cash curve; one begins on the
-    /// other's value day 2, its first leg not settled, with the other's
-    /// second leg as its cash. Its first leg is then the other's second leg
-    /// again: same curve, day, amount and sign.
+    /// Two repos of opposite sides; one begins on the other's value day 2, its
+    /// first leg not settled, with the other's second leg as its cash. Its
+    /// first leg is then the other's second leg again: same day, amount and
+    /// sign. Curves do not count.
     SecondLegAsFirst,
     /// Opposite sides, all else alike.
     Opposite,
@@ -120,7 +120,6 @@ fn begins_with_second_leg(repo: &Record, other: &Record) -> bool {
     begins(repo)
         && other.is_repo()
         && repo.side != other.side
-        && repo.cash_curve == other.cash_curve
         && repo.value_day_1 == other.value_day_2
         && u128::from(repo.repo_cash)
             == second_leg(other.repo_cash, other.price_or_rate, other.term)
