@@ -6,7 +6,7 @@ mod tool;
 use std::fs::{self, Permissions};
 use std::os::unix::fs::{chown, symlink, MetadataExt, PermissionsExt};
 use std::os::unix::process::CommandExt;
-use tool::{example, finish, Desk, Run, DONE, FAILED};
+use tool::{example, finish, outright, Desk, Run, DONE, FAILED};
 
 const NOBODY: u32 = 65534;
 
@@ -61,12 +61,13 @@ fn a_failed_write_leaves_the_book_and_nothing_else() {
 fn a_planted_link_is_not_followed() {
     let desk = Desk::with("buyer.book");
     desk.write("precious", "precious");
-    // the name that a temporary file had, for every process to come
-    let script = "for i in $(seq 1 40); do ln -sf precious .buyer.book.$(( $$ + i )).new; done; \
-                  for i in 1 2 3 4 5 6; do \"$0\" amend buyer.book 0 nominal=$i > /dev/null; done";
-    let run = desk.shell(script);
-    assert_eq!((run.status, run.err.as_str()), (DONE, ""));
+    // under the name that the temporary file of this very process once had
+    let run =
+        desk.shell("ln -s precious .buyer.book.$BASHPID.new; exec \"$0\" strike buyer.book 0");
+    assert_eq!(run.status, DONE, "{}", run.err);
     assert_eq!(desk.read("precious"), b"precious");
+    assert!(!desk.path("buyer.book").is_symlink());
+    assert_eq!(desk.trades("buyer.book"), 0);
 }
 
 #[test]
@@ -101,12 +102,12 @@ fn mode_and_owner_stay() {
         (held.uid(), held.gid(), held.mode() & 0o7777)
     };
     let before = owner();
-    desk.done(&["amend", "buyer.book", "0", "nominal=5"]);
+    assert_eq!(desk.append("buyer.book", &outright(5)).status, DONE);
     assert_eq!(owner(), before);
     if is_root(&desk) {
         // nobody may write the book, and may not give a file away
         let bytes = desk.read("buyer.book");
-        let run = run_unprivileged(&desk, &["amend", "buyer.book", "0", "nominal=6"]);
+        let run = run_unprivileged(&desk, &["strike", "buyer.book", "1"]);
         assert_eq!(run.status, FAILED, "{}", run.err);
         assert_eq!((owner(), desk.read("buyer.book")), (before, bytes));
         assert_eq!(desk.files(), ["buyer.book"]);

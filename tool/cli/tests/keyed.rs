@@ -154,7 +154,7 @@ fn numbers_that_the_engine_refuses_are_told_by_column() {
         BOND,
         "outright,buyer,1,single payment,1,1,1,90,,,2,99",
         "coupon",
-        &["single payment"],
+        &["2.0000% is there", "only coupons have"],
     );
 }
 

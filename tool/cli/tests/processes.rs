@@ -114,12 +114,8 @@ fn killed_edits_leave_a_whole_book_and_the_next_edit_tidies_up() {
         assert!((before..=before + 1).contains(&desk.trades("buyer.book")));
         left += temporary(&desk).len();
         if !temporary(&desk).is_empty() {
-            desk.done(&[
-                "amend",
-                "buyer.book",
-                "0",
-                &format!("nominal={}", round + 1),
-            ]);
+            let run = desk.append("buyer.book", &outright(500_000 + round));
+            assert_eq!(run.status, DONE, "{}", run.err);
             assert_eq!(desk.files(), ["buyer.book"]);
         }
     }
