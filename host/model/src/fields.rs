@@ -105,7 +105,7 @@ fields! { Curve;
 }
 
 fields! { Node;
-    DAY = day, Whole, (0..=MAX_DAY), "days rise strictly from node to node";
+    DAY = day, Whole, (0..=MAX_DAY), "days rise strictly";
     RATE = rate, Percent, (0..=MAX_RATE), "the rate of the node";
 }
 

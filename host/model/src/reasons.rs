@@ -12,6 +12,6 @@ pub const REPO_PAYMENTS: &str = "a repo's payments fall after value day 2";
 pub const NO_SECOND_LEG: &str = "an outright has no value day 2, term or repo cash";
 pub const NO_ACCRUED: &str = "a repo has no accrued";
 pub const NO_FIRST_LEG: &str = "where the first leg has settled, value day 1 is unused";
-pub const NO_SECURITY: &str = "a trade without security has no payment day or nominal";
+pub const NO_SECURITY: &str = "a trade without security has no first payment day or nominal";
 pub const NO_COUPONS: &str = "only coupons have a period, payments and a coupon";
 pub const NO_INDICES: &str = "only indexed coupons have indices";

@@ -9,7 +9,8 @@ use crate::found::Kept;
 use crate::layout::Layout;
 use crate::limits::FULL_BLOCK;
 use crate::record::Record;
-use std::fmt::Display;
+use crate::words::Unit;
+use std::fmt::{from_fn, Display};
 
 /// Ground 1; a book of one block is left to ground 4.
 pub fn length(lent: usize, used: usize) -> Kept {
@@ -74,20 +75,26 @@ pub fn node(nodes: &[Node], place: usize) -> Kept {
     let node = &nodes[place];
     let behind = nodes.len() - 1 - place;
     let latest = DAY.about.most - behind as i128;
-    if place == 0 {
-        DAY.of(node).within(0..=latest, DAY.about.meaning)?;
-    } else {
-        let before = nodes[place - 1].day;
-        let why = format_args!("{}, and node {place} has day {before}", DAY.about.meaning);
-        let next = i128::from(before) + 1;
-        DAY.of(node).within(next..=latest, why)?;
-    }
+    let before = place.checked_sub(1).map(|before| nodes[before].day);
+    let next = before.map_or(0, |day| i128::from(day) + 1);
+    DAY.of(node).within(next..=latest, rising(place, before))?;
     RATE.of(node).within_limits()?;
     for (number, component) in (1..).zip(&node.components) {
         let why = format_args!("how far component {number} moves the node");
         COMPONENTS.of(component).within(COMPONENTS.limits(), why)?;
     }
     Ok(())
+}
+
+/// How the days rise, behind a node with a number and a day if there is one.
+fn rising(number: usize, day: Option<u16>) -> impl Display {
+    from_fn(move |f| {
+        write!(f, "{}", DAY.about.meaning)?;
+        if let Some(day) = day {
+            write!(f, ", from day {} of node {number}", Unit::Whole.words(day))?;
+        }
+        write!(f, ", to {} at most", Unit::Whole.words(DAY.about.most))
+    })
 }
 
 /// Ground 7; only the last block may be short.

@@ -35,44 +35,34 @@ fn last_value_day(record: &Record) -> i128 {
     i128::from(MAX_DAY) - i128::from(record.has_security())
 }
 
-/// Of a repo with both legs ahead. Where the value days are a term apart, it
-/// is the term that has to agree with them.
+/// Of a repo with both legs ahead. The term has to agree with the days, not
+/// the days with the term.
 fn legs_hold<W: Tell>(record: &Record) -> Kept<W> {
-    let last = last_value_day(record);
-    let (term, day_1, day_2) = (
-        TERM.of(record),
-        VALUE_DAY_1.of(record),
-        VALUE_DAY_2.of(record),
-    );
+    let (day_1, day_2) = (VALUE_DAY_1.of(record), VALUE_DAY_2.of(record));
+    let (last, longest) = (last_value_day(record), TERM.about.most);
     day_1.within(0..=last - 1, in_time(reasons::LEGS))?;
-    let next = day_1.number + 1;
-    let why = format_args!(
-        "{}, which is {}",
-        reasons::LEGS,
-        Unit::Whole.words(day_1.number)
-    );
-    day_2.within(next..=last, why)?;
     let apart = day_2.number - day_1.number;
-    if TERM.limits().contains(&apart) {
-        return term.is(apart, reasons::TERM);
+    if apart > longest {
+        TERM.of(record).within_limits()?;
     }
-    term.within_limits()?;
-    let why = format_args!("a term is {} days at most", TERM.about.most);
-    day_2.within(next..=day_1.number + TERM.about.most, why)
+    let days = day_1.number + 1..=last.min(day_1.number + longest);
+    let why = format_args!("{}, by {longest} days at most", reasons::LEGS);
+    day_2.within(days, why)?;
+    TERM.of(record).is(apart, reasons::TERM)
 }
 
 /// However early the first payment, the last is not after the last day.
 fn payments_have_room<W: Tell>(record: &Record) -> Kept<W> {
-    let (period, payments) = (PERIOD.of(record), PAYMENT_COUNT.of(record));
+    let period = PERIOD.of(record);
     period.within_limits()?;
-    payments.within_limits()?;
     let room = last_value_day(record) - i128::from(record.value_day());
+    let most = PAYMENT_COUNT.about.most.min(1 + room / period.number);
     let why = format_args!(
-        "more, {} days apart, go beyond day {}",
+        "payments are {} days apart, the last by day {}",
         period.number,
         Unit::Whole.words(MAX_DAY)
     );
-    payments.within(1..=1 + room / period.number, why)
+    PAYMENT_COUNT.of(record).within(1..=most, why)
 }
 
 fn first_payment_holds<W: Tell>(record: &Record) -> Kept<W> {
