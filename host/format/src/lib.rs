@@ -10,6 +10,7 @@ pub mod layout;
 pub mod limits;
 pub mod record;
 pub mod report;
+pub mod text;
 
 pub use answer::{Answer, Ground, Refusal};
 pub use block::assemble;

@@ -1,5 +1,6 @@
 //! Numbers in the units that people write them in.
 
+use seddolki_format::text::{decimal, listed, COEFFICIENT, MONEY, PERCENT};
 use std::collections::BTreeSet;
 use std::fmt::{from_fn, Display};
 
@@ -24,8 +25,9 @@ impl Unit {
         let number = number.into();
         from_fn(move |f| match self {
             Unit::Whole => f.write_str(&decimal(number, 0)),
-            Unit::Money | Unit::Coefficient => f.write_str(&decimal(number, 2)),
-            Unit::Percent => write!(f, "{}%", decimal(number, 4)),
+            Unit::Money => f.write_str(&decimal(number, MONEY)),
+            Unit::Coefficient => f.write_str(&decimal(number, COEFFICIENT)),
+            Unit::Percent => write!(f, "{}%", decimal(number, PERCENT)),
             Unit::Named(first, names) => {
                 let place = usize::try_from(number - i128::from(first));
                 match place.ok().and_then(|place| names.get(place)) {
@@ -50,44 +52,7 @@ impl Unit {
         from_fn(move |f| {
             let numbers: BTreeSet<i128> = numbers.clone().collect();
             let words = numbers.iter().map(|&number| self.words(number));
-            f.write_str(&joined(words, "or"))
+            f.write_str(&listed(words, "or"))
         })
     }
-}
-
-/// Items with commas between them, the last two with a word.
-pub fn joined(items: impl Iterator<Item = impl Display>, word: &str) -> String {
-    let items: Vec<String> = items.map(|item| item.to_string()).collect();
-    match &items[..] {
-        [before @ .., last] if !before.is_empty() => {
-            format!("{} {word} {last}", before.join(", "))
-        }
-        _ => items.concat(),
-    }
-}
-
-/// A number of units of the last of so many decimal places, thousands
-/// separated.
-pub fn decimal(number: i128, places: u32) -> String {
-    let unit = 10_u128.pow(places);
-    let size = number.unsigned_abs();
-    let sign = if number < 0 { "-" } else { "" };
-    let whole = separated(size / unit);
-    if places == 0 {
-        return format!("{sign}{whole}");
-    }
-    let width = places as usize;
-    format!("{sign}{whole}.{:0width$}", size % unit)
-}
-
-fn separated(number: u128) -> String {
-    let digits = number.to_string();
-    let mut text = String::new();
-    for (place, digit) in digits.chars().enumerate() {
-        if place > 0 && (digits.len() - place).is_multiple_of(3) {
-            text.push(',');
-        }
-        text.push(digit);
-    }
-    text
 }

@@ -2,10 +2,11 @@
 
 use crate::columns::{is_due_rate, no_columns, prices, COLUMNS};
 use crate::decimal::{plain, Decimals};
-use crate::fault::{listed, shown, Fault};
+use crate::fault::{shown, Fault};
 use crate::quantity::Quantity;
 use crate::words::{a_trade_of, Word};
 use seddolki_format::record::{OUTRIGHT, POOL};
+use seddolki_format::text::listed;
 use seddolki_format::Record;
 
 /// How a column's values are written.

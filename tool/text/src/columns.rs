@@ -2,7 +2,7 @@
 
 use crate::column::{Column, Unit};
 use crate::decimal::{Decimals, MONEY, PERCENT};
-use crate::fault::{listed, shown, Fault};
+use crate::fault::{shown, Fault};
 use crate::quantity::Quantity;
 use crate::words::{kinds, securities, sides};
 use seddolki_format::limits::{
@@ -10,6 +10,7 @@ use seddolki_format::limits::{
     PERIODS, TERMS,
 };
 use seddolki_format::record::{OUTRIGHT, POOL, SPECIFIED};
+use seddolki_format::text::listed;
 use seddolki_format::Record;
 
 macro_rules! column {

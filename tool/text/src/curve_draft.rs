@@ -2,13 +2,14 @@
 
 use crate::curve_file::CurveFile;
 use crate::decimal::{Decimals, COEFFICIENT, PERCENT};
-use crate::fault::{faultless, listed, shown, Fault};
+use crate::fault::{faultless, shown, Fault};
 use crate::quantity::Quantity;
 use seddolki_format::block::{Curve, Node, CURVE};
 use seddolki_format::limits::{
     CURVES, MAX_COMPONENT, MAX_DAY, MAX_RANGE, MAX_RATE, MAX_STEPS, NODES,
 };
 use seddolki_format::report::CURRENCIES;
+use seddolki_format::text::listed;
 
 const WORDS: [&str; 5] = ["account", "curve", "steps", "ranges", "node"];
 

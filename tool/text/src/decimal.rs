@@ -1,16 +1,9 @@
 //! Decimal numbers as people write them, and whole numbers of small units.
 
 use crate::fault::shown;
+use seddolki_format::text::decimal_with;
+pub use seddolki_format::text::{decimal as format, COEFFICIENT, MONEY, PERCENT};
 use std::fmt::{self, Display, Formatter};
-
-/// Decimals of money, counted in hundredths.
-pub const MONEY: u32 = 2;
-
-/// Decimals of a percentage, counted in millionths of 1.
-pub const PERCENT: u32 = 4;
-
-/// Decimals of a coefficient, counted in hundredths.
-pub const COEFFICIENT: u32 = 2;
 
 /// Which sign stands before the decimals; the other one may separate
 /// thousands.
@@ -158,12 +151,7 @@ fn without_separators(whole: &str, separator: char) -> Option<String> {
 }
 
 /// A number of units of the last of so many decimal places as people read
-/// it, `1,234,567.89`.
-pub fn format(number: impl Into<i128>, places: u32) -> String {
-    grouped(number, places, Decimals::Point)
-}
-
-/// The same, with a plus where it is above 0.
+/// it, with a plus where it is above 0.
 pub fn format_signed(number: impl Into<i128>, places: u32) -> String {
     let number = number.into();
     let plus = if number > 0 { "+" } else { "" };
@@ -173,38 +161,13 @@ pub fn format_signed(number: impl Into<i128>, places: u32) -> String {
 /// The same by its decimal sign, `1.234.567,89` for a comma.
 pub fn grouped(number: impl Into<i128>, places: u32, decimals: Decimals) -> String {
     let (signs, _) = decimals.signs();
-    written(number.into(), places, signs.decimal, |whole| {
-        separated(&whole, signs.thousands)
-    })
+    decimal_with(signs.decimal, Some(signs.thousands), number, places)
 }
 
 /// The same as machines read it, `1234567.89` or `1234567,89`.
 pub fn plain(number: impl Into<i128>, places: u32, decimals: Decimals) -> String {
     let (signs, _) = decimals.signs();
-    written(number.into(), places, signs.decimal, |whole| whole)
-}
-
-fn written(number: i128, places: u32, sign: char, whole: impl Fn(String) -> String) -> String {
-    let unit = 10_u128.pow(places);
-    let size = number.unsigned_abs();
-    let minus = if number < 0 { "-" } else { "" };
-    let whole = whole((size / unit).to_string());
-    if places == 0 {
-        return format!("{minus}{whole}");
-    }
-    let width = places as usize;
-    format!("{minus}{whole}{sign}{:0width$}", size % unit)
-}
-
-fn separated(digits: &str, separator: char) -> String {
-    let mut text = String::new();
-    for (place, digit) in digits.chars().enumerate() {
-        if place > 0 && (digits.len() - place).is_multiple_of(3) {
-            text.push(separator);
-        }
-        text.push(digit);
-    }
-    text
+    decimal_with(signs.decimal, None, number, places)
 }
 
 #[cfg(test)]

@@ -79,16 +79,6 @@ pub(crate) fn faultless<T, F>(value: T, faults: Vec<F>) -> Result<T, Vec<F>> {
     }
 }
 
-/// Names in a row, as `a, b or c`.
-pub(crate) fn listed<T: Display>(names: &[T], last_by: &str) -> String {
-    let names: Vec<String> = names.iter().map(T::to_string).collect();
-    match names.split_last() {
-        Some((last, [])) => last.clone(),
-        Some((last, others)) => format!("{} {last_by} {last}", others.join(", ")),
-        None => String::new(),
-    }
-}
-
 #[cfg(test)]
 mod tests {
     use super::*;
@@ -113,12 +103,5 @@ mod tests {
         assert_eq!(shown("\u{202e}x"), "\\u{202e}x");
         assert_eq!(shown(&"9".repeat(60)), "9".repeat(60));
         assert_eq!(shown(&"9".repeat(61)), "9".repeat(60) + "...");
-    }
-
-    #[test]
-    fn names_are_listed() {
-        assert_eq!(listed(&["a"], "or"), "a");
-        assert_eq!(listed(&["a", "b"], "and"), "a and b");
-        assert_eq!(listed(&["a", "b", "c"], "or"), "a, b or c");
     }
 }

@@ -2,7 +2,8 @@
 
 use crate::column::Column;
 use crate::decimal::Decimals;
-use crate::fault::{listed, Fault};
+use crate::fault::Fault;
+use seddolki_format::text::listed;
 use std::fmt::{self, Display, Formatter};
 
 /// The separator of a file of trades, by which its numbers are written.

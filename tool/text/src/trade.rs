@@ -3,7 +3,8 @@
 use crate::column::Column;
 use crate::columns::COLUMNS;
 use crate::decimal::Decimals;
-use crate::fault::{faultless, listed, shown, Fault};
+use crate::fault::{faultless, shown, Fault};
+use seddolki_format::text::listed;
 use seddolki_format::Record;
 
 /// A column and what is written there.

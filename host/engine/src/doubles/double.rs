@@ -1,6 +1,7 @@
 //! Two trades that are alike, and what is to be said of them.
 
 use super::likeness::{both_have_security, repeats_second_leg, Likeness};
+use seddolki_format::text::{decimal, MONEY};
 use seddolki_format::Record;
 use std::fmt::{self, Display, Formatter};
 
@@ -79,7 +80,7 @@ impl Double {
         } else {
             (earlier, later, first)
         };
-        let cash = money(repo.repo_cash);
+        let cash = decimal(repo.repo_cash, MONEY);
         if self.likeness == Likeness::SecondLegAsFirst {
             let day = repo.value_day_1;
             return format!(
@@ -103,14 +104,4 @@ impl Display for Double {
     fn fmt(&self, f: &mut Formatter<'_>) -> fmt::Result {
         f.write_str(&self.in_words(&self.earlier.to_string(), &self.later.to_string()))
     }
-}
-
-/// Hundredths as money, thousands separated.
-fn money(hundredths: u64) -> String {
-    let (mut whole, mut groups) = (hundredths / 100, String::new());
-    while whole >= 1_000 {
-        groups = format!(",{:03}{groups}", whole % 1_000);
-        whole /= 1_000;
-    }
-    format!("{whole}{groups}.{:02}", hundredths % 100)
 }

@@ -6,7 +6,7 @@ use crate::found::{Kept, Tell};
 use crate::reasons;
 use crate::record::Record;
 use crate::report::CURRENCIES;
-use crate::words::joined;
+use seddolki_format::text::listed;
 use std::fmt::{from_fn, Display};
 
 /// Ground 8: the ids are those of curves that the book has.
@@ -49,7 +49,7 @@ fn all(curves: &[Curve]) -> impl Display + '_ {
         let names = (1..)
             .zip(curves)
             .map(|(id, curve)| format!("{id} in {}", currency_of(curve)));
-        write!(f, "the book has curve {}", joined(names, "and"))
+        write!(f, "the book has curve {}", listed(names, "and"))
     })
 }
 
