@@ -14,15 +14,15 @@ use seddolki_text::decimal::{format as decimal, COEFFICIENT, PERCENT};
 const AMENDED: usize = 3;
 
 /// A row for each difference: the account, the curves, then the trades.
-pub fn differences(before: &Book, behind: &Book) -> Table {
+pub fn differences(before: &Book, after: &Book) -> Table {
     let mut rows = Rows::new();
-    let accounts = [before, behind].map(|book| book.account.to_string());
+    let accounts = [before, after].map(|book| book.account.to_string());
     rows.change("account", None, "account", accounts);
-    for place in 0..before.curves.len().max(behind.curves.len()) {
-        let [a, b] = [before, behind].map(|book| book.curves.get(place));
+    for place in 0..before.curves.len().max(after.curves.len()) {
+        let [a, b] = [before, after].map(|book| book.curves.get(place));
         curve_differences(&mut rows, place + 1, a, b);
     }
-    trade_differences(&mut rows, &before.trades, &behind.trades);
+    trade_differences(&mut rows, &before.trades, &after.trades);
     rows.table
 }
 
@@ -32,7 +32,7 @@ struct Rows {
 
 impl Rows {
     fn new() -> Self {
-        let columns = ["what", "number", "column", "before", "behind"];
+        let columns = ["what", "number", "column", "before", "after"];
         let table = Table::new("differences", &columns);
         Rows { table }
     }
@@ -59,8 +59,8 @@ impl Rows {
     }
 }
 
-fn curve_differences(rows: &mut Rows, id: usize, before: Option<&Curve>, behind: Option<&Curve>) {
-    let both = [before, behind];
+fn curve_differences(rows: &mut Rows, id: usize, before: Option<&Curve>, after: Option<&Curve>) {
+    let both = [before, after];
     let text = |of: fn(&Curve) -> String| both.map(|curve| curve.map_or(String::new(), of));
     rows.change("curve", Some(id), "currency", text(currency));
     rows.change("curve", Some(id), "steps", text(steps));
@@ -108,17 +108,17 @@ fn node(node: &Node) -> String {
 /// A run of trades of the one book in place of a run of the other.
 struct Replaced {
     before: std::ops::Range<usize>,
-    behind: std::ops::Range<usize>,
+    after: std::ops::Range<usize>,
 }
 
-fn trade_differences(rows: &mut Rows, before: &[Record], behind: &[Record]) {
-    for replaced in replaced(before, behind) {
-        let (gone, come) = (replaced.before, replaced.behind);
+fn trade_differences(rows: &mut Rows, before: &[Record], after: &[Record]) {
+    for replaced in replaced(before, after) {
+        let (gone, come) = (replaced.before, replaced.after);
         let pairs = gone.len().min(come.len());
         for i in 0..gone.len().max(come.len()) {
             let (a, b) = (gone.start + i, come.start + i);
-            if i < pairs && amended(&before[a], &behind[b]) {
-                column_differences(rows, a, &before[a], &behind[b]);
+            if i < pairs && amended(&before[a], &after[b]) {
+                column_differences(rows, a, &before[a], &after[b]);
                 continue;
             }
             if i < gone.len() {
@@ -134,36 +134,36 @@ fn trade_differences(rows: &mut Rows, before: &[Record], behind: &[Record]) {
                     "trade",
                     Some(b),
                     "",
-                    [String::new(), words::trade(&behind[b])],
+                    [String::new(), words::trade(&after[b])],
                 );
             }
         }
     }
 }
 
-fn amended(before: &Record, behind: &Record) -> bool {
-    let pairs = written(before).into_iter().zip(written(behind));
+fn amended(before: &Record, after: &Record) -> bool {
+    let pairs = written(before).into_iter().zip(written(after));
     pairs.filter(|(a, b)| a != b).count() <= AMENDED
 }
 
-fn column_differences(rows: &mut Rows, position: usize, before: &Record, behind: &Record) {
-    for ((column, a), (_, b)) in written(before).into_iter().zip(written(behind)) {
+fn column_differences(rows: &mut Rows, position: usize, before: &Record, after: &Record) {
+    for ((column, a), (_, b)) in written(before).into_iter().zip(written(after)) {
         rows.change("trade", Some(position), column, [a, b]);
     }
 }
 
 /// What is left when the longest list of trades that both have, in one
 /// order, is taken out.
-fn replaced(before: &[Record], behind: &[Record]) -> Vec<Replaced> {
-    let common = common_lengths(before, behind);
+fn replaced(before: &[Record], after: &[Record]) -> Vec<Replaced> {
+    let common = common_lengths(before, after);
     let (mut a, mut b) = (0, 0);
     let mut all = vec![];
-    while a < before.len() || b < behind.len() {
+    while a < before.len() || b < after.len() {
         let (from_a, from_b) = (a, b);
-        while (a < before.len() || b < behind.len())
-            && !(a < before.len() && b < behind.len() && before[a] == behind[b])
+        while (a < before.len() || b < after.len())
+            && !(a < before.len() && b < after.len() && before[a] == after[b])
         {
-            if b == behind.len() || (a < before.len() && common[a + 1][b] >= common[a][b + 1]) {
+            if b == after.len() || (a < before.len() && common[a + 1][b] >= common[a][b + 1]) {
                 a += 1;
             } else {
                 b += 1;
@@ -172,10 +172,10 @@ fn replaced(before: &[Record], behind: &[Record]) -> Vec<Replaced> {
         if (from_a, from_b) != (a, b) {
             all.push(Replaced {
                 before: from_a..a,
-                behind: from_b..b,
+                after: from_b..b,
             });
         }
-        while a < before.len() && b < behind.len() && before[a] == behind[b] {
+        while a < before.len() && b < after.len() && before[a] == after[b] {
             a += 1;
             b += 1;
         }
@@ -184,11 +184,11 @@ fn replaced(before: &[Record], behind: &[Record]) -> Vec<Replaced> {
 }
 
 /// How many trades the two have in one order, from each pair of places on.
-fn common_lengths(before: &[Record], behind: &[Record]) -> Vec<Vec<u16>> {
-    let mut common = vec![vec![0; behind.len() + 1]; before.len() + 1];
+fn common_lengths(before: &[Record], after: &[Record]) -> Vec<Vec<u16>> {
+    let mut common = vec![vec![0; after.len() + 1]; before.len() + 1];
     for a in (0..before.len()).rev() {
-        for b in (0..behind.len()).rev() {
-            common[a][b] = if before[a] == behind[b] {
+        for b in (0..after.len()).rev() {
+            common[a][b] = if before[a] == after[b] {
                 common[a + 1][b + 1] + 1
             } else {
                 common[a + 1][b].max(common[a][b + 1])

@@ -3,7 +3,7 @@
 
 mod tool;
 
-use tool::{Desk, MISUSED};
+use tool::{example, Desk, MISUSED};
 
 const README: &str = include_str!("../../../README.md");
 
@@ -45,6 +45,22 @@ fn the_help_shows_a_day_that_runs_as_written() {
 fn the_readme_shows_the_margin_that_the_day_ends_with() {
     let margin = margin_of_the_day(&commands(README));
     assert!(README.contains(&margin), "{margin}");
+}
+
+#[test]
+fn the_examples_do_what_their_readme_shows() {
+    let readme = std::fs::read_to_string(example("README.md")).unwrap();
+    let (_, shown) = readme.split_once("```text\n").unwrap();
+    let (shown, _) = shown.split_once("```").unwrap();
+    let desk = Desk::new();
+    for name in ["curve.txt", "buyer.csv", "wrong-trades.csv"] {
+        std::fs::copy(example(name), desk.path(name)).unwrap();
+    }
+    for step in shown.split("$ seddolki ").skip(1) {
+        let (command, printed) = step.split_once('\n').unwrap();
+        let run = desk.run(&command.split_whitespace().collect::<Vec<_>>());
+        assert_eq!(run.out + &run.err, printed, "{command}");
+    }
 }
 
 #[test]

@@ -8,9 +8,9 @@ use crate::table::Table;
 
 pub fn run(arguments: &Diff) -> Result<u8, Ended> {
     one_stream([arguments.book.as_path(), &arguments.other])?;
-    let (before, behind) = (accepted(&arguments.book)?, accepted(&arguments.other)?);
-    let table = differences(&before.parts, &behind.parts);
-    let names = format!("{} and {}", before.name, behind.name);
+    let (before, after) = (accepted(&arguments.book)?, accepted(&arguments.other)?);
+    let table = differences(&before.parts, &after.parts);
+    let names = format!("{} and {}", before.name, after.name);
     arguments
         .form
         .print(&[table], |[table]| text(table, &names))?;
