@@ -14,8 +14,11 @@ use std::fmt::Display;
 /// What an accepted book holds.
 #[derive(Clone, Debug, PartialEq, Eq)]
 pub struct Book {
+    /// The header's account.
     pub account: u32,
+    /// In the order of their ids.
     pub curves: Vec<Curve>,
+    /// In the order of their positions.
     pub trades: Vec<Record>,
 }
 

@@ -59,6 +59,7 @@ pub fn discount_factor(rate: u64, day: u64) -> u64 {
 pub struct Factors(HashMap<(u64, u64), u64>);
 
 impl Factors {
+    /// The factor of a rate and a day.
     pub fn of(&mut self, rate: u64, day: u64) -> u64 {
         let place = self.0.entry((rate, day));
         *place.or_insert_with(|| discount_factor(rate, day))

@@ -29,51 +29,43 @@ fn line(about: &About) -> String {
     format!("  {}: {limits}, {}\n", about.name, about.meaning)
 }
 
+macro_rules! abouts {
+    ($($field:ident),*) => {
+        &[$($field.about),*]
+    };
+}
+
 /// The fields that a ground tests.
 fn fields_of(ground: Ground) -> &'static [&'static About] {
     match ground {
-        Ground::Length => &[USED.about],
-        Ground::Place => &[BLOCK_KIND.about, NUMBER.about],
-        Ground::Header => &[CURVE_COUNT.about, TRADE_BLOCKS.about, UNNAMED.about],
-        Ground::Curve => &[
-            ID.about,
-            CURRENCY.about,
-            NODE_COUNT.about,
-            STEPS.about,
-            RANGES.about,
-            UNNAMED.about,
+        Ground::Length => abouts![USED],
+        Ground::Place => abouts![BLOCK_KIND, NUMBER],
+        Ground::Header => abouts![USED, CURVE_COUNT, TRADE_BLOCKS, UNNAMED],
+        Ground::Curve => abouts![ID, CURRENCY, NODE_COUNT, STEPS, RANGES, UNNAMED],
+        Ground::Node => abouts![DAY, RATE, COMPONENTS],
+        Ground::TradeBlock => abouts![COUNT, UNNAMED],
+        Ground::Form => abouts![KIND, SIDE, PHASE, SECURITY, CASH_CURVE, SECURITY_CURVE],
+        Ground::Days => abouts![
+            VALUE_DAY_1,
+            VALUE_DAY_2,
+            FIRST_PAYMENT_DAY,
+            PERIOD,
+            PAYMENT_COUNT,
+            TERM
         ],
-        Ground::Node => &[DAY.about, RATE.about, COMPONENTS.about],
-        Ground::TradeBlock => &[COUNT.about, UNNAMED.about],
-        Ground::Form => &[
-            KIND.about,
-            SIDE.about,
-            PHASE.about,
-            SECURITY_CURVE.about,
-            CASH_CURVE.about,
-            SECURITY.about,
+        Ground::Amounts => abouts![
+            COUPON,
+            NOMINAL,
+            REPO_CASH,
+            CLEAN_PRICE,
+            REPO_RATE,
+            ACCRUED,
+            SETTLEMENT_INDEX,
+            ISSUE_INDEX,
+            ZERO
         ],
-        Ground::Days => &[
-            VALUE_DAY_1.about,
-            VALUE_DAY_2.about,
-            FIRST_PAYMENT_DAY.about,
-            PERIOD.about,
-            PAYMENT_COUNT.about,
-            TERM.about,
-        ],
-        Ground::Amounts => &[
-            COUPON.about,
-            NOMINAL.about,
-            REPO_CASH.about,
-            CLEAN_PRICE.about,
-            REPO_RATE.about,
-            ACCRUED.about,
-            SETTLEMENT_INDEX.about,
-            ISSUE_INDEX.about,
-            ZERO.about,
-        ],
-        Ground::Currency => &[SECURITY_CURVE.about, CASH_CURVE.about],
-        Ground::FlowLimit => &[NOMINAL.about, REPO_CASH.about],
+        Ground::Currency => abouts![SECURITY_CURVE, CASH_CURVE],
+        Ground::FlowLimit => abouts![NOMINAL, REPO_CASH],
         _ => &[],
     }
 }
@@ -114,13 +106,8 @@ fn phases() -> Vec<String> {
         let lines = TABLE.iter().filter(move |line| line.0 == kind);
         PHASE.about.unit.one_of(lines.map(|line| line.1.into()))
     };
-    let line = |kind: u8| {
-        format!(
-            "kind {}: phase {}",
-            KIND.about.unit.words(kind),
-            phases(kind)
-        )
-    };
+    let name = |kind: u8| KIND.about.unit.words(kind);
+    let line = |kind: u8| format!("kind {}: phase {}", name(kind), phases(kind));
     kinds.into_iter().map(line).collect()
 }
 
@@ -144,6 +131,6 @@ fn advice(ground: Ground) -> &'static str {
         Ground::BookSpace => {
             "strike trades or begin another book; a caller in C may lend more bytes"
         }
-        Ground::ValueRange => "ask for less",
+        Ground::ValueRange => "ask within these limits",
     }
 }

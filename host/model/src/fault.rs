@@ -59,15 +59,22 @@ pub enum Part {
     Header,
     /// A curve's block, none of its nodes by itself.
     Curve,
-    /// A node by its place in the curve, from 0, and how many there are.
-    Node { place: usize, count: usize },
+    /// A node of a curve.
+    Node {
+        /// In the curve, from 0.
+        place: usize,
+        /// Nodes of the curve.
+        count: usize,
+    },
     /// A block of trades, none of them by itself.
     Trades,
-    /// A trade by its position in the book, and by its place in the block of
-    /// so many records, both from 0.
+    /// A trade.
     Trade {
+        /// In the book, from 0.
         position: usize,
+        /// In the block, from 0.
         place: usize,
+        /// Trades of the block.
         count: usize,
     },
 }

@@ -49,7 +49,9 @@ const CURRENCY_NAMES: Unit = Unit::Named(1, &CURRENCIES);
 
 /// A table: the field's name, the unit, the limits, the meaning.
 macro_rules! fields {
-    ($type:ty, $read:expr; $($constant:ident = $name:expr, $unit:expr, $limits:expr, $meaning:literal;)*) => {$(
+    ($type:ty, $read:expr; $(
+        $constant:ident = $name:expr, $unit:expr, $limits:expr, $meaning:literal;
+    )*) => {$(
         #[doc = $meaning]
         pub const $constant: Field<$type> = Field {
             about: &About {
@@ -62,7 +64,9 @@ macro_rules! fields {
             read: $read,
         };
     )*};
-    ($type:ty; $($constant:ident = $field:ident, $unit:expr, $limits:expr, $meaning:literal;)*) => {$(
+    ($type:ty; $(
+        $constant:ident = $field:ident, $unit:expr, $limits:expr, $meaning:literal;
+    )*) => {$(
         fields! { $type, |content| content.$field.into();
             $constant = stringify!($field), $unit, $limits, $meaning;
         }
@@ -70,7 +74,8 @@ macro_rules! fields {
 }
 
 fields! { usize, |used| *used as i128;
-    USED = "used", Whole, (2 * BLOCK..=MAX_BLOCKS * BLOCK), "a book is blocks of 512 bytes, a header and a curve at least";
+    USED = "used", Whole, (2 * BLOCK..=MAX_BLOCKS * BLOCK),
+        "a book is blocks of 512 bytes, a header and a curve at least";
 }
 
 fields! { u8, |byte| (*byte).into();
@@ -133,6 +138,6 @@ fields! { Record;
     CLEAN_PRICE = price_or_rate, Percent, CLEAN_PRICES, "the clean price of an outright";
     REPO_RATE = price_or_rate, Percent, (0..=MAX_RATE), "the rate of a repo";
     ACCRUED = accrued, Percent, (0..=MAX_ACCRUED), "what has accrued on an outright's security";
-    SETTLEMENT_INDEX = settlement_index, Whole, INDICES, "the index at settlement, of indexed coupons";
-    ISSUE_INDEX = issue_index, Whole, INDICES, "the index at issue, of indexed coupons";
+    SETTLEMENT_INDEX = settlement_index, Whole, INDICES, "index at settlement, of indexed coupons";
+    ISSUE_INDEX = issue_index, Whole, INDICES, "index at issue, of indexed coupons";
 }

@@ -8,10 +8,12 @@ use crate::units::{ONE, YEAR};
 
 const WITHHOLDING_PERCENT: u128 = 15;
 
+/// A dated amount on a curve.
 #[derive(Clone, Copy, Debug, PartialEq, Eq)]
 pub struct CashFlow {
     /// Id of the curve that it stands on.
     pub curve: u8,
+    /// From today, day 0.
     pub day: u64,
     /// Without sign.
     pub amount: u128,
@@ -22,8 +24,11 @@ pub struct CashFlow {
 /// Signs of a trade's flows: 1 in, -1 out, 0 none.
 #[derive(Clone, Copy, Debug, PartialEq, Eq)]
 pub struct Signs {
+    /// Of settlement cash or a repo's cash.
     pub first_leg: i64,
+    /// Of what a repo pays back.
     pub second_leg: i64,
+    /// Of the security's payments.
     pub payments: i64,
 }
 
@@ -73,11 +78,13 @@ pub struct Clean(pub u32);
 pub struct Dirty(u128);
 
 impl Clean {
+    /// The dirty price.
     pub fn plus_accrued(self, accrued: u32) -> Dirty {
         Dirty(u128::from(self.0) + u128::from(accrued))
     }
 }
 
+/// What an outright settles for.
 pub fn settlement_cash(nominal: u64, price: Dirty) -> u128 {
     half_up(u128::from(nominal) * price.0, ONE.into())
 }

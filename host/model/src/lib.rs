@@ -2,6 +2,7 @@
 //! alone. Simple before fast; the exact values of demand 3 are here as well.
 
 #![forbid(unsafe_code)]
+#![deny(missing_docs)]
 
 pub mod accept;
 pub mod big;

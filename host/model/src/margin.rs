@@ -15,6 +15,7 @@ pub fn valuation(curve: &Curve, flows: &[CashFlow]) -> Valuation {
     })
 }
 
+/// What the report holds of a curve.
 pub fn curve_figures(book: &Book, curve: &Curve) -> CurveFigures {
     let flows = book.flows_on(curve);
     let valuation = valuation(curve, &flows);

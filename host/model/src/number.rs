@@ -2,6 +2,7 @@
 
 /// A positive number that can be multiplied.
 pub trait Number: From<u64> {
+    /// The product, or a bound of it.
     fn times(&self, other: &Self) -> Self;
 
     /// By squaring, the highest bit of the exponent first.

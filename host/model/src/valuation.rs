@@ -8,7 +8,9 @@ use crate::scenario::{scenarios, stressed_nodes};
 /// A curve's base value, and its loss in each scenario of its list.
 #[derive(Clone, Debug, PartialEq, Eq)]
 pub struct Valuation {
+    /// The sum of the flows' values, by their signs.
     pub base: i64,
+    /// Base less stressed value, scenario by scenario.
     pub losses: Vec<i64>,
 }
 
@@ -34,6 +36,7 @@ impl Valuation {
         Valuation { base, losses }
     }
 
+    /// The largest loss.
     pub fn worst_loss(&self) -> i64 {
         self.losses.iter().copied().max().unwrap_or(0)
     }
