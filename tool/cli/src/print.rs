@@ -1,6 +1,7 @@
 //! What the tool prints. Nothing here panics, whatever became of the streams.
 
 use crate::ended::Ended;
+use seddolki_store as store;
 use std::io::{self, Write};
 
 /// A line on standard error. If it cannot be written it is lost, and no more.
@@ -11,24 +12,12 @@ pub fn say(line: &str) {
 
 /// What a command was asked for, on standard output.
 pub fn result(text: &str) -> Result<(), Ended> {
-    match written(text) {
-        // a reader that closes its end early wants no more
-        Err(error) if error.kind() != io::ErrorKind::BrokenPipe => {
-            Err(Ended::Failed(format!("standard output: {error}")))
-        }
-        _ => Ok(()),
-    }
+    Ok(store::print(text.as_bytes())?)
 }
 
 /// Word of an edit that is done, on standard output. It stays done where that cannot be written.
 pub fn notice(text: &str) {
-    let _ = written(&format!("{}\n", visible(text)));
-}
-
-fn written(text: &str) -> io::Result<()> {
-    let mut out = io::stdout().lock();
-    out.write_all(text.as_bytes())?;
-    out.flush()
+    let _ = store::print(format!("{}\n", visible(text)).as_bytes());
 }
 
 /// A text with its control characters as escapes; ends of lines stay.

@@ -2,7 +2,7 @@
 
 use seddolki::Record;
 use seddolki_format::record::{COUPONS, FIRST_SIDE, INDEXED_COUPONS, POOL, SINGLE_PAYMENT};
-use seddolki_model::flows::{cash_flows, signs_of, CashFlow};
+use seddolki_model::flows::Leg;
 use seddolki_text::decimal::{format as decimal, MONEY, PERCENT};
 
 /// A number of things.
@@ -106,20 +106,12 @@ fn security(record: &Record) -> String {
     }
 }
 
-/// The dated cash flows of a trade, each with what it is.
-pub fn named_flows(record: &Record) -> Vec<(CashFlow, &'static str)> {
-    let mut names = vec![];
-    if let Some(signs) = signs_of(record) {
-        let first = if record.is_repo() {
-            "repo cash, first leg"
-        } else {
-            "settlement cash"
-        };
-        names.extend((signs.first_leg != 0).then_some(first));
-        let second = "repo cash and interest, second leg";
-        names.extend((signs.second_leg != 0).then_some(second));
+/// What a flow of a trade is.
+pub fn flow(record: &Record, leg: Leg) -> &'static str {
+    match leg {
+        Leg::First if record.is_repo() => "repo cash, first leg",
+        Leg::First => "settlement cash",
+        Leg::Second => "repo cash and interest, second leg",
+        Leg::Payment => "payment of the security",
     }
-    let payments = std::iter::repeat("payment of the security");
-    let names = names.into_iter().chain(payments);
-    cash_flows(record).into_iter().zip(names).collect()
 }

@@ -87,3 +87,22 @@ fn a_folder_and_a_link_to_nothing_are_refused() {
     }
     assert_eq!(desk.files(), ["desk.book", "link"]);
 }
+
+#[test]
+fn what_is_printed_does_not_go_into_a_book_that_is_read() {
+    let desk = Desk::with("desk.book");
+    let before = desk.read("desk.book");
+    symlink("desk.book", desk.path("link")).unwrap();
+    for (command, output) in [
+        ("check desk.book", "link"),
+        ("margin link", "desk.book"),
+        ("export desk.book", "desk.book"),
+        ("strike desk.book 0", "desk.book"),
+    ] {
+        let run = desk.shell(&format!("\"$0\" {command} >> {output}"));
+        assert_eq!(run.status, FAILED, "{command}");
+        let reason = "is the file that standard output goes to";
+        assert!(run.err.contains(reason), "{}", run.err);
+        assert_eq!(desk.read("desk.book"), before);
+    }
+}

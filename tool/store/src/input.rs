@@ -49,11 +49,24 @@ pub fn read_at_most(path: &Path, most: usize) -> Result<Input, Failure> {
     };
     let file = opened.map_err(Failure::of(name))?;
     let metadata = file.metadata().map_err(Failure::of(name))?;
+    refuse_standard_output(name, &metadata)?;
     Ok(Input {
         name: shown(name),
         bytes: bytes_of(&file, most).map_err(Failure::of(name))?,
         file: stored(&metadata),
     })
+}
+
+/// Refuses a file that standard output goes to, and would be printed into.
+pub(crate) fn refuse_standard_output(name: &Path, file: &Metadata) -> Result<(), Failure> {
+    let opened = io::stdout().as_fd().try_clone_to_owned().map(File::from);
+    let printed = opened.and_then(|opened| opened.metadata());
+    let printed = printed.ok().as_ref().and_then(stored);
+    if printed.is_some() && printed == stored(file) {
+        let reason = "is the file that standard output goes to";
+        return Err(Failure::new(name, reason));
+    }
+    Ok(())
 }
 
 /// At most so many bytes and one more.

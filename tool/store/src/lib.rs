@@ -19,7 +19,7 @@ pub use edit::edit;
 pub use failure::Failure;
 pub use input::{read_at_most, Input};
 pub use lock::Patience;
-pub use output::write_output;
+pub use output::{print, write_output};
 pub use shown::shown;
 
 use std::path::Path;

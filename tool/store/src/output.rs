@@ -18,7 +18,8 @@ pub fn write_output(
     patience: &Patience,
 ) -> Result<Written, Failure> {
     if is_standard_stream(path) {
-        return write_standard_output(bytes, inputs);
+        // an input that it goes to was refused when it was read
+        return print(bytes).map(|()| THROUGH);
     }
     let found = match fs::metadata(path) {
         Err(error) if error.kind() == ErrorKind::NotFound => {
@@ -41,13 +42,14 @@ pub fn write_output(
     standing.replace(bytes)
 }
 
-fn write_standard_output(bytes: &[u8], inputs: &[&Input]) -> Result<Written, Failure> {
+/// Writes to standard output. A reader that closes its end early wants no
+/// more, and that is no failure.
+pub fn print(bytes: &[u8]) -> Result<(), Failure> {
     let name = Path::new("standard output");
     // what was printed before comes before
     let flushed = io::stdout().flush();
-    let opened = flushed.and_then(|()| io::stdout().as_fd().try_clone_to_owned());
-    let stream = opened.map(File::from).map_err(Failure::of(name))?;
-    write_through(name, stream, bytes, inputs)
+    let stream = flushed.and_then(|()| io::stdout().as_fd().try_clone_to_owned());
+    write_through(name, File::from(stream.map_err(Failure::of(name))?), bytes)
 }
 
 fn is_stream(found: &Metadata) -> bool {
@@ -64,23 +66,21 @@ fn write_stream(path: &Path, bytes: &[u8], inputs: &[&Input]) -> Result<Written,
         let reason = "was replaced meanwhile by another program";
         return Err(Failure::new(path, reason));
     }
-    write_through(path, stream, bytes, inputs)
+    refuse_input(path, &metadata, inputs)?;
+    write_through(path, stream, bytes).map(|()| THROUGH)
 }
 
-/// Writes to what is open, whatever it is, unless it is an input.
-fn write_through(
-    name: &Path,
-    mut stream: File,
-    bytes: &[u8],
-    inputs: &[&Input],
-) -> Result<Written, Failure> {
-    let metadata = stream.metadata().map_err(Failure::of(name))?;
-    refuse_input(name, &metadata, inputs)?;
-    stream.write_all(bytes).map_err(Failure::of(name))?;
-    Ok(Written {
-        result: (),
-        warning: None,
-    })
+/// Nothing is left to go wrong when a stream has taken its bytes.
+const THROUGH: Written = Written {
+    result: (),
+    warning: None,
+};
+
+fn write_through(name: &Path, mut stream: File, bytes: &[u8]) -> Result<(), Failure> {
+    match stream.write_all(bytes) {
+        Err(error) if error.kind() != ErrorKind::BrokenPipe => Err(Failure::of(name)(error)),
+        _ => Ok(()),
+    }
 }
 
 fn refuse_input(name: &Path, output: &Metadata, inputs: &[&Input]) -> Result<(), Failure> {

@@ -1,6 +1,6 @@
 //! A file that is there, and what takes its place.
 
-use crate::input::{bytes_of, identity, Identity};
+use crate::input::{bytes_of, identity, refuse_standard_output, Identity};
 use crate::place::Place;
 use crate::{Failure, Patience, Written};
 use std::fs::{self, File, Metadata, OpenOptions};
@@ -29,6 +29,7 @@ impl<'a> Standing<'a> {
         let metadata = file.metadata().map_err(failed)?;
         refuse_other_kinds(path, &metadata)?;
         refuse_links_and_read_only(path, &metadata)?;
+        refuse_standard_output(path, &metadata)?;
         Ok(Standing {
             place,
             file,

@@ -25,7 +25,7 @@ fn main() {
     an_input_goes_through_from_pipe_to_pipe();
     standard_input_is_bounded();
     standard_output_may_be_a_file();
-    a_full_or_closed_standard_output_is_told();
+    a_full_standard_output_is_told_and_a_closed_one_wants_no_more();
     standard_output_is_no_input();
     an_output_is_not_standard_input();
     a_device_may_be_both();
@@ -82,7 +82,7 @@ fn standard_output_may_be_a_file() {
     assert_eq!(written, b"header trades");
 }
 
-fn a_full_or_closed_standard_output_is_told() {
+fn a_full_standard_output_is_told_and_a_closed_one_wants_no_more() {
     let full = File::options().write(true).open("/dev/full").unwrap();
     let mut command = copier("/dev/zero", "-");
     assert_failed(
@@ -92,10 +92,7 @@ fn a_full_or_closed_standard_output_is_told() {
     let (reader, writer) = std::io::pipe().unwrap();
     drop(reader);
     let mut command = copier("/dev/zero", "-");
-    assert_failed(
-        command.stdout(writer).output().unwrap(),
-        "standard output: broken pipe",
-    );
+    assert!(command.stdout(writer).status().unwrap().success());
 }
 
 fn standard_output_is_no_input() {
@@ -104,7 +101,7 @@ fn standard_output_is_no_input() {
     let before = state(&path);
     let appended = File::options().append(true).open(&path).unwrap();
     let output = copier(name, "-").stdout(appended).output().unwrap();
-    let expected = format!("standard output: is the same file as the input {name}");
+    let expected = format!("{name}: is the file that standard output goes to");
     assert_failed(output, &expected);
     assert_eq!(state(&path), before);
 }

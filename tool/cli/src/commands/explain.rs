@@ -6,7 +6,7 @@ use crate::ended::{Ended, DONE};
 use crate::print;
 use crate::refusal::book_refused;
 use seddolki::{Book, Ground};
-use seddolki_model::explain::rule;
+use seddolki_model::rule;
 use seddolki_store::{read_at_most, shown};
 use std::path::Path;
 

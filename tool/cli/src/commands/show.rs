@@ -5,12 +5,12 @@ use crate::books::accepted;
 use crate::ended::{Ended, DONE};
 use crate::table::{Table, Value};
 use crate::trade_text::cells;
-use crate::words::{self, count, named_flows};
+use crate::words::{self, count};
 use seddolki::Record;
 use seddolki_format::block::Curve;
 use seddolki_format::report::currency_name;
 use seddolki_model::accept::Book;
-use seddolki_model::flows::CashFlow;
+use seddolki_model::flows::{named_flows, CashFlow};
 use seddolki_model::scenario::scenarios;
 use seddolki_text::decimal::{format as decimal, COEFFICIENT, MONEY, PERCENT};
 use seddolki_text::COLUMNS;
@@ -147,13 +147,13 @@ fn flows(book: &Book) -> Table {
 }
 
 fn push_flows(table: &mut Table, position: usize, record: &Record) {
-    for (flow, name) in named_flows(record) {
+    for (leg, flow) in named_flows(record) {
         table.push(vec![
             Value::count(position),
             Value::Whole(flow.day.into()),
             Value::Whole(flow.curve.into()),
             Value::Signed(signed(&flow), MONEY),
-            Value::text(name),
+            Value::text(words::flow(record, leg)),
         ]);
     }
 }
