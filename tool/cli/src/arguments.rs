@@ -2,20 +2,19 @@
 
 use crate::form::Form;
 use clap::{Args, Parser, Subcommand, ValueEnum};
+use seddolki::Ground;
 use std::path::PathBuf;
 
 /// A back office's day, from an empty folder to a margin.
 pub const DAY: &str = "\
-A day, from an empty folder to a margin:
-
   seddolki template curves curves.txt
   seddolki template trades trades.csv
   seddolki new desk.book curves.txt
   seddolki import desk.book trades.csv
-  seddolki margin desk.book
+  seddolki margin desk.book";
 
-Exit status:
-
+/// What an exit status says.
+pub const STATUSES: &str = "\
   0  done
   1  refused, by a ground of the engine or by a rule of what was put in
   2  wrong usage
@@ -23,10 +22,15 @@ Exit status:
 
 An edit that is done ends with 0 also where word of it could not be printed.";
 
+fn day_and_statuses() -> String {
+    format!("A day, from an empty folder to a margin:\n\n{DAY}\n\nExit status:\n\n{STATUSES}")
+}
+
 /// Books of cash flows and their margin
 #[derive(Debug, Parser)]
-#[command(name = "seddolki", version, after_help = DAY)]
+#[command(name = "seddolki", version, after_help = day_and_statuses())]
 #[command(subcommand_required = true, arg_required_else_help = true)]
+#[command(max_term_width = 80)]
 pub struct Arguments {
     #[command(subcommand)]
     pub command: Command,
@@ -99,6 +103,7 @@ pub enum Kind {
 
 #[derive(Args, Debug)]
 pub struct Template {
+    /// What the file is to hold
     pub kind: Kind,
     /// The file to write; - is standard output
     #[arg(default_value = "-")]
@@ -129,6 +134,7 @@ pub struct Again {
 #[derive(Args, Debug)]
 #[command(after_help = seddolki_text::meanings())]
 pub struct Append {
+    /// The book to change
     pub book: PathBuf,
     /// Columns that the trade does not use are left out
     #[arg(required = true, value_name = "COLUMN=VALUE")]
@@ -142,6 +148,7 @@ pub struct Append {
 #[derive(Args, Debug)]
 #[command(after_help = format!("{}\n{}", crate::commands::import::FORM, seddolki_text::meanings()))]
 pub struct Import {
+    /// The book to change
     pub book: PathBuf,
     /// The file of trades; - is standard input
     pub trades: PathBuf,
@@ -154,8 +161,10 @@ pub struct Import {
 #[derive(Args, Debug)]
 #[command(after_help = seddolki_text::meanings())]
 pub struct Amend {
+    /// The book to change
     pub book: PathBuf,
-    /// As show lists them, from 0
+    /// The trade's position as show lists it, from 0
+    #[arg(value_parser = position)]
     pub position: usize,
     /// Columns that are left out stay as they are
     #[arg(required = true, value_name = "COLUMN=VALUE")]
@@ -168,8 +177,10 @@ pub struct Amend {
 
 #[derive(Args, Debug)]
 pub struct Strike {
+    /// The book to change
     pub book: PathBuf,
-    /// As show lists them, from 0; the trades behind it move up
+    /// The trade's position as show lists it, from 0; those behind it move up
+    #[arg(value_parser = position)]
     pub position: usize,
     #[command(flatten)]
     pub waiting: Waiting,
@@ -178,6 +189,7 @@ pub struct Strike {
 #[derive(Args, Debug)]
 #[command(after_help = seddolki_text::curve_file::FORM)]
 pub struct Curves {
+    /// The book to change
     pub book: PathBuf,
     /// The file of curves; - is standard input
     pub file: PathBuf,
@@ -233,7 +245,7 @@ pub struct Flows {
     #[command(flatten)]
     pub one: One,
     /// Only the curve with this id
-    #[arg(long, value_name = "ID")]
+    #[arg(long, value_name = "ID", value_parser = curve_id)]
     pub curve: Option<u8>,
     #[command(flatten)]
     pub form: Form,
@@ -244,7 +256,7 @@ pub struct Losses {
     #[command(flatten)]
     pub one: One,
     /// Only the curve with this id
-    #[arg(long, value_name = "ID")]
+    #[arg(long, value_name = "ID", value_parser = curve_id)]
     pub curve: Option<u8>,
     /// The part of each trade in its curve's worst loss, in place of scenarios
     #[arg(long)]
@@ -285,6 +297,7 @@ pub struct Plot {
     #[command(flatten)]
     pub one: One,
     /// The curve's id
+    #[arg(value_parser = curve_id)]
     pub curve: u8,
     /// The file to write, an SVG picture; - is standard output
     pub file: PathBuf,
@@ -298,13 +311,29 @@ pub struct Plot {
 #[derive(Args, Debug)]
 pub struct Explain {
     /// The ground's number, 1 to 16
-    #[arg(value_parser = clap::value_parser!(u64).range(1..=16))]
-    pub number: u64,
+    #[arg(value_parser = ground)]
+    pub number: Ground,
     /// A book: whether the ground applies there, and where
     pub book: Option<PathBuf>,
 }
 
+fn position(text: &str) -> Result<usize, String> {
+    let number = text.parse();
+    number.map_err(|_| "a position is a whole number from 0, as show lists them".into())
+}
+
+fn curve_id(text: &str) -> Result<u8, String> {
+    let number = text.parse();
+    number.map_err(|_| "a curve's id is a whole number from 1, as show lists them".into())
+}
+
+fn ground(text: &str) -> Result<Ground, String> {
+    let number = text.parse().ok().and_then(Ground::from_number);
+    number.ok_or_else(|| format!("grounds are numbered from 1 to {}", Ground::ALL.len()))
+}
+
 #[derive(Args, Debug)]
 pub struct Completions {
+    /// The shell to print them for
     pub shell: clap_complete::Shell,
 }

@@ -8,7 +8,7 @@ use seddolki::Book;
 use seddolki_format::block::BLOCK;
 use seddolki_format::limits::MAX_BLOCKS;
 use seddolki_model::accept::{self, accept};
-use seddolki_store::{self as store, shown, Input, Patience, Written};
+use seddolki_store::{self as store, shown, Failure, Input, Patience, Written};
 use std::path::Path;
 use std::time::Duration;
 
@@ -27,26 +27,46 @@ pub struct BookFile {
     pub parts: accept::Book,
 }
 
-/// The book in a file, if the engine accepts it.
-pub fn accepted(path: &Path) -> Result<BookFile, Ended> {
+impl BookFile {
+    /// Of a book that the engine has accepted.
+    pub fn of(input: Input, book: Book) -> Self {
+        BookFile {
+            name: input.name.clone(),
+            parts: parts(&book),
+            input,
+            book,
+        }
+    }
+}
+
+/// The book in a file, accepted or not.
+pub fn read(path: &Path) -> Result<(Input, Book), Failure> {
     let input = store::read_at_most(path, LARGEST)?;
     let book = Book::from_bytes(input.bytes.clone());
-    let name = shown(path);
-    let parts = accepted_parts(&name, &book)?;
-    Ok(BookFile {
-        name,
-        input,
-        book,
-        parts,
-    })
+    Ok((input, book))
+}
+
+/// The book in a file, if the engine accepts it.
+pub fn accepted(path: &Path) -> Result<BookFile, Ended> {
+    let (input, book) = read(path)?;
+    accept_book(&input.name, &book)?;
+    Ok(BookFile::of(input, book))
+}
+
+fn accept_book(name: &str, book: &Book) -> Result<(), Ended> {
+    book.check()
+        .map_err(|refusal| Ended::refused(format!("{name}: {}", book_refused(book, refusal))))
+}
+
+fn parts(book: &Book) -> accept::Book {
+    let bytes = book.as_bytes();
+    accept(bytes, bytes.len()).expect("the engine has accepted the book")
 }
 
 /// The parts of a book that the engine accepts.
 pub fn accepted_parts(name: &str, book: &Book) -> Result<accept::Book, Ended> {
-    book.check()
-        .map_err(|refusal| Ended::refused(format!("{name}: {}", book_refused(book, refusal))))?;
-    let bytes = book.as_bytes();
-    Ok(accept(bytes, bytes.len()).expect("the engine has accepted the book"))
+    accept_book(name, book)?;
+    Ok(parts(book))
 }
 
 /// The text of a file.
@@ -100,8 +120,8 @@ pub fn is_stream(path: &Path) -> bool {
 }
 
 /// Standard input can be read once.
-pub fn one_stream<'a>(paths: impl IntoIterator<Item = &'a Path>) -> Result<(), Ended> {
-    if paths.into_iter().filter(|path| is_stream(path)).count() > 1 {
+pub fn one_stream(paths: &[impl AsRef<Path>]) -> Result<(), Ended> {
+    if paths.iter().filter(|path| is_stream(path.as_ref())).count() > 1 {
         let reason = "standard input (-) is named twice, and can be read once";
         return Err(Ended::Misused(reason.into()));
     }

@@ -32,7 +32,7 @@ struct Rows {
 
 impl Rows {
     fn new() -> Self {
-        let columns = ["what", "number", "column", "before", "after"];
+        let columns = ["change", "number", "column", "before", "after"];
         let table = Table::new("differences", &columns);
         Rows { table }
     }
@@ -123,7 +123,7 @@ fn trade_differences(rows: &mut Rows, before: &[Record], after: &[Record]) {
             }
             if i < gone.len() {
                 rows.change(
-                    "trade",
+                    "trade struck",
                     Some(a),
                     "",
                     [words::trade(&before[a]), String::new()],
@@ -131,7 +131,7 @@ fn trade_differences(rows: &mut Rows, before: &[Record], after: &[Record]) {
             }
             if i < come.len() {
                 rows.change(
-                    "trade",
+                    "trade added",
                     Some(b),
                     "",
                     [String::new(), words::trade(&after[b])],
@@ -148,7 +148,7 @@ fn amended(before: &Record, after: &Record) -> bool {
 
 fn column_differences(rows: &mut Rows, position: usize, before: &Record, after: &Record) {
     for ((column, a), (_, b)) in written(before).into_iter().zip(written(after)) {
-        rows.change("trade", Some(position), column, [a, b]);
+        rows.change("trade amended", Some(position), column, [a, b]);
     }
 }
 

@@ -5,6 +5,18 @@ use crate::print;
 use crate::words;
 use seddolki::{Double, Placed};
 
+/// What is looked for.
+pub const KINDS: &str = "\
+Refused unless --again is said: a trade that stands in the book already, byte
+for byte; a settled repo that is the second leg of one that stands there, or
+the reverse; a repo of the other side that begins on another's value day 2 with
+its second leg as cash; a file all of whose trades stand in the book. Told, and
+taken: a trade that differs from another in one field only, and one that is
+another's opposite side.";
+
+/// What is said behind every refusal of a double.
+pub const MEANT: &str = "nothing is changed; say --again if it is meant";
+
 /// What is said of some doubles: each with what is alike, and its two trades.
 #[derive(Debug, Default)]
 pub struct Told {
@@ -27,7 +39,7 @@ impl Told {
         let refused = lines(true);
         if !again && !refused.is_empty() {
             let mut lines = refused;
-            lines.push("nothing is added; --again takes what is meant".into());
+            lines.push(MEANT.into());
             return Err(Ended::Refused(lines));
         }
         let lines = [refused, lines(false)].concat();

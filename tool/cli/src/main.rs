@@ -42,9 +42,14 @@ fn help_or_misuse(error: &clap::Error) -> Result<u8, Ended> {
         print::result(&text)?;
         return Ok(ended::DONE);
     }
-    let text = text.trim_end().trim_start_matches("error: ");
     if error.kind() == ErrorKind::DisplayHelpOnMissingArgumentOrSubcommand {
-        return Err(Ended::Misused(format!("no command is given\n\n{text}")));
+        return Err(Ended::Misused(format!(
+            "no command is given\n\n{}",
+            text.trim_end()
+        )));
     }
-    Err(Ended::Misused(text.to_owned()))
+    let text = text.trim_end().trim_start_matches("error: ");
+    let mut letters = text.chars();
+    let first = letters.next().map(|letter| letter.to_ascii_lowercase());
+    Err(Ended::Misused(first.into_iter().chain(letters).collect()))
 }

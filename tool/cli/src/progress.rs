@@ -3,6 +3,8 @@
 use crate::ended::{Ended, DONE};
 use indicatif::{ProgressBar, ProgressStyle};
 use rayon::prelude::*;
+use seddolki_store::shown;
+use std::collections::BTreeSet;
 use std::path::{Path, PathBuf};
 
 /// What was made of each book, and the exit status of the worst. A bar shows
@@ -11,7 +13,8 @@ use std::path::{Path, PathBuf};
 pub fn over_books<T: Send>(
     paths: &[PathBuf],
     work: impl Fn(&Path) -> Result<T, Ended> + Sync,
-) -> (Vec<T>, u8) {
+) -> Result<(Vec<T>, u8), Ended> {
+    named_once(paths)?;
     let bar = bar(paths.len());
     let ended: Vec<Result<T, Ended>> = paths
         .par_iter()
@@ -29,7 +32,19 @@ pub fn over_books<T: Send>(
             Err(ended) => worst = worst.max(ended.told()),
         }
     }
-    (made, worst)
+    Ok((made, worst))
+}
+
+/// A book that is named twice would count twice.
+fn named_once(paths: &[PathBuf]) -> Result<(), Ended> {
+    let mut seen = BTreeSet::new();
+    for path in paths {
+        let file = path.canonicalize().unwrap_or_else(|_| path.clone());
+        if !seen.insert(file) {
+            return Err(Ended::Misused(format!("{} is named twice", shown(path))));
+        }
+    }
+    Ok(())
 }
 
 /// It draws on standard error, and only where that is a terminal.

@@ -14,12 +14,21 @@ pub fn where_and_why(book: &Book, refusal: Refusal) -> Option<BookFault> {
     book_fault(bytes, bytes.len()).filter(|fault| fault.refusal() == refusal)
 }
 
-/// A refused book.
+/// A refused book: where and why, then the ground.
 pub fn book_refused(book: &Book, refusal: Refusal) -> String {
     match where_and_why(book, refusal) {
-        Some(fault) => format!("{refusal}: {fault}"),
+        Some(fault) => format!("{fault}: {}", by_ground(refusal)),
         None => refusal.to_string(),
     }
+}
+
+/// The ground and its block, without its sentence.
+pub fn by_ground(refusal: Refusal) -> String {
+    let number = refusal.ground.number();
+    if refusal.ground.names_block() {
+        return format!("refused by ground {number} in block {}", refusal.block);
+    }
+    format!("refused by ground {number}")
 }
 
 /// A refused record of a book with these curves: the column, what is there
@@ -27,11 +36,16 @@ pub fn book_refused(book: &Book, refusal: Refusal) -> String {
 pub fn record_refused(record: &Record, curves: &[Curve], refusal: Refusal) -> String {
     if refusal.ground == Ground::BookSpace {
         let most = (MAX_BLOCKS - 1 - curves.len()) * FULL_BLOCK;
-        return format!("{refusal}: the book is full with {}", count(most, "trade"));
+        let most = count(most, "trade");
+        return format!("the book is full with {most}: {}", by_ground(refusal));
     }
     let fault = record_fault(record, curves).filter(|fault| fault.ground == refusal.ground);
     match fault {
-        Some(fault) => format!("{}: {refusal}", column_at_fault(record, &fault)),
+        Some(fault) => format!(
+            "{}: {}",
+            column_at_fault(record, &fault),
+            by_ground(refusal)
+        ),
         None => refusal.to_string(),
     }
 }
@@ -39,5 +53,50 @@ pub fn record_refused(record: &Record, curves: &[Curve], refusal: Refusal) -> St
 fn column_at_fault(record: &Record, fault: &Fault) -> String {
     let column = Column::of_field(record, fault.field);
     let name = column.map_or(fault.field, |column| column.name);
-    format!("column {name}: {}", fault.sentence())
+    format!("column {name}: {}", without_codes(&fault.sentence()))
+}
+
+/// A sentence with words alone where it has `2 (coupons)`, as a column has.
+fn without_codes(sentence: &str) -> String {
+    let mut text = String::new();
+    let mut rest = sentence;
+    while let Some((before, behind)) = rest.split_once(" (") {
+        let code = before.rsplit(' ').next().unwrap_or(before);
+        let is_code = !code.is_empty() && code.bytes().all(|byte| byte.is_ascii_digit());
+        match behind.split_once(')').filter(|_| is_code) {
+            Some((word, more)) => {
+                text += &before[..before.len() - code.len()];
+                text += word;
+                rest = more;
+            }
+            None => {
+                text += before;
+                text += " (";
+                rest = behind;
+            }
+        }
+    }
+    text + rest
+}
+
+#[cfg(test)]
+mod tests {
+    use super::without_codes;
+
+    #[test]
+    fn codes_give_way_to_their_words() {
+        for (sentence, words) in [
+            (
+                "0 (none) is there, 2 (coupons) or 3 (x y) is due",
+                "none is there, coupons or x y is due",
+            ),
+            (
+                "6 is there, 7 is due: so (say) it",
+                "6 is there, 7 is due: so (say) it",
+            ),
+            ("1 (open", "1 (open"),
+        ] {
+            assert_eq!(without_codes(sentence), words);
+        }
+    }
 }

@@ -10,6 +10,9 @@ pub enum Value {
     Nothing,
     Text(String),
     Whole(i128),
+    /// A number that is a name, as an account's.
+    Id(u32),
+    Flag(bool),
     Decimal(i128, u32),
     /// A decimal number that shows a plus to people.
     Signed(i128, u32),
@@ -49,6 +52,8 @@ impl Value {
             Value::Nothing => String::new(),
             Value::Text(text) => crate::print::visible(text).replace('\n', "\\n"),
             Value::Whole(number) => decimal::format(*number, 0),
+            Value::Id(number) => number.to_string(),
+            Value::Flag(flag) => if *flag { "yes" } else { "" }.to_owned(),
             Value::Decimal(number, places) => decimal::format(*number, *places),
             Value::Signed(number, places) => decimal::format_signed(*number, *places),
         }
@@ -59,6 +64,8 @@ impl Value {
             Value::Nothing => String::new(),
             Value::Text(text) => text.clone(),
             Value::Whole(number) => number.to_string(),
+            Value::Id(number) => number.to_string(),
+            Value::Flag(flag) => flag.to_string(),
             Value::Decimal(number, places) | Value::Signed(number, places) => {
                 decimal::plain(*number, *places, decimals)
             }
@@ -70,6 +77,8 @@ impl Value {
         match self {
             Value::Nothing => Json::Null,
             Value::Whole(number) => i64::try_from(*number).map_or(Json::Null, Json::from),
+            Value::Id(number) => Json::from(*number),
+            Value::Flag(flag) => Json::from(*flag),
             other => Json::String(other.plain(Decimals::Point)),
         }
     }
@@ -121,7 +130,7 @@ impl Table {
 
     fn is_text(&self, column: usize) -> bool {
         let mut cells = self.rows.iter().map(|row| &row[column]);
-        cells.any(|cell| matches!(cell, Value::Text(_)))
+        cells.any(|cell| matches!(cell, Value::Text(_) | Value::Flag(_)))
     }
 
     fn objects(&self) -> Json {

@@ -111,7 +111,7 @@ pub fn flow(record: &Record, leg: Leg) -> &'static str {
     match leg {
         Leg::First if record.is_repo() => "repo cash, first leg",
         Leg::First => "settlement cash",
-        Leg::Second => "repo cash and interest, second leg",
+        Leg::Second => "repo cash and interest less withholding, second leg",
         Leg::Payment => "payment of the security",
     }
 }

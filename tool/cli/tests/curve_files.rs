@@ -112,7 +112,7 @@ fn curves_are_replaced_and_trades_kept() {
     let trades = desk.done(&["export", "desk.book"]);
     desk.shell("\"$0\" export --curves desk.book | sed 's/13.1500/14.1500/' > curves.txt");
     let text = desk.done(&["curves", "desk.book", "curves.txt"]);
-    assert_eq!(text, "desk.book: 3 curves replaced, 11 trades kept\n");
+    assert_eq!(text, "desk.book: 3 curves replaced by 3, 11 trades kept\n");
     assert_eq!(desk.done(&["export", "desk.book"]), trades);
     assert!(desk.done(&["show", "desk.book"]).contains("14.1500"));
     let before = desk.read("desk.book");

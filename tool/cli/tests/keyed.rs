@@ -112,7 +112,7 @@ fn numbers_that_the_engine_refuses_are_told_by_column() {
         REPO,
         "pool repo,repo,1,2,1,8,6,500,13",
         "term",
-        &["6 is there", "7 is due", "ground 9 in block 5"],
+        &["6 is there", "7 is due", "refused by ground 9 in block 5"],
     );
     refused(
         REPO,
@@ -190,7 +190,7 @@ fn the_right_column_is_blamed() {
     ]);
     assert!(no_security.contains("column security: "), "{no_security}");
     assert!(
-        no_security.contains("1 (single payment), 2 (coupons) or 3 (indexed coupons) is due"),
+        no_security.contains("single payment, coupons or indexed coupons is due"),
         "{no_security}"
     );
     let no_indices = blamed(&[

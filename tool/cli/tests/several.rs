@@ -2,7 +2,7 @@
 
 mod tool;
 
-use tool::{example, Desk, DONE, FAILED, REFUSED};
+use tool::{example, Desk, DONE, FAILED, MISUSED, REFUSED};
 
 fn desk_with_books() -> Desk {
     let desk = Desk::new();
@@ -42,7 +42,7 @@ fn a_bad_book_does_not_stop_the_others_and_the_worst_status_counts() {
     );
     assert!(
         run.err
-            .starts_with("seddolki: bad.book: refused by ground 2"),
+            .starts_with("seddolki: bad.book: header (block 0), field check: "),
         "{}",
         run.err
     );
@@ -55,6 +55,15 @@ fn a_bad_book_does_not_stop_the_others_and_the_worst_status_counts() {
     assert_eq!(run.out.lines().count(), 2);
     let run = desk.run(&["margin", "bad.book"]);
     assert_eq!((run.status, run.out.as_str()), (REFUSED, ""));
+}
+
+#[test]
+fn a_book_counts_once() {
+    let desk = desk_with_books();
+    for command in ["margin", "check"] {
+        let reason = desk.ended(MISUSED, &[command, "desk.book", "./desk.book"]);
+        assert_eq!(reason, "./desk.book is named twice");
+    }
 }
 
 #[test]

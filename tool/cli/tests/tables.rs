@@ -31,6 +31,7 @@ fn documented() -> BTreeMap<(String, String), Vec<String>> {
 /// The arguments of each command that prints a table with rows.
 fn commands() -> Vec<(&'static str, Vec<&'static str>)> {
     vec![
+        ("check", vec!["check", "doubled.book"]),
         (
             "check --doubles",
             vec!["check", "--doubles", "doubled.book"],

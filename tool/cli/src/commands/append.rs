@@ -6,6 +6,7 @@ use crate::ended::{Ended, DONE};
 use crate::keyed_twice::Told;
 use crate::print;
 use crate::trade_text::{appended, faults_told, named_values};
+use crate::words;
 use seddolki::{doubles_of, Placed};
 use seddolki_store::shown;
 use seddolki_text::trade::record_of;
@@ -31,7 +32,8 @@ pub fn run(arguments: &Append) -> Result<u8, Ended> {
         let notes = Told::of(&doubles, arguments.again.again, named)?;
         Ok((position, notes))
     })?;
-    print::notice(&format!("{name}: trade {position} is added"));
+    let words = words::trade(&record);
+    print::notice(&format!("{name}: trade {position} is added: {words}"));
     notes.say();
     Ok(DONE)
 }

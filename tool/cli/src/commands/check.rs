@@ -1,61 +1,80 @@
 //! Whether books keep every rule, and which trades look keyed twice.
 
 use crate::arguments::Check;
-use crate::books::{accepted, one_stream, BookFile};
+use crate::books::{one_stream, read, BookFile};
 use crate::ended::Ended;
 use crate::progress::over_books;
+use crate::refusal::book_refused;
 use crate::table::{Table, Value};
 use crate::words::{self, count};
-use seddolki::{doubles, Double};
-use std::path::PathBuf;
+use seddolki::{doubles, Double, Likeness, Refusal};
+use std::path::Path;
 
-/// An accepted book, and its doubles if they are asked for.
+/// A book, accepted or not.
 struct Checked {
-    file: BookFile,
-    doubles: Vec<Double>,
+    name: String,
+    verdict: Result<BookFile, Refused>,
+}
+
+struct Refused {
+    refusal: Refusal,
+    why: String,
 }
 
 pub fn run(arguments: &Check) -> Result<u8, Ended> {
     let paths = &arguments.books.books;
-    one_stream(paths.iter().map(PathBuf::as_path))?;
-    let (checked, worst) = over_books(paths, |path| {
-        let file = accepted(path)?;
-        let trades = if arguments.doubles {
-            &file.parts.trades[..]
-        } else {
-            &[]
-        };
-        let doubles = doubles(trades);
-        Ok(Checked { file, doubles })
-    });
-    if !checked.is_empty() {
+    one_stream(paths)?;
+    let (checked, mut worst) = over_books(paths, checked)?;
+    for Checked { name, verdict } in &checked {
+        if let Err(refused) = verdict {
+            let ended = Ended::refused(format!("{name}: {}", refused.why));
+            worst = worst.max(ended.told());
+        }
+    }
+    let form = arguments.form;
+    if !arguments.doubles {
+        form.print(&[books_table(&checked)], |_| texts(&checked, accepted_text))?;
+    } else {
         let tables = [books_table(&checked), doubles_table(&checked)];
-        let text = |_: &[Table; 2]| {
-            checked
-                .iter()
-                .map(|one| text(one, arguments.doubles))
-                .collect()
-        };
-        arguments.form.print(&tables, text)?;
+        form.print(&tables, |_| texts(&checked, doubles_text))?;
     }
     Ok(worst)
 }
 
-fn text(checked: &Checked, doubles: bool) -> String {
-    let Checked {
-        file,
-        doubles: found,
-    } = checked;
+fn checked(path: &Path) -> Result<Checked, Ended> {
+    let (input, book) = read(path)?;
+    let name = input.name.clone();
+    let verdict = match book.check() {
+        Ok(()) => Ok(BookFile::of(input, book)),
+        Err(refusal) => {
+            let why = book_refused(&book, refusal);
+            Err(Refused { refusal, why })
+        }
+    };
+    Ok(Checked { name, verdict })
+}
+
+fn texts(checked: &[Checked], text: fn(&BookFile) -> String) -> String {
+    let accepted = checked.iter().filter_map(|one| one.verdict.as_ref().ok());
+    accepted.map(text).collect()
+}
+
+fn accepted_text(file: &BookFile) -> String {
     let (name, account) = (&file.name, file.parts.account);
     let curves = count(file.parts.curves.len(), "curve");
     let trades = count(file.parts.trades.len(), "trade");
-    let mut text = format!("{name}: accepted, account {account}, {curves}, {trades}\n");
-    if doubles && found.is_empty() {
+    format!("{name}: accepted, account {account}, {curves}, {trades}\n")
+}
+
+fn doubles_text(file: &BookFile) -> String {
+    let (name, mut text) = (&file.name, accepted_text(file));
+    let found = doubles(&file.parts.trades);
+    if found.is_empty() {
         text += &format!("{name}: no trade looks keyed twice\n");
     }
     for double in found {
         text += &format!("{name}: {double}\n");
-        for trade in [&double.earlier, &double.later] {
+        for trade in [double.earlier, double.later] {
             text += &format!("  {trade}: {}\n", words::trade(&trade.record));
         }
     }
@@ -63,37 +82,58 @@ fn text(checked: &Checked, doubles: bool) -> String {
 }
 
 fn books_table(checked: &[Checked]) -> Table {
-    let mut table = Table::new("books", &["book", "account", "curves", "trades"]);
-    for Checked { file, .. } in checked {
-        table.push(vec![
-            Value::text(&file.name),
-            Value::Whole(file.parts.account.into()),
-            Value::count(file.parts.curves.len()),
-            Value::count(file.parts.trades.len()),
-        ]);
+    let columns = [
+        "book", "accepted", "ground", "block", "why", "account", "curves", "trades",
+    ];
+    let mut table = Table::new("books", &columns);
+    for Checked { name, verdict } in checked {
+        let mut row = vec![Value::text(name), Value::Flag(verdict.is_ok())];
+        row.extend(match verdict {
+            Ok(file) => [
+                Value::Nothing,
+                Value::Nothing,
+                Value::Nothing,
+                Value::Id(file.parts.account),
+                Value::count(file.parts.curves.len()),
+                Value::count(file.parts.trades.len()),
+            ],
+            Err(Refused { refusal, why }) => [
+                Value::count(refusal.ground.number() as usize),
+                Value::count(refusal.block),
+                Value::text(why),
+                Value::Nothing,
+                Value::Nothing,
+                Value::Nothing,
+            ],
+        });
+        table.push(row);
     }
     table
 }
 
-/// `taken` says whether append would take the later trade.
 fn doubles_table(checked: &[Checked]) -> Table {
-    let columns = ["book", "earlier", "later", "likeness", "taken"];
+    let columns = ["book", "earlier", "later", "likeness", "field", "taken"];
     let mut table = Table::new("doubles", &columns);
-    for Checked { file, doubles } in checked {
-        for double in doubles {
-            let taken = if double.likeness.refused() {
-                "no"
-            } else {
-                "yes"
-            };
-            table.push(vec![
-                Value::text(&file.name),
-                Value::count(double.earlier.position),
-                Value::count(double.later.position),
-                Value::text(double.likeness.to_string()),
-                Value::text(taken),
-            ]);
+    for file in checked.iter().filter_map(|one| one.verdict.as_ref().ok()) {
+        for double in doubles(&file.parts.trades) {
+            table.push(double_cells(&file.name, &double));
         }
     }
     table
+}
+
+/// The last cell says whether append would take the later trade.
+fn double_cells(book: &str, double: &Double) -> Vec<Value> {
+    let field = match double.likeness {
+        Likeness::OneField(field) => Value::text(field),
+        _ => Value::Nothing,
+    };
+    vec![
+        Value::text(book),
+        Value::count(double.earlier.position),
+        Value::count(double.later.position),
+        Value::text(double.likeness.name()),
+        field,
+        Value::Flag(!double.likeness.refused()),
+    ]
 }

@@ -12,7 +12,7 @@ pub fn run(arguments: &Curves) -> Result<u8, Ended> {
     let input = text(&arguments.file)?;
     let from = shown(&arguments.file);
     let file = read_curves(&from, &input)?;
-    let trades = edit(&arguments.book, arguments.waiting, |name, book| {
+    let (before, trades) = edit(&arguments.book, arguments.waiting, |name, book| {
         let parts = accepted_parts(name, book)?;
         if parts.account != file.account {
             let (account, other) = (parts.account, file.account);
@@ -20,10 +20,13 @@ pub fn run(arguments: &Curves) -> Result<u8, Ended> {
             return Err(Ended::refused(reason));
         }
         *book = book_of(&from, &file, &parts.trades)?;
-        Ok(parts.trades.len())
+        Ok((parts.curves.len(), parts.trades.len()))
     })?;
     let name = shown(&arguments.book);
-    let (curves, trades) = (count(file.curves.len(), "curve"), count(trades, "trade"));
-    print::notice(&format!("{name}: {curves} replaced, {trades} kept"));
+    let (curves, trades) = (count(before, "curve"), count(trades, "trade"));
+    let now = file.curves.len();
+    print::notice(&format!(
+        "{name}: {curves} replaced by {now}, {trades} kept"
+    ));
     Ok(DONE)
 }

@@ -7,7 +7,7 @@ use crate::ended::{Ended, DONE};
 use crate::table::Table;
 
 pub fn run(arguments: &Diff) -> Result<u8, Ended> {
-    one_stream([arguments.book.as_path(), &arguments.other])?;
+    one_stream(&[&arguments.book, &arguments.other])?;
     let (before, after) = (accepted(&arguments.book)?, accepted(&arguments.other)?);
     let table = differences(&before.parts, &after.parts);
     let names = format!("{} and {}", before.name, after.name);

@@ -11,7 +11,7 @@ use seddolki_store::{read_at_most, shown};
 use std::path::Path;
 
 pub fn run(arguments: &Explain) -> Result<u8, Ended> {
-    let ground = Ground::from_number(arguments.number).expect("the number is one of a ground");
+    let ground = arguments.number;
     let mut text = rule(ground);
     if let Some(path) = &arguments.book {
         text += &format!("\n{}\n", applied(ground, path)?);

@@ -17,7 +17,7 @@ pub fn run(arguments: &Flows) -> Result<u8, Ended> {
         for (day, sums) in ladder(&file.parts.flows_on(curve)) {
             let Sums { inwards, outwards } = sums;
             table.push(vec![
-                Value::Whole(curve.id.into()),
+                Value::Id(curve.id.into()),
                 Value::text(currency_name(curve.currency.into())),
                 Value::Whole(day.into()),
                 Value::money(inwards),

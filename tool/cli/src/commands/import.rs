@@ -3,7 +3,7 @@
 use crate::arguments::Import;
 use crate::books::{accepted_parts, edit, one_stream, text};
 use crate::ended::{Ended, DONE};
-use crate::keyed_twice::Told;
+use crate::keyed_twice::{Told, MEANT};
 use crate::print;
 use crate::trade_text::{appended, faults_told};
 use crate::words::count;
@@ -46,7 +46,7 @@ pub fn run(arguments: &Import) -> Result<u8, Ended> {
 }
 
 fn read(arguments: &Import) -> Result<Lines, Ended> {
-    one_stream([arguments.book.as_path(), &arguments.trades])?;
+    one_stream(&[&arguments.book, &arguments.trades])?;
     let name = shown(&arguments.trades);
     let read = trades_file::read(&text(&arguments.trades)?.bytes);
     let trades = read.map_err(|faults| faults_told(&name, &faults))?;
@@ -89,9 +89,9 @@ impl Lines {
         let Some(standing) = stands_already(trades, &self.records) else {
             return Ok(());
         };
-        let (name, count) = (&self.name, count(self.records.len(), "trade"));
-        let reason = format!("{name}: imported already: its {count} stand in {book}, {standing}");
-        let meant = "nothing is added; --again takes what is meant";
-        Err(Ended::Refused(vec![reason, meant.into()]))
+        let name = &self.name;
+        let reason =
+            format!("{name}: imported already: all its trades stand in {book}, {standing}");
+        Err(Ended::Refused(vec![reason, MEANT.into()]))
     }
 }

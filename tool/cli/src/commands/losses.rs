@@ -24,7 +24,7 @@ pub fn run(arguments: &Losses) -> Result<u8, Ended> {
 
 fn curve_cells(valued: &Valued) -> Vec<Value> {
     let currency = currency_name(valued.figures.currency);
-    vec![Value::Whole(valued.curve.id.into()), Value::text(currency)]
+    vec![Value::Id(valued.curve.id.into()), Value::text(currency)]
 }
 
 fn by_scenario(valued: &[Valued]) -> Table {
@@ -48,11 +48,7 @@ fn by_scenario(valued: &[Valued]) -> Table {
             row.extend(coefficients.map(Value::coefficient));
             row.push(Value::money(*loss));
             let worst = scenario == one.figures.scenario as usize;
-            row.push(if worst {
-                Value::text("worst")
-            } else {
-                Value::Nothing
-            });
+            row.push(Value::Flag(worst));
             table.push(row);
         }
     }

@@ -1,7 +1,8 @@
 //! The manual page, made of the same text as the help.
 
-use crate::arguments::Arguments;
+use crate::arguments::{Arguments, DAY, STATUSES};
 use crate::ended::{Ended, DONE};
+use crate::keyed_twice::KINDS;
 use crate::print;
 use clap::{Arg, Command, CommandFactory};
 
@@ -23,7 +24,9 @@ fn page(tool: &Command) -> String {
     for command in tool.get_subcommands() {
         page += &section(command);
     }
-    page += &format!(".SH A DAY\n{}", verbatim(&text_of(tool.get_after_help())));
+    page += &format!(".SH A DAY\n{}", verbatim(DAY));
+    page += &format!(".SH TRADES KEYED TWICE\n{}\n", escaped(KINDS));
+    page += &format!(".SH EXIT STATUS\n{}", verbatim(STATUSES));
     page
 }
 
@@ -65,9 +68,14 @@ fn described(argument: &Arg) -> String {
         Some(long) => format!("--{long}"),
         None => value,
     };
-    let help = text_of(argument.get_help());
-    if help.is_empty() {
-        return String::new();
+    let mut help = text_of(argument.get_help());
+    let default: Vec<String> = argument
+        .get_default_values()
+        .iter()
+        .map(|value| value.to_string_lossy().into_owned())
+        .collect();
+    if argument.get_action().takes_values() && !default.is_empty() {
+        help += &format!(" (default {})", default.join(" "));
     }
     format!(".TP\n\\fB{}\\fR\n{}\n", escaped(&name), escaped(&help))
 }

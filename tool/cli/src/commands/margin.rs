@@ -9,7 +9,7 @@ use seddolki::{CurrencyFigures, CurveFigures, Report};
 use seddolki_format::block::Curve;
 use seddolki_format::report::{currency_name, CURRENCIES};
 use seddolki_model::scenario::scenarios;
-use std::path::{Path, PathBuf};
+use std::path::Path;
 
 pub const FIGURES: &str = "\
 By curve: the value of its flows today, the largest loss over its scenarios,
@@ -26,8 +26,8 @@ struct Margined {
 
 pub fn run(arguments: &Margin) -> Result<u8, Ended> {
     let paths = &arguments.books.books;
-    one_stream(paths.iter().map(PathBuf::as_path))?;
-    let (margined, worst) = over_books(paths, margined);
+    one_stream(paths)?;
+    let (margined, worst) = over_books(paths, margined)?;
     if margined.is_empty() {
         return Ok(worst);
     }
@@ -50,9 +50,8 @@ fn text([curves, currencies, totals]: &[Table; 3], several: bool) -> String {
     if several {
         return format!("{}\n{}", currencies.text(), totals.text());
     }
-    let account = match &curves.rows[0][1] {
-        Value::Whole(account) => account.to_string(),
-        _ => String::new(),
+    let Value::Id(account) = curves.rows[0][1] else {
+        unreachable!("the account stands in the second column");
     };
     let own = ["book", "account"];
     let (curves, currencies) = (curves.text_without(&own), currencies.text_without(&own));
@@ -87,10 +86,7 @@ fn curves(margined: &[Margined]) -> Table {
 }
 
 fn book_cells(file: &BookFile) -> Vec<Value> {
-    vec![
-        Value::text(&file.name),
-        Value::Whole(file.parts.account.into()),
-    ]
+    vec![Value::text(&file.name), Value::Id(file.parts.account)]
 }
 
 fn curve_cells(id: usize, figures: &CurveFigures, curve: &Curve) -> Vec<Value> {

@@ -42,13 +42,15 @@ struct Words {
 }
 
 impl Words {
-    fn of(curve: &Curve, figures: &CurveFigures, scenarios: &[Scenario]) -> Self {
+    fn of(account: u32, curve: &Curve, figures: &CurveFigures, scenarios: &[Scenario]) -> Self {
+        let currency = currency_name(figures.currency);
+        let money = |amount: i64| format!("{} {currency}", decimal(amount, MONEY));
         let coefficients = scenarios[figures.scenario as usize];
         let coefficients = coefficients.map(|c| format_signed(c, COEFFICIENT));
         Words {
-            id: curve.id.to_string(),
-            base: decimal(figures.base, MONEY),
-            worst_loss: decimal(figures.worst_loss, MONEY),
+            id: format!("{} of account {account}", curve.id),
+            base: money(figures.base),
+            worst_loss: money(figures.worst_loss),
             worst: format!(
                 "worst of {}: scenario {}, coefficients {}",
                 count(scenarios.len(), "scenario"),
@@ -84,7 +86,7 @@ fn rates(file: &BookFile, curve: &Curve) -> Result<String, Ended> {
             outgoing: sums.outwards as u64,
         })
         .collect();
-    let words = Words::of(curve, &figures, &scenarios);
+    let words = Words::of(file.parts.account, curve, &figures, &scenarios);
     let picture = Rates {
         heading: words.heading(&figures),
         base: &nodes(curve.nodes()),
@@ -111,7 +113,7 @@ fn losses(file: &BookFile, curve: &Curve) -> Result<String, Ended> {
         losses,
         ..
     } = &all[0];
-    let words = Words::of(curve, figures, scenarios);
+    let words = Words::of(file.parts.account, curve, figures, scenarios);
     let heading = words.heading(figures);
     Ok(Losses { heading, losses }.draw())
 }

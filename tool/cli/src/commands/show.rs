@@ -84,8 +84,8 @@ fn curves(book: &Book) -> Table {
     );
     for curve in &book.curves {
         let mut row = vec![
-            Value::Whole(book.account.into()),
-            Value::Whole(curve.id.into()),
+            Value::Id(book.account),
+            Value::Id(curve.id.into()),
             Value::text(currency_name(curve.currency.into())),
             Value::count(scenarios(curve).len()),
         ];
@@ -113,7 +113,7 @@ fn nodes(curves: &[Curve]) -> Table {
     for curve in curves {
         for node in curve.nodes() {
             let mut row = vec![
-                Value::Whole(curve.id.into()),
+                Value::Id(curve.id.into()),
                 Value::Whole(node.day.into()),
                 Value::percent(node.rate),
             ];
@@ -151,7 +151,7 @@ fn push_flows(table: &mut Table, position: usize, record: &Record) {
         table.push(vec![
             Value::count(position),
             Value::Whole(flow.day.into()),
-            Value::Whole(flow.curve.into()),
+            Value::Id(flow.curve.into()),
             Value::Signed(signed(&flow), MONEY),
             Value::text(words::flow(record, leg)),
         ]);
