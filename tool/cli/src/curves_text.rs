@@ -1,10 +1,11 @@
 //! Books from files of curves.
 
 use crate::ended::Ended;
-use crate::refusal::book_refused;
+use crate::refusal::{book_refused, by_ground, where_and_why};
 use crate::trade_text::faults_told;
 use seddolki::{Book, Record};
 use seddolki_format::assemble;
+use seddolki_model::{BookFault, Fault};
 use seddolki_store::Input;
 use seddolki_text::curve_file::{self, CurveFile};
 
@@ -19,12 +20,22 @@ pub fn book_of(name: &str, file: &CurveFile, trades: &[Record]) -> Result<Book, 
     let Err(refusal) = book.check() else {
         return Ok(book);
     };
-    // a curve's block has the curve's number
-    let curve = refusal.block.checked_sub(1);
-    let line = curve.and_then(|i| file.lines.get(i));
-    let place = line.map_or(String::new(), |line| {
-        format!("line {line}, curve {}: ", refusal.block)
-    });
-    let why = book_refused(&book, refusal);
-    Err(Ended::refused(format!("{name}: {place}{why}")))
+    let fault = where_and_why(&book, refusal);
+    let reason = match fault.as_ref().and_then(|fault| line_of(file, fault)) {
+        Some((line, fault)) => format!("line {line}, {fault}: {}", by_ground(refusal)),
+        None => book_refused(&book, refusal),
+    };
+    Err(Ended::refused(format!("{name}: {reason}")))
+}
+
+/// The line of a fault in a curve, whose block has its number, and the fault.
+fn line_of<'a>(file: &CurveFile, fault: &'a BookFault) -> Option<(u64, &'a Fault)> {
+    let lines = file.lines.get(fault.block.checked_sub(1)?)?;
+    let line = match (fault.node(), fault.fault.field) {
+        (Some(place), _) => *lines.nodes.get(place)?,
+        (None, "steps") => lines.steps,
+        (None, "ranges") => lines.ranges,
+        _ => lines.curve,
+    };
+    Some((line, &fault.fault))
 }

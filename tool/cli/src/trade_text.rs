@@ -1,10 +1,8 @@
 //! Trades that were keyed, and trades as cells.
 
 use crate::ended::Ended;
-use crate::refusal::record_refused;
 use crate::table::Value;
-use seddolki::{Book, Record};
-use seddolki_format::block::Curve;
+use seddolki::Record;
 use seddolki_text::trade::values_of;
 use seddolki_text::{Column, Unit, COLUMNS};
 use seddolki_text::{Decimals, Fault};
@@ -32,12 +30,6 @@ pub fn named_values(arguments: &[String]) -> Result<Vec<(&'static Column, &str)>
 pub fn faults_told(name: &str, faults: &[Fault]) -> Ended {
     let lines = faults.iter().map(|fault| format!("{name}: {fault}"));
     Ended::Refused(lines.collect())
-}
-
-/// Appends a record; a refusal names the column at fault.
-pub fn appended(book: &mut Book, curves: &[Curve], record: &Record) -> Result<usize, String> {
-    book.append(record)
-        .map_err(|refusal| record_refused(record, curves, refusal))
 }
 
 /// The columns of a trade as cells, empty where it does not use them.

@@ -5,7 +5,8 @@ use crate::books::{accepted_parts, edit};
 use crate::ended::{Ended, DONE};
 use crate::keyed_twice::Told;
 use crate::print;
-use crate::trade_text::{appended, faults_told, named_values};
+use crate::refusal::record_refused;
+use crate::trade_text::{faults_told, named_values};
 use crate::words;
 use seddolki::{doubles_of, Placed};
 use seddolki_store::shown;
@@ -19,8 +20,10 @@ pub fn run(arguments: &Append) -> Result<u8, Ended> {
     let record = record.map_err(|faults| faults_told(&name, &faults))?;
     let (position, notes) = edit(&arguments.book, arguments.waiting, |name, book| {
         let parts = accepted_parts(name, book)?;
-        let position = appended(book, &parts.curves, &record)
-            .map_err(|reason| Ended::refused(format!("{name}: {reason}")))?;
+        let position = book.append(&record).map_err(|refusal| {
+            let reason = record_refused(&record, &parts.curves, refusal);
+            Ended::refused(format!("{name}: {reason}"))
+        })?;
         let named = |trade: &Placed| {
             if trade.position == position {
                 "the new trade".into()

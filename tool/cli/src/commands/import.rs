@@ -5,11 +5,12 @@ use crate::books::{accepted_parts, edit, one_stream, text};
 use crate::ended::{Ended, DONE};
 use crate::keyed_twice::{Told, MEANT};
 use crate::print;
-use crate::trade_text::{appended, faults_told};
+use crate::refusal::record_refused;
+use crate::trade_text::faults_told;
 use crate::words::count;
-use seddolki::{doubles_among, stands_already, Book, Placed, Record};
+use seddolki::{doubles_among, stands_already, Book, Ground, Placed, Record};
 use seddolki_format::block::Curve;
-use seddolki_store::shown;
+use seddolki_store::{shown, Input};
 use seddolki_text::trades_file;
 
 pub const FORM: &str = "\
@@ -25,11 +26,13 @@ struct Lines {
     name: String,
     numbers: Vec<u64>,
     records: Vec<Record>,
+    /// The lines that hold no trade, each with why.
+    faults: Vec<(u64, String)>,
 }
 
 pub fn run(arguments: &Import) -> Result<u8, Ended> {
     let lines = read(arguments)?;
-    let notes = edit(&arguments.book, arguments.waiting, |name, book| {
+    let (first, notes) = edit(&arguments.book, arguments.waiting, |name, book| {
         let parts = accepted_parts(name, book)?;
         if !arguments.again.again {
             lines.not_there_already(name, &parts.trades)?;
@@ -37,42 +40,63 @@ pub fn run(arguments: &Import) -> Result<u8, Ended> {
         append_all(book, &parts.curves, &lines)?;
         let doubles = doubles_among(&parts.trades, &lines.records);
         let named = |trade: &Placed| lines.named(trade, parts.trades.len());
-        Told::of(&doubles, arguments.again.again, named)
+        let notes = Told::of(&doubles, arguments.again.again, named)?;
+        Ok((parts.trades.len(), notes))
     })?;
-    let (name, added) = (shown(&arguments.book), count(lines.records.len(), "trade"));
-    print::notice(&format!("{name}: {added} added"));
+    let name = shown(&arguments.book);
+    print::notice(&format!("{name}: {}", added(first, lines.records.len())));
     notes.say();
     Ok(DONE)
 }
 
+/// How many trades, from a position on.
+fn added(first: usize, trades: usize) -> String {
+    match trades {
+        0 => "no trade is added".into(),
+        1 => format!("1 trade is added, at position {first}"),
+        _ => {
+            let last = first + trades - 1;
+            let trades = count(trades, "trade");
+            format!("{trades} are added, at positions {first} to {last}")
+        }
+    }
+}
+
 fn read(arguments: &Import) -> Result<Lines, Ended> {
     one_stream(&[&arguments.book, &arguments.trades])?;
-    let name = shown(&arguments.trades);
-    let read = trades_file::read(&text(&arguments.trades)?.bytes);
-    let trades = read.map_err(|faults| faults_told(&name, &faults))?;
-    let (numbers, records) = trades
-        .iter()
-        .map(|trade| (trade.line, trade.record))
-        .unzip();
+    let Input { name, bytes, .. } = text(&arguments.trades)?;
+    let file = trades_file::read(&bytes).map_err(|faults| faults_told(&name, &faults))?;
+    let trades = file.trades.iter().map(|trade| (trade.line, trade.record));
+    let (numbers, records) = trades.unzip();
+    let faults = file.faults.iter();
+    let faults = faults.map(|fault| (fault.line.unwrap_or_default(), fault.to_string()));
     Ok(Lines {
         name,
         numbers,
         records,
+        faults: faults.collect(),
     })
 }
 
-/// Appends all records, or tells every one that is refused.
+/// Appends all records, or tells every line that is wrong or refused.
 fn append_all(book: &mut Book, curves: &[Curve], lines: &Lines) -> Result<(), Ended> {
-    let mut refused = vec![];
+    let mut faults = lines.faults.clone();
     for (line, record) in lines.numbers.iter().zip(&lines.records) {
-        if let Err(reason) = appended(book, curves, record) {
-            refused.push(format!("{}: line {line}, {reason}", lines.name));
+        if let Err(refusal) = book.append(record) {
+            let reason = record_refused(record, curves, refusal);
+            faults.push((*line, format!("line {line}, {reason}")));
+            if refusal.ground == Ground::BookSpace {
+                break;
+            }
         }
     }
-    if refused.is_empty() {
+    if faults.is_empty() {
         return Ok(());
     }
-    Err(Ended::Refused(refused))
+    faults.sort_by_key(|(line, _)| *line);
+    let name = &lines.name;
+    let told = faults.iter().map(|(_, fault)| format!("{name}: {fault}"));
+    Err(Ended::Refused(told.collect()))
 }
 
 impl Lines {
@@ -86,7 +110,8 @@ impl Lines {
 
     /// Refuses a file that was imported before.
     fn not_there_already(&self, book: &str, trades: &[Record]) -> Result<(), Ended> {
-        let Some(standing) = stands_already(trades, &self.records) else {
+        let standing = stands_already(trades, &self.records);
+        let Some(standing) = standing.filter(|_| self.faults.is_empty()) else {
             return Ok(());
         };
         let name = &self.name;
