@@ -207,12 +207,6 @@ pub(crate) fn prices(kind: u8) -> &'static [&'static str] {
     }
 }
 
-/// The column where a 0 that a book takes has to be said: a repo at no rate
-/// is seldom meant.
-pub(crate) fn is_due_rate(name: &str, kind: u8) -> bool {
-    name == REPO_RATE && prices(kind).contains(&name)
-}
-
 /// The fault of names that no column has.
 pub(crate) fn no_columns(names: &[&str]) -> Fault {
     let visible = |name: &&str| match name.trim() {
@@ -233,7 +227,7 @@ pub(crate) fn no_columns(names: &[&str]) -> Fault {
 pub fn meanings() -> String {
     let line = |column: &Column| {
         let (name, meaning) = (column.name, column.meaning);
-        let allowed = column.allowed(0, Decimals::Point);
+        let allowed = column.allowed(&Record::default(), Decimals::Point);
         format!("  {name:<18} {meaning}: {allowed}\n")
     };
     COLUMNS.iter().map(line).collect()

@@ -10,7 +10,8 @@ use seddolki_text::{Separator, COLUMNS};
 const REPO: &str = "kind,side,phase,cash_curve,value_day_1,value_day_2,term,repo_cash,repo_rate\n\
                     pool repo,repo,1,2,1,8,7,500.00,13.2\n";
 
-const BOND: &str = "kind,side,cash_curve,nominal,clean_price\n";
+const BOND: &str = "kind,side,cash_curve,security,security_curve,nominal,value_day_1,\
+                    first_payment_day,accrued,clean_price\n";
 
 /// The line and the record of each trade.
 fn trades(file: impl AsRef<[u8]>) -> Vec<(u64, Record)> {
@@ -86,8 +87,8 @@ fn names_come_in_any_order_and_case() {
     assert_eq!(trades(file), [(2, repo())]);
     assert!(trades("kind\n").is_empty());
     assert_eq!(
-        refused("\"kind\"\noutright\n"),
-        ["line 2, column side: nothing is given: buyer or seller"]
+        refused("\"kind\"\noutright\n")[0],
+        "line 2, column side: nothing is given: buyer or seller"
     );
 }
 
@@ -143,25 +144,28 @@ fn column_names_are_looked_at_first() {
 
 #[test]
 fn every_wrong_line_is_told_at_once() {
-    let lines = b"outright,buyer,1,\"1,000.00\",99\n\
-        outright,repo,1,1,000.00,99\n\
-        outright,repo,1,\"1,000.00\",\"99,5\"\n\
+    let lines = b"outright,buyer,1,coupons,1,\"1,000.00\",0,9,0,99\n\
+        outright,repo,1,single payment,1,1,000.00,0,9,0,99\n\
+        outright,repo,1,single payment,1,\"1,000.00\",0,9,0,\"99,5\"\n\
         \n\
-        outright,buyer,\"1,100,99\n\
-        outright,buyer,-1,100,99\n\
-        outright,buyer,\"1\"1,100,99\n\
-        outright,b\xfcyer,1,100,99\n\
-        ,buyer,1,100,99\n\
-        outright,buyer,300,\"1\n0\",99\n\
-        outright,buyer,1,100,\n\
-        outright,seller,1,100\n\
-        outright,\"seller,1,100,99\n\
-        outright,seller,1,100,99\"\n";
+        outright,buyer,\"1,single payment,1,100,0,9,0,99\n\
+        outright,buyer,-1,single payment,1,100,0,9,0,99\n\
+        outright,buyer,\"1\"1,single payment,1,100,0,9,0,99\n\
+        outright,b\xfcyer,1,single payment,1,100,0,9,0,99\n\
+        ,buyer,1,single payment,1,100,0,9,0,99\n\
+        outright,buyer,300,single payment,1,\"1\n0\",0,9,0,99\n\
+        outright,buyer,1,single payment,1,100,0,9,0,\n\
+        outright,seller,1,single payment,1,100,0,9,0\n\
+        outright,\"seller,1,single payment,1,100,0,9,0,99\n\
+        outright,seller,1,single payment,1,100,0,9,0,99\"\n";
     let file = [BOND.as_bytes(), lines].concat();
     assert_eq!(
         refused(&file),
         [
-            "line 3: 5 values due by the column names, 6 found",
+            "line 2, column period: nothing is given: 1 to 366",
+            "line 2, column payments: nothing is given: 1 to 120",
+            "line 2, column coupon: nothing is given: 0.0000 to 100.0000",
+            "line 3: 10 values due by the column names, 11 found",
             "line 4, column side: repo is not for an outright: buyer or seller",
             "line 4, column clean_price: 99,5 is not a number with a decimal point: write 99.5000",
             "line 6: a quote is not closed",
@@ -171,8 +175,9 @@ fn every_wrong_line_is_told_at_once() {
             "line 10, column kind: nothing is given: outright, pool repo or specified repo",
             "line 11, column cash_curve: 300 is too large: 1 to 8",
             "line 11, column nominal: 1\\n0 is not a number: 0.01 to 10,000,000,000.00",
-            "line 14: 5 values due by the column names, 4 found",
-            "line 15: 5 values due by the column names, 2 found, and one holds a line end",
+            "line 13, column clean_price: nothing is given: 0.0001 to 400.0000",
+            "line 14: 10 values due by the column names, 9 found",
+            "line 15: 10 values due by the column names, 2 found, and one holds a line end",
         ]
     );
 }
