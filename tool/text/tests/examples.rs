@@ -12,8 +12,9 @@ fn example(name: &str) -> Vec<u8> {
 }
 
 fn records(name: &str) -> Vec<Record> {
-    let trades = trades_file::read(&example(name)).unwrap();
-    trades.iter().map(|trade| trade.record).collect()
+    let file = trades_file::read(&example(name)).unwrap();
+    assert_eq!(file.faults, []);
+    file.trades.iter().map(|trade| trade.record).collect()
 }
 
 #[test]
