@@ -1,6 +1,6 @@
 //! A file of curves while it is read.
 
-use crate::curve_file::CurveFile;
+use crate::curve_file::{CurveFile, CurveLines};
 use crate::decimal::{Decimals, COEFFICIENT, PERCENT};
 use crate::fault::{faultless, shown, Fault};
 use crate::quantity::Quantity;
@@ -94,7 +94,7 @@ impl Draft {
         CurveFile {
             account: self.account,
             curves: self.curves.iter().map(|draft| draft.curve).collect(),
-            lines: self.curves.iter().map(|draft| draft.line).collect(),
+            lines: self.curves.iter().map(CurveDraft::lines).collect(),
         }
     }
 }
@@ -105,6 +105,7 @@ struct CurveDraft {
     line: u64,
     steps_line: Option<u64>,
     ranges_line: Option<u64>,
+    node_lines: Vec<u64>,
 }
 
 impl CurveDraft {
@@ -117,6 +118,17 @@ impl CurveDraft {
             line,
             steps_line: None,
             ranges_line: None,
+            node_lines: vec![],
+        }
+    }
+
+    /// Where nothing is missing.
+    fn lines(&self) -> CurveLines {
+        CurveLines {
+            curve: self.line,
+            steps: self.steps_line.unwrap_or_default(),
+            ranges: self.ranges_line.unwrap_or_default(),
+            nodes: self.node_lines.clone(),
         }
     }
 
@@ -139,6 +151,7 @@ impl CurveDraft {
                 let most = || wrong(format!("a curve has at most {} nodes", NODES.end()));
                 let place = place.ok_or_else(most)?;
                 self.curve.node_count += 1;
+                self.node_lines.push(number);
                 *place = node(values)?;
             }
         }
@@ -179,7 +192,7 @@ fn currency(values: &[&str]) -> Result<u8, Wrong> {
         return Err(wrong(format!("1 currency due, {found} found: {allowed}")));
     };
     let mut currencies = (1..).zip(CURRENCIES);
-    let found = currencies.find(|(_, currency)| currency == name);
+    let found = currencies.find(|(_, currency)| currency.eq_ignore_ascii_case(name));
     let found = found.map(|(number, _)| number);
     found.ok_or_else(|| wrong(format!("{} is none of {allowed}", shown(name))))
 }
