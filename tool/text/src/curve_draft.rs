@@ -5,9 +5,7 @@ use crate::decimal::{Decimals, COEFFICIENT, PERCENT};
 use crate::fault::{faultless, shown, Fault};
 use crate::quantity::Quantity;
 use seddolki_format::block::{Curve, Node, CURVE};
-use seddolki_format::limits::{
-    CURVES, MAX_COMPONENT, MAX_DAY, MAX_RANGE, MAX_RATE, MAX_STEPS, NODES,
-};
+use seddolki_format::limits::{CURVES, MAX_COMPONENT, MAX_RANGE, MAX_RATE, MAX_STEPS, NODES};
 use seddolki_format::report::CURRENCIES;
 use seddolki_format::text::listed;
 
@@ -16,7 +14,7 @@ const WORDS: [&str; 5] = ["account", "curve", "steps", "ranges", "node"];
 const ACCOUNT: Quantity = Quantity::new(0, 0, u32::MAX as i64);
 const STEPS: Quantity = Quantity::new(0, 0, MAX_STEPS as i64);
 const RANGE: Quantity = Quantity::new(COEFFICIENT, 0, MAX_RANGE as i64);
-const DAY: Quantity = Quantity::new(0, 0, MAX_DAY as i64);
+const DAY: Quantity = Quantity::day(0);
 const RATE: Quantity = Quantity::new(PERCENT, 0, MAX_RATE as i64);
 const COMPONENT: Quantity = Quantity::new(PERCENT, -MAX_COMPONENT as i64, MAX_COMPONENT as i64);
 

@@ -189,7 +189,7 @@ fn all_wrong_lines_are_told_at_once() {
             "line 6: x is not a number: 0.00 to 100.00",
             "line 6: 1.001 has more than 2 decimals: 0.00 to 100.00",
             "line 7: 5 numbers due, 4 found: a day, a rate and 3 components",
-            "line 8: 65536 is too large: 0 to 10,950",
+            "line 8: 65536 is too large: 0 to 10,950 days from today",
             "line 8: -1 is too small: 0.0000 to 100.0000",
             "line 8: 9999999 is too large: -100.0000 to 100.0000",
             "line 8: 1,5 is not a number with a decimal point: write 1.5000",
