@@ -1,10 +1,10 @@
 //! A named column of a trade.
 
-use crate::columns::{is_due_rate, no_columns, prices, COLUMNS};
+use crate::columns::{no_columns, prices, COLUMNS};
 use crate::decimal::{plain, Decimals};
 use crate::fault::{shown, Fault};
 use crate::quantity::Quantity;
-use crate::words::{a_trade_of, Word};
+use crate::words::{a_trade_of, phases, Word};
 use seddolki_format::record::{OUTRIGHT, POOL};
 use seddolki_format::text::listed;
 use seddolki_format::Record;
@@ -12,8 +12,8 @@ use seddolki_format::Record;
 /// How a column's values are written.
 #[derive(Clone, Copy, Debug)]
 pub enum Unit {
-    /// One of the words that the kind of the trade has.
-    Words(fn(u8) -> &'static [Word]),
+    /// One of the words that the trade may have by its kind and phase.
+    Words(fn(&Record) -> &'static [Word]),
     /// A number.
     Number(Quantity),
 }
@@ -85,14 +85,11 @@ impl Column {
         (self.set)(record, number)
     }
 
-    /// What a trade of the kind may have here, in words.
-    pub fn allowed(&self, kind: u8, decimals: Decimals) -> String {
+    /// What the trade may have here by its kind and phase, in words.
+    pub fn allowed(&self, trade: &Record, decimals: Decimals) -> String {
         match self.unit {
-            Unit::Number(quantity) => quantity.allowed(decimals),
-            Unit::Words(words) => {
-                let words: Vec<&str> = words(kind).iter().map(|(word, _)| *word).collect();
-                listed(&words, "or")
-            }
+            Unit::Number(quantity) => self.limited(quantity, trade.kind).allowed(decimals),
+            Unit::Words(words) => named(words(trade)),
         }
     }
 
@@ -105,64 +102,99 @@ impl Column {
         match self.unit {
             Unit::Number(quantity) => plain(number, quantity.places, decimals),
             Unit::Words(words) => {
-                let mut words = words(record.kind).iter();
+                let mut words = words(&of_kind(record.kind)).iter();
                 let word = words.find(|(_, value)| u64::from(*value) == number);
                 word.map_or_else(|| number.to_string(), |(word, _)| (*word).to_owned())
             }
         }
     }
 
-    /// Puts a written value into a new record, whose kind is known by now;
-    /// nothing written is 0, where 0 stands for anything.
+    /// Puts a written value into a new record, whose kind is known by now.
     pub(crate) fn fill(
         &self,
         record: &mut Record,
         text: &str,
         decimals: Decimals,
     ) -> Result<(), String> {
-        if text.is_empty() {
-            return self.leave_empty(record.kind);
-        }
         if !self.fits(record.kind) {
             return Err(unfit(text, record.kind));
         }
         match self.unit {
-            Unit::Words(words) => self.fill_word(record, text, words(record.kind)),
-            Unit::Number(quantity) => quantity.read(text, decimals, |number| {
-                self.set(record, u64::try_from(number).ok()?)
-            }),
+            Unit::Words(words) => self.fill_word(record, text, words),
+            Unit::Number(quantity) => {
+                let quantity = self.limited(quantity, record.kind);
+                quantity.read(text, decimals, |number| {
+                    self.set(record, u64::try_from(number).ok()?)
+                })
+            }
         }
     }
 
-    /// Whether a trade of that kind has to be given a value here: a word,
-    /// where none stands for 0, or the rate of a repo.
-    pub(crate) fn is_due(&self, kind: u8) -> bool {
+    /// The phases alone have other limits from kind to kind.
+    fn limited(&self, quantity: Quantity, kind: u8) -> Quantity {
+        let phases = phases(kind);
+        if self.field != "phase" || *phases.start() == 0 {
+            return quantity;
+        }
+        Quantity {
+            low: (*phases.start()).into(),
+            high: (*phases.end()).into(),
+            ..quantity
+        }
+    }
+
+    /// Whether the trade has to be given a value here: it uses the column,
+    /// and is not left with none as its only word.
+    pub(crate) fn is_due(&self, trade: &Record) -> bool {
+        let choice = match self.unit {
+            Unit::Words(words) => words(trade).iter().any(|(_, value)| *value != 0),
+            Unit::Number(_) => true,
+        };
+        choice && self.is_used(trade)
+    }
+
+    /// Whether a 0 that was right may be kept by a trade of this kind and
+    /// phase.
+    pub(crate) fn keeps_zero(&self, trade: &Record) -> bool {
         match self.unit {
-            Unit::Words(words) => words(kind).iter().all(|(_, value)| *value != 0),
-            Unit::Number(_) => is_due_rate(self.name, kind),
+            Unit::Words(words) => words(trade).iter().any(|(_, value)| *value == 0),
+            Unit::Number(_) => self.fits(trade.kind),
         }
     }
 
-    fn leave_empty(&self, kind: u8) -> Result<(), String> {
-        if self.is_due(kind) {
-            let allowed = self.allowed(kind, Decimals::Point);
-            return Err(format!("nothing is given: {allowed}"));
-        }
-        Ok(())
-    }
-
-    fn fill_word(&self, record: &mut Record, text: &str, words: &[Word]) -> Result<(), String> {
+    fn fill_word(
+        &self,
+        record: &mut Record,
+        text: &str,
+        words: fn(&Record) -> &'static [Word],
+    ) -> Result<(), String> {
         let word = text.to_ascii_lowercase().replace('_', " ");
-        let found = words.iter().find(|(name, _)| *name == word);
-        let filled = found.and_then(|(_, value)| self.set(record, (*value).into()));
+        let number = |words: &[Word]| {
+            let found = words.iter().find(|(name, _)| *name == word);
+            found.map(|(_, value)| u64::from(*value))
+        };
+        let own = words(&of_kind(record.kind));
+        let filled = number(own).and_then(|number| self.set(record, number));
         filled.ok_or_else(|| {
-            let allowed = self.allowed(record.kind, Decimals::Point);
-            match a_trade_of(record.kind) {
-                Some(trade) => format!("{} is not for {trade}: {allowed}", shown(text)),
-                None => format!("{} is none of {allowed}", shown(text)),
+            let elsewhere = number(words(&Record::default()));
+            match a_trade_of(record.kind).filter(|_| elsewhere.is_some()) {
+                Some(trade) => format!("{} is not for {trade}: {}", shown(text), named(own)),
+                None => format!("{} is none of {}", shown(text), named(own)),
             }
         })
     }
+}
+
+/// A trade of which the kind alone is known.
+fn of_kind(kind: u8) -> Record {
+    Record {
+        kind,
+        ..Record::default()
+    }
+}
+
+fn named(words: &[Word]) -> String {
+    listed(words.iter().map(|(word, _)| word), "or")
 }
 
 fn unfit(text: &str, kind: u8) -> String {

@@ -6,8 +6,8 @@ use crate::fault::{shown, Fault};
 use crate::quantity::Quantity;
 use crate::words::{kinds, securities, sides};
 use seddolki_format::limits::{
-    AMOUNTS, CLEAN_PRICES, CURVES, INDICES, MAX_ACCRUED, MAX_COUPON, MAX_DAY, MAX_RATE, PAYMENTS,
-    PERIODS, TERMS,
+    AMOUNTS, CLEAN_PRICES, CURVES, INDICES, MAX_ACCRUED, MAX_COUPON, MAX_RATE, PAYMENTS, PERIODS,
+    TERMS,
 };
 use seddolki_format::record::{OUTRIGHT, POOL, SPECIFIED};
 use seddolki_format::text::listed;
@@ -39,7 +39,8 @@ const fn decimal(places: u32, low: u64, high: u64) -> Unit {
 }
 
 const CURVE: Unit = whole(*CURVES.start() as u64, *CURVES.end() as u64);
-const DAY: Unit = whole(0, MAX_DAY);
+const VALUE_DAY: Unit = Unit::Number(Quantity::day(0));
+const PAYMENT_DAY: Unit = Unit::Number(Quantity::day(1));
 const INDEX: Unit = whole(*INDICES.start() as u64, *INDICES.end() as u64);
 const AMOUNT: Unit = decimal(MONEY, *AMOUNTS.start(), *AMOUNTS.end());
 const PRICE: Unit = decimal(
@@ -107,14 +108,14 @@ pub static COLUMNS: [Column; 20] = [
     column!(
         "value_day_1",
         value_day_1,
-        DAY,
+        VALUE_DAY,
         has_first_value_day,
         "of settlement or the first leg"
     ),
     column!(
         "value_day_2",
         value_day_2,
-        DAY,
+        VALUE_DAY,
         Record::is_repo,
         "of a repo's second leg"
     ),
@@ -128,7 +129,7 @@ pub static COLUMNS: [Column; 20] = [
     column!(
         "first_payment_day",
         first_payment_day,
-        DAY,
+        PAYMENT_DAY,
         Record::has_security,
         "of the security"
     ),
@@ -207,12 +208,6 @@ pub(crate) fn prices(kind: u8) -> &'static [&'static str] {
     }
 }
 
-/// The column where a 0 that a book takes has to be said: a repo at no rate
-/// is seldom meant.
-pub(crate) fn is_due_rate(name: &str, kind: u8) -> bool {
-    name == REPO_RATE && prices(kind).contains(&name)
-}
-
 /// The fault of names that no column has.
 pub(crate) fn no_columns(names: &[&str]) -> Fault {
     let visible = |name: &&str| match name.trim() {
@@ -233,7 +228,7 @@ pub(crate) fn no_columns(names: &[&str]) -> Fault {
 pub fn meanings() -> String {
     let line = |column: &Column| {
         let (name, meaning) = (column.name, column.meaning);
-        let allowed = column.allowed(0, Decimals::Point);
+        let allowed = column.allowed(&Record::default(), Decimals::Point);
         format!("  {name:<18} {meaning}: {allowed}\n")
     };
     COLUMNS.iter().map(line).collect()

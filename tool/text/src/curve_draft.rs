@@ -1,13 +1,11 @@
 //! A file of curves while it is read.
 
-use crate::curve_file::CurveFile;
+use crate::curve_file::{CurveFile, CurveLines};
 use crate::decimal::{Decimals, COEFFICIENT, PERCENT};
 use crate::fault::{faultless, shown, Fault};
 use crate::quantity::Quantity;
 use seddolki_format::block::{Curve, Node, CURVE};
-use seddolki_format::limits::{
-    CURVES, MAX_COMPONENT, MAX_DAY, MAX_RANGE, MAX_RATE, MAX_STEPS, NODES,
-};
+use seddolki_format::limits::{CURVES, MAX_COMPONENT, MAX_RANGE, MAX_RATE, MAX_STEPS, NODES};
 use seddolki_format::report::CURRENCIES;
 use seddolki_format::text::listed;
 
@@ -16,7 +14,7 @@ const WORDS: [&str; 5] = ["account", "curve", "steps", "ranges", "node"];
 const ACCOUNT: Quantity = Quantity::new(0, 0, u32::MAX as i64);
 const STEPS: Quantity = Quantity::new(0, 0, MAX_STEPS as i64);
 const RANGE: Quantity = Quantity::new(COEFFICIENT, 0, MAX_RANGE as i64);
-const DAY: Quantity = Quantity::new(0, 0, MAX_DAY as i64);
+const DAY: Quantity = Quantity::day(0);
 const RATE: Quantity = Quantity::new(PERCENT, 0, MAX_RATE as i64);
 const COMPONENT: Quantity = Quantity::new(PERCENT, -MAX_COMPONENT as i64, MAX_COMPONENT as i64);
 
@@ -94,7 +92,7 @@ impl Draft {
         CurveFile {
             account: self.account,
             curves: self.curves.iter().map(|draft| draft.curve).collect(),
-            lines: self.curves.iter().map(|draft| draft.line).collect(),
+            lines: self.curves.iter().map(CurveDraft::lines).collect(),
         }
     }
 }
@@ -105,6 +103,7 @@ struct CurveDraft {
     line: u64,
     steps_line: Option<u64>,
     ranges_line: Option<u64>,
+    node_lines: Vec<u64>,
 }
 
 impl CurveDraft {
@@ -117,6 +116,17 @@ impl CurveDraft {
             line,
             steps_line: None,
             ranges_line: None,
+            node_lines: vec![],
+        }
+    }
+
+    /// Where nothing is missing.
+    fn lines(&self) -> CurveLines {
+        CurveLines {
+            curve: self.line,
+            steps: self.steps_line.unwrap_or_default(),
+            ranges: self.ranges_line.unwrap_or_default(),
+            nodes: self.node_lines.clone(),
         }
     }
 
@@ -139,6 +149,7 @@ impl CurveDraft {
                 let most = || wrong(format!("a curve has at most {} nodes", NODES.end()));
                 let place = place.ok_or_else(most)?;
                 self.curve.node_count += 1;
+                self.node_lines.push(number);
                 *place = node(values)?;
             }
         }
@@ -179,7 +190,7 @@ fn currency(values: &[&str]) -> Result<u8, Wrong> {
         return Err(wrong(format!("1 currency due, {found} found: {allowed}")));
     };
     let mut currencies = (1..).zip(CURRENCIES);
-    let found = currencies.find(|(_, currency)| currency == name);
+    let found = currencies.find(|(_, currency)| currency.eq_ignore_ascii_case(name));
     let found = found.map(|(number, _)| number);
     found.ok_or_else(|| wrong(format!("{} is none of {allowed}", shown(name))))
 }

@@ -28,8 +28,21 @@ pub struct CurveFile {
     pub account: u32,
     /// The curves in order, as blocks whose checks are still to be written.
     pub curves: Vec<Curve>,
-    /// The line that each curve starts on, counted from 1.
-    pub lines: Vec<u64>,
+    /// The lines that each curve was given on.
+    pub lines: Vec<CurveLines>,
+}
+
+/// The lines of a curve's parts, counted from 1.
+#[derive(Clone, Debug, Default, PartialEq, Eq)]
+pub struct CurveLines {
+    /// Of its currency; it starts there.
+    pub curve: u64,
+    /// Of its steps.
+    pub steps: u64,
+    /// Of its ranges.
+    pub ranges: u64,
+    /// Of its nodes, in order.
+    pub nodes: Vec<u64>,
 }
 
 /// Reads a whole file of curves.

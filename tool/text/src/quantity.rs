@@ -3,6 +3,7 @@
 
 use crate::decimal::{self, Decimals};
 use crate::fault::shown;
+use seddolki_format::limits::MAX_DAY;
 
 /// What numbers of one kind look like. The limits are told where a text is
 /// refused; the engine judges by them.
@@ -14,19 +15,35 @@ pub struct Quantity {
     pub low: i64,
     /// The most that a book takes, in units of the last place.
     pub high: i64,
+    /// What is counted, where the column's name does not tell; it follows the
+    /// limits.
+    pub unit: &'static str,
 }
 
 impl Quantity {
     /// With these places and limits.
     pub const fn new(places: u32, low: i64, high: i64) -> Self {
-        Quantity { places, low, high }
+        Quantity {
+            places,
+            low,
+            high,
+            unit: "",
+        }
     }
 
-    /// The limits in words, as `1 to 730`.
+    /// Days up to the last that a book takes.
+    pub const fn day(low: i64) -> Self {
+        Quantity {
+            unit: " days from today",
+            ..Quantity::new(0, low, MAX_DAY as i64)
+        }
+    }
+
+    /// The limits in words, as `1 to 730`, or `0 to 10,950 days from today`.
     pub fn allowed(&self, decimals: Decimals) -> String {
         let [low, high] =
             [self.low, self.high].map(|limit| decimal::grouped(limit, self.places, decimals));
-        format!("{low} to {high}")
+        format!("{low} to {high}{}", self.unit)
     }
 
     /// Reads a number and hands it to its field, which has none where the

@@ -4,28 +4,81 @@ use crate::column::Column;
 use crate::columns::COLUMNS;
 use crate::decimal::Decimals;
 use crate::fault::{faultless, shown, Fault};
+use crate::words::{a_trade_of, phases};
 use seddolki_format::text::listed;
 use seddolki_format::Record;
 
 /// A column and what is written there.
 pub type Value<'a> = (&'static Column, &'a str);
 
-/// The record that named values make. A column without a value is 0; the
-/// kind and the side are due.
+/// The record that named values make. Every column that the trade uses has to
+/// be given: a 0 that is meant is written.
 ///
 /// # Errors
 /// All faults of the values, in the order of the columns.
 pub fn record_of(values: &[Value], decimals: Decimals) -> Result<Record, Vec<Fault>> {
     let mut record = Record::default();
-    let mut faults = vec![];
     // the kind comes first, and the other columns are judged by it
-    for column in &COLUMNS {
-        let text = only_text(column, values);
-        let filled = text.and_then(|text| column.fill(&mut record, text, decimals));
-        let fault = filled.map_err(|message| Fault::new(message).in_column(column.name));
-        faults.extend(fault.err());
+    let read = |column| read_column(column, &mut record, values, decimals);
+    let given: Vec<Given> = COLUMNS.iter().map(read).collect();
+    let meant = trades_meant(&record, &given);
+    let mut faults = vec![];
+    for (column, given) in COLUMNS.iter().zip(given) {
+        let wrong = match given {
+            Some(filled) => filled.err(),
+            None => missing(column, &meant, decimals),
+        };
+        faults.extend(wrong.map(|message| Fault::new(message).in_column(column.name)));
     }
     faultless(record, faults)
+}
+
+/// How reading a column went; none where nothing is given.
+type Given = Option<Result<(), String>>;
+
+fn read_column(
+    column: &Column,
+    record: &mut Record,
+    values: &[Value],
+    decimals: Decimals,
+) -> Given {
+    match only_text(column, values) {
+        Ok("") => None,
+        Ok(text) => Some(column.fill(record, text, decimals)),
+        Err(message) => Some(Err(message)),
+    }
+}
+
+/// The record with each phase and security that may be meant, where they are
+/// not rightly given; none while the kind is not known.
+fn trades_meant(record: &Record, given: &[Given]) -> Vec<Record> {
+    if a_trade_of(record.kind).is_none() {
+        return vec![];
+    }
+    let mut columns = COLUMNS.iter().zip(given);
+    let known = columns.any(|(column, given)| column.field == "security" && *given == Some(Ok(())));
+    let securities = |trade: Record| {
+        let own = trade.security..=trade.security;
+        let securities = if known { own } else { trade.securities() };
+        securities.map(move |security| Record { security, ..trade })
+    };
+    let mut phases = phases(record.kind);
+    if phases.contains(&record.phase) {
+        phases = record.phase..=record.phase;
+    }
+    let phases = phases.map(|phase| Record { phase, ..*record });
+    phases.flat_map(securities).collect()
+}
+
+/// What is told of a column that was left empty: where whatever trade is meant
+/// has to be given it, or no kind is known by which to tell.
+fn missing(column: &Column, meant: &[Record], decimals: Decimals) -> Option<String> {
+    let due = match meant {
+        [] => *column == COLUMNS[0],
+        _ => meant.iter().all(|trade| column.is_due(trade)),
+    };
+    let trade = meant.first().copied().unwrap_or_default();
+    due.then(|| format!("nothing is given: {}", column.allowed(&trade, decimals)))
 }
 
 /// What is written for a column; nothing if it is not given.
@@ -60,18 +113,31 @@ pub fn values_of(record: &Record, decimals: Decimals) -> Vec<(&'static Column, S
 }
 
 /// The record with the given columns changed. What it keeps has to fit its
-/// kind as what is given does; a column given as nothing is cleared.
+/// kind as what is given does, but for zeros, which then go; what it did not
+/// use before and uses now has to be given.
 ///
 /// # Errors
 /// All faults of the changed trade, in the order of the columns.
 pub fn amend(record: &Record, values: &[Value], decimals: Decimals) -> Result<Record, Vec<Fault>> {
     let given = |column: &Column| values.iter().any(|(other, _)| *other == column);
     let mut kept = values_of(record, decimals);
-    kept.retain(|(column, _)| {
-        let held = column.get(record) != 0 || column.is_due(record.kind);
-        held && !given(column)
-    });
+    kept.retain(|(column, text)| !text.is_empty() && !given(column));
+    let changed = changed_form(record, values, decimals);
+    kept.retain(|(column, _)| column.get(record) != 0 || column.keeps_zero(&changed));
     let kept = kept.iter().map(|(column, text)| (*column, text.as_str()));
     let all: Vec<Value> = kept.chain(values.iter().copied()).collect();
     record_of(&all, decimals)
+}
+
+/// The record with its kind and phase changed, as far as that is rightly
+/// given.
+fn changed_form(record: &Record, values: &[Value], decimals: Decimals) -> Record {
+    let mut changed = *record;
+    for (column, text) in values {
+        if ["kind", "phase"].contains(&column.field) {
+            // a wrong value is told where the whole trade is read
+            let _ = column.fill(&mut changed, text.trim(), decimals);
+        }
+    }
+    changed
 }

@@ -20,25 +20,34 @@ pub struct Trade {
     pub record: Record,
 }
 
+/// What a file of trades holds, in the order of its lines.
+#[derive(Clone, Debug, Default, PartialEq, Eq)]
+pub struct TradesFile {
+    /// The trades that are rightly written.
+    pub trades: Vec<Trade>,
+    /// What is wrong with the other lines, each fault with its line.
+    pub faults: Vec<Fault>,
+}
+
 /// Reads the trades of a whole file. The first line names the columns, and
 /// what separates the names says how numbers are written.
 ///
 /// # Errors
-/// The faults of all lines.
-pub fn read(bytes: &[u8]) -> Result<Vec<Trade>, Vec<Fault>> {
+/// The faults of the line that names the columns; no other line is read then.
+pub fn read(bytes: &[u8]) -> Result<TradesFile, Vec<Fault>> {
     let bytes = content(bytes);
     let separator = Separator::of_file(&bytes).map_err(|fault| vec![fault])?;
     let mut lines = Lines::new(&bytes, separator);
     let columns = columns(lines.next())?;
-    let (mut trades, mut faults) = (vec![], vec![]);
+    let mut file = TradesFile::default();
     for line in lines {
         let line = line.map_err(|fault| vec![fault]);
         match line.and_then(|line| trade(&columns, &line, separator.decimals())) {
-            Ok(trade) => trades.push(trade),
-            Err(found) => faults.extend(found),
+            Ok(trade) => file.trades.push(trade),
+            Err(faults) => file.faults.extend(faults),
         }
     }
-    faultless(trades, faults)
+    Ok(file)
 }
 
 /// The columns that the first line names.

@@ -4,6 +4,8 @@ use seddolki_format::record::{
     COUPONS, FIRST_SIDE, INDEXED_COUPONS, NO_SECURITY, OUTRIGHT, POOL, SECOND_SIDE, SINGLE_PAYMENT,
     SPECIFIED,
 };
+use seddolki_format::Record;
+use std::ops::RangeInclusive;
 
 /// A word, and the number that the record holds for it.
 pub type Word = (&'static str, u8);
@@ -22,6 +24,7 @@ const SIDES: [Word; 4] = [
     ("reverse repo", SECOND_SIDE),
 ];
 
+/// Each at the place of its number.
 const SECURITIES: [Word; 4] = [
     ("none", NO_SECURITY),
     ("single payment", SINGLE_PAYMENT),
@@ -29,21 +32,38 @@ const SECURITIES: [Word; 4] = [
     ("indexed coupons", INDEXED_COUPONS),
 ];
 
-pub(crate) fn kinds(_: u8) -> &'static [Word] {
+pub(crate) fn kinds(_: &Record) -> &'static [Word] {
     &KINDS
 }
 
-/// The sides of a kind; all of them while the kind is not known.
-pub(crate) fn sides(kind: u8) -> &'static [Word] {
-    match kind {
+/// The sides of the trade's kind; all of them while that is not known.
+pub(crate) fn sides(trade: &Record) -> &'static [Word] {
+    match trade.kind {
         OUTRIGHT => &SIDES[..2],
         POOL | SPECIFIED => &SIDES[2..],
         _ => &SIDES,
     }
 }
 
-pub(crate) fn securities(_: u8) -> &'static [Word] {
-    &SECURITIES
+/// The securities of the trade's kind and phase; all that may be while one of
+/// these is not known.
+pub(crate) fn securities(trade: &Record) -> &'static [Word] {
+    match trade.kind {
+        OUTRIGHT | SPECIFIED => {}
+        POOL if phases(POOL).contains(&trade.phase) => {}
+        _ => return &SECURITIES,
+    }
+    let allowed = trade.securities();
+    &SECURITIES[(*allowed.start()).into()..=(*allowed.end()).into()]
+}
+
+/// The phases of a kind.
+pub(crate) fn phases(kind: u8) -> RangeInclusive<u8> {
+    match kind {
+        POOL => 1..=3,
+        SPECIFIED => 1..=2,
+        _ => 0..=0,
+    }
 }
 
 /// A kind as a sentence has it; none while it is not known.

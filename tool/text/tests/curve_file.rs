@@ -5,7 +5,7 @@ use seddolki_books::curve::draw_curves;
 use seddolki_books::Draw;
 use seddolki_format::assemble;
 use seddolki_format::block::{Curve, Node, CURVE};
-use seddolki_text::curve_file::{read, write, CurveFile};
+use seddolki_text::curve_file::{read, write, CurveFile, CurveLines};
 use seddolki_text::Fault;
 
 const FILE: &str = "\
@@ -48,12 +48,22 @@ fn curve() -> Curve {
     curve
 }
 
+/// Those of the one curve, so many lines further down.
+fn curve_lines(down: u64) -> CurveLines {
+    CurveLines {
+        curve: down + 3,
+        steps: down + 4,
+        ranges: down + 5,
+        nodes: vec![down + 7, down + 8],
+    }
+}
+
 #[test]
 fn lines_make_curves() {
     let due = CurveFile {
         account: 7,
         curves: vec![curve()],
-        lines: vec![3],
+        lines: vec![curve_lines(0)],
     };
     assert_eq!(read(FILE.as_bytes()), Ok(due.clone()));
     for file in [
@@ -61,6 +71,8 @@ fn lines_make_curves() {
         FILE.replace('\n', "\r\n"),
         FILE.replace('\n', "\r"),
         FILE.trim_end().replace(' ', "\t"),
+        FILE.replace("TRY", "try"),
+        FILE.replace("TRY", "Try"),
     ] {
         assert_eq!(read(file.as_bytes()), Ok(due.clone()), "{file:?}");
     }
@@ -80,7 +92,26 @@ fn curves_are_numbered_as_they_stand() {
         ..curve()
     };
     assert_eq!(file.curves, [first, second]);
-    assert_eq!(file.lines, [3, 10]);
+    assert_eq!(file.lines, [curve_lines(0), curve_lines(7)]);
+}
+
+#[test]
+fn a_part_has_its_own_line() {
+    let file = "node 1 1 0 0 0\ncurve usd\n\nnode 9 1 0 0 0\nranges 0 0 0\n\
+                # a remark\nnode 8 1 0 0 0\nsteps 0 0 0\n";
+    let file = format!("account 1\n{FILE}{file}").replace("account 7", "");
+    assert_eq!(refused(&file.replace("curve usd", "curve gbp")).len(), 1);
+    let last = CurveLines {
+        curve: 11,
+        steps: 17,
+        ranges: 14,
+        nodes: vec![13, 16],
+    };
+    let first = CurveLines {
+        nodes: vec![8, 9, 10],
+        ..curve_lines(1)
+    };
+    assert_eq!(read(file.as_bytes()).unwrap().lines, [first, last]);
 }
 
 #[test]
@@ -158,7 +189,7 @@ fn all_wrong_lines_are_told_at_once() {
             "line 6: x is not a number: 0.00 to 100.00",
             "line 6: 1.001 has more than 2 decimals: 0.00 to 100.00",
             "line 7: 5 numbers due, 4 found: a day, a rate and 3 components",
-            "line 8: 65536 is too large: 0 to 10,950",
+            "line 8: 65536 is too large: 0 to 10,950 days from today",
             "line 8: -1 is too small: 0.0000 to 100.0000",
             "line 8: 9999999 is too large: -100.0000 to 100.0000",
             "line 8: 1,5 is not a number with a decimal point: write 1.5000",
@@ -194,7 +225,10 @@ fn what_is_written_is_read_as_the_same_curves() {
         let file = write(account, &curves);
         let again = read(file.as_bytes()).unwrap();
         assert_eq!((again.account, &again.curves), (account, &curves), "{file}");
-        assert_eq!(again.lines[0], 3);
+        let places = |lines: &CurveLines| lines.nodes.len();
+        let nodes = again.curves.iter().map(|curve| curve.nodes().len());
+        assert!(again.lines.iter().map(places).eq(nodes));
+        assert_eq!(again.lines[0].curve, 3);
         let book = assemble(again.account, &again.curves, &[]);
         assert_eq!(Book::from_bytes(book).check(), Ok(()));
     }

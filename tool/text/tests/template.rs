@@ -3,12 +3,19 @@
 use seddolki::Book;
 use seddolki_format::record::{OUTRIGHT, POOL, SPECIFIED};
 use seddolki_format::{assemble, Record};
+use seddolki_text::trades_file::Trade;
 use seddolki_text::{curve_file, template, trades_file};
+
+fn trades() -> Vec<Trade> {
+    let file = trades_file::read(template::TRADES.as_bytes()).unwrap();
+    assert_eq!(file.faults, []);
+    file.trades
+}
 
 #[test]
 fn the_engine_takes_the_trades_on_the_curves() {
     let file = curve_file::read(template::CURVES.as_bytes()).unwrap();
-    let trades = trades_file::read(template::TRADES.as_bytes()).unwrap();
+    let trades = trades();
     let mut book = Book::from_bytes(assemble(file.account, &file.curves, &[]));
     for (position, trade) in trades.iter().enumerate() {
         assert_eq!(
@@ -27,8 +34,7 @@ fn the_engine_takes_the_trades_on_the_curves() {
 
 #[test]
 fn trades_of_each_kind_are_shown() {
-    let trades = trades_file::read(template::TRADES.as_bytes()).unwrap();
-    let records: Vec<Record> = trades.iter().map(|trade| trade.record).collect();
+    let records: Vec<Record> = trades().iter().map(|trade| trade.record).collect();
     let forms = records.iter().map(|record| (record.kind, record.phase));
     let forms: Vec<(u8, u8)> = forms.collect();
     assert_eq!(

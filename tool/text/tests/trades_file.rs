@@ -4,22 +4,38 @@ use seddolki_books::curve::draw_curves;
 use seddolki_books::{draw_record, Draw};
 use seddolki_format::record::{OUTRIGHT, POOL};
 use seddolki_format::Record;
-use seddolki_text::trades_file::{read, write};
-use seddolki_text::{Separator, COLUMNS};
+use seddolki_text::trades_file::{read, write, TradesFile};
+use seddolki_text::{Fault, Separator, COLUMNS};
 
 const REPO: &str = "kind,side,phase,cash_curve,value_day_1,value_day_2,term,repo_cash,repo_rate\n\
                     pool repo,repo,1,2,1,8,7,500.00,13.2\n";
 
-const BOND: &str = "kind,side,cash_curve,nominal,clean_price\n";
+const BOND: &str = "kind,side,cash_curve,security,security_curve,nominal,value_day_1,\
+                    first_payment_day,accrued,clean_price\n";
 
-/// The line and the record of each trade.
+/// The line and the record of each trade of a file without faults.
 fn trades(file: impl AsRef<[u8]>) -> Vec<(u64, Record)> {
-    let trades = read(file.as_ref()).unwrap().into_iter();
+    let file = read(file.as_ref()).unwrap();
+    assert_eq!(file.faults, []);
+    lines_of(&file)
+}
+
+fn lines_of(file: &TradesFile) -> Vec<(u64, Record)> {
+    let trades = file.trades.iter();
     trades.map(|trade| (trade.line, trade.record)).collect()
 }
 
+/// The faults of the lines, where the column names are right.
+fn wrong(file: impl AsRef<[u8]>) -> Vec<String> {
+    told(&read(file.as_ref()).unwrap().faults)
+}
+
+/// The faults of the column names.
 fn refused(file: impl AsRef<[u8]>) -> Vec<String> {
-    let faults = read(file.as_ref()).unwrap_err();
+    told(&read(file.as_ref()).unwrap_err())
+}
+
+fn told(faults: &[Fault]) -> Vec<String> {
     faults.iter().map(ToString::to_string).collect()
 }
 
@@ -44,7 +60,7 @@ fn separators_tell_how_numbers_are_written() {
     let semicolons = REPO.replace(',', ";");
     assert_eq!(trades(semicolons.replace('.', ",")), [(2, repo())]);
     assert_eq!(
-        refused(&semicolons),
+        wrong(&semicolons),
         [
             "line 2, column repo_cash: 500.00 is not a number with a decimal comma: write 500,00",
             "line 2, column repo_rate: 13.2 is not a number with a decimal comma: write 13,2000",
@@ -54,7 +70,7 @@ fn separators_tell_how_numbers_are_written() {
     assert_eq!(trades(&tabs), [(2, repo())]);
     assert_eq!(trades(tabs.replace('.', ",")), [(2, repo())]);
     for sign in [".", ","] {
-        let faults = refused(tabs.replace("13.2", &format!("13{sign}200")));
+        let faults = wrong(tabs.replace("13.2", &format!("13{sign}200")));
         assert!(
             faults[0].starts_with("line 2, column repo_rate: 13"),
             "{faults:?}"
@@ -86,8 +102,8 @@ fn names_come_in_any_order_and_case() {
     assert_eq!(trades(file), [(2, repo())]);
     assert!(trades("kind\n").is_empty());
     assert_eq!(
-        refused("\"kind\"\noutright\n"),
-        ["line 2, column side: nothing is given: buyer or seller"]
+        wrong("\"kind\"\noutright\n")[0],
+        "line 2, column side: nothing is given: buyer or seller"
     );
 }
 
@@ -143,25 +159,28 @@ fn column_names_are_looked_at_first() {
 
 #[test]
 fn every_wrong_line_is_told_at_once() {
-    let lines = b"outright,buyer,1,\"1,000.00\",99\n\
-        outright,repo,1,1,000.00,99\n\
-        outright,repo,1,\"1,000.00\",\"99,5\"\n\
+    let lines = b"outright,buyer,1,coupons,1,\"1,000.00\",0,9,0,99\n\
+        outright,repo,1,single payment,1,1,000.00,0,9,0,99\n\
+        outright,repo,1,single payment,1,\"1,000.00\",0,9,0,\"99,5\"\n\
         \n\
-        outright,buyer,\"1,100,99\n\
-        outright,buyer,-1,100,99\n\
-        outright,buyer,\"1\"1,100,99\n\
-        outright,b\xfcyer,1,100,99\n\
-        ,buyer,1,100,99\n\
-        outright,buyer,300,\"1\n0\",99\n\
-        outright,buyer,1,100,\n\
-        outright,seller,1,100\n\
-        outright,\"seller,1,100,99\n\
-        outright,seller,1,100,99\"\n";
+        outright,buyer,\"1,single payment,1,100,0,9,0,99\n\
+        outright,buyer,-1,single payment,1,100,0,9,0,99\n\
+        outright,buyer,\"1\"1,single payment,1,100,0,9,0,99\n\
+        outright,b\xfcyer,1,single payment,1,100,0,9,0,99\n\
+        ,buyer,1,single payment,1,100,0,9,0,99\n\
+        outright,buyer,300,single payment,1,\"1\n0\",0,9,0,99\n\
+        outright,buyer,1,single payment,1,100,0,9,0,\n\
+        outright,seller,1,single payment,1,100,0,9,0\n\
+        outright,\"seller,1,single payment,1,100,0,9,0,99\n\
+        outright,seller,1,single payment,1,100,0,9,0,99\"\n";
     let file = [BOND.as_bytes(), lines].concat();
     assert_eq!(
-        refused(&file),
+        wrong(&file),
         [
-            "line 3: 5 values due by the column names, 6 found",
+            "line 2, column period: nothing is given: 1 to 366",
+            "line 2, column payments: nothing is given: 1 to 120",
+            "line 2, column coupon: nothing is given: 0.0000 to 100.0000",
+            "line 3: 10 values due by the column names, 11 found",
             "line 4, column side: repo is not for an outright: buyer or seller",
             "line 4, column clean_price: 99,5 is not a number with a decimal point: write 99.5000",
             "line 6: a quote is not closed",
@@ -171,8 +190,9 @@ fn every_wrong_line_is_told_at_once() {
             "line 10, column kind: nothing is given: outright, pool repo or specified repo",
             "line 11, column cash_curve: 300 is too large: 1 to 8",
             "line 11, column nominal: 1\\n0 is not a number: 0.01 to 10,000,000,000.00",
-            "line 14: 5 values due by the column names, 4 found",
-            "line 15: 5 values due by the column names, 2 found, and one holds a line end",
+            "line 13, column clean_price: nothing is given: 0.0001 to 400.0000",
+            "line 14: 10 values due by the column names, 9 found",
+            "line 15: 10 values due by the column names, 2 found, and one holds a line end",
         ]
     );
 }
@@ -237,18 +257,37 @@ fn spoiled_files_are_told_by_line() {
             bytes[place] = draw.pick(b"0123456789\"\n\r,;\t.\xff x");
         }
         let lines = bytes.split(|byte| b"\r\n".contains(byte)).count() as u64;
-        match read(&bytes) {
-            Ok(trades) => {
-                taken += 1;
-                let records: Vec<Record> = trades.iter().map(|trade| trade.record).collect();
-                let again = read(write(&records, separator).as_bytes()).unwrap();
-                assert!(again.iter().map(|trade| trade.record).eq(records));
-            }
-            Err(faults) => {
-                let mut told = faults.iter().map(|fault| fault.line.unwrap());
-                assert!(told.all(|line| (1..=lines).contains(&line)), "{faults:?}");
-            }
+        let file = read(&bytes);
+        let faults = match &file {
+            Ok(file) => &file.faults,
+            Err(faults) => faults,
+        };
+        let mut told = faults.iter().map(|fault| fault.line.unwrap());
+        assert!(told.all(|line| (1..=lines).contains(&line)), "{faults:?}");
+        if let Ok(file) = file {
+            taken += file.trades.len();
+            let records: Vec<Record> = file.trades.iter().map(|trade| trade.record).collect();
+            let again = trades(write(&records, separator)).into_iter();
+            assert!(again.map(|(_, record)| record).eq(records));
         }
     }
-    assert!((200..1_800).contains(&taken), "{taken}");
+    assert!((400..3_600).contains(&taken), "{taken}");
+}
+
+#[test]
+fn right_lines_are_given_beside_the_wrong_ones() {
+    let right = REPO.lines().nth(1).unwrap();
+    let wrong = right.replace("13.2", "x");
+    let file = format!("{REPO}{wrong}\n{right}\n{wrong}\npool repo\n{right}\n");
+    let file = read(file.as_bytes()).unwrap();
+    assert_eq!(lines_of(&file), [(2, repo()), (4, repo()), (7, repo())]);
+    let rate = "column repo_rate: x is not a number: 0.0000 to 100.0000";
+    assert_eq!(
+        told(&file.faults),
+        [
+            format!("line 3, {rate}"),
+            format!("line 5, {rate}"),
+            "line 6: 9 values due by the column names, 1 found".into(),
+        ]
+    );
 }
