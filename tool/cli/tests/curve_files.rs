@@ -82,15 +82,18 @@ fn limits_are_the_engine_s_and_told_with_their_line() {
     for (text, words) in [
         (
             whole.replace("steps 1", "steps 4"),
-            ["line 2, curve 1: refused by ground 5", "0 to 3"],
+            [
+                "line 3, field steps: 4 is there, 0 to 3 is due",
+                "refused by ground 5",
+            ],
         ),
         (
             whole.replace("node 9", "node 1"),
-            ["line 2, curve 1: refused by ground 6", "node 2 of 2"],
+            ["line 6, field day: 1 is there", "refused by ground 6"],
         ),
         (
             whole.replace("node 9 10", "node 9 101"),
-            ["refused by ground 6", "100.0000%"],
+            ["line 6, field rate: 101.0000% is there", "100.0000%"],
         ),
     ] {
         let reason = refused(&text);

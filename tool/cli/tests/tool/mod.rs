@@ -40,8 +40,10 @@ pub fn outright(nominal: u32) -> Vec<String> {
         "security=single payment",
         "security_curve=1",
         &nominal,
+        "value_day_1=0",
         "first_payment_day=9",
         "clean_price=99",
+        "accrued=0",
     ];
     words.map(str::to_owned).to_vec()
 }
