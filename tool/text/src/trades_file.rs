@@ -1,13 +1,14 @@
 //! Files of trades, as spreadsheets read and write them.
 
 use crate::column::Column;
-use crate::columns::{no_columns, COLUMNS};
+use crate::columns::COLUMNS;
 use crate::decimal::Decimals;
 use crate::fault::{faultless, shown, Fault};
 use crate::file::content;
 use crate::lines::{Line, Lines};
 use crate::separator::{names_missing, says_separator, Separator};
 use crate::trade::{record_of, values_of, Value};
+use crate::unknown::no_columns;
 use csv::WriterBuilder;
 use seddolki_format::Record;
 
@@ -88,9 +89,7 @@ fn named(names: &[&str]) -> Result<Vec<&'static Column>, Vec<Fault>> {
             None => unknown.push(*name),
         }
     }
-    if !unknown.is_empty() {
-        faults.push(no_columns(&unknown));
-    }
+    faults.extend(no_columns(&unknown));
     faultless(columns, faults)
 }
 

@@ -116,9 +116,10 @@ fn column_names_are_looked_at_first() {
     let (last, others) = names.split_last().unwrap();
     let all = format!("{} or {last}", others.join(", "));
     assert_eq!(
-        refused("kind,price,Kind,,side\nswap,,,,\n"),
+        refused("kind,price,Kind,,sid\nswap,,,,\n"),
         [
             "line 1, column kind: it is named twice".to_owned(),
+            "line 1: there is no column sid: is side meant?".into(),
             format!("line 1: there is no column price or without a name: {all}"),
         ]
     );
