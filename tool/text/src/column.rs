@@ -1,9 +1,10 @@
 //! A named column of a trade.
 
-use crate::columns::{no_columns, prices, COLUMNS};
+use crate::columns::{prices, COLUMNS};
 use crate::decimal::{plain, Decimals};
 use crate::fault::{shown, Fault};
 use crate::quantity::Quantity;
+use crate::unknown::no_columns;
 use crate::words::{a_trade_of, phases, Word};
 use seddolki_format::record::{OUTRIGHT, POOL};
 use seddolki_format::text::listed;
@@ -43,13 +44,15 @@ impl PartialEq for Column {
 impl Column {
     /// The column of a name; case, and blanks for underscores, do not matter.
     pub fn named(name: &str) -> Option<&'static Column> {
-        let name = name.trim().to_ascii_lowercase().replace(' ', "_");
+        let name = spelled(name);
         COLUMNS.iter().find(|column| column.name == name)
     }
 
-    /// The column of a name, or a fault that lists all names.
+    /// The column of a name, or a fault that names the column that may be
+    /// meant, or all.
     pub fn find(name: &str) -> Result<&'static Column, Fault> {
-        Column::named(name).ok_or_else(|| no_columns(&[name]))
+        let fault = || no_columns(&[name]).remove(0);
+        Column::named(name).ok_or_else(fault)
     }
 
     /// The column that stands for a field of this record, by the field's
@@ -183,6 +186,11 @@ impl Column {
             }
         })
     }
+}
+
+/// A column's name as the list of columns has it.
+pub(crate) fn spelled(name: &str) -> String {
+    name.trim().to_ascii_lowercase().replace(' ', "_")
 }
 
 /// A trade of which the kind alone is known.

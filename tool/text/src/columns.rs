@@ -2,7 +2,6 @@
 
 use crate::column::{Column, Unit};
 use crate::decimal::{Decimals, MONEY, PERCENT};
-use crate::fault::{shown, Fault};
 use crate::quantity::Quantity;
 use crate::words::{kinds, securities, sides};
 use seddolki_format::limits::{
@@ -10,7 +9,6 @@ use seddolki_format::limits::{
     TERMS,
 };
 use seddolki_format::record::{OUTRIGHT, POOL, SPECIFIED};
-use seddolki_format::text::listed;
 use seddolki_format::Record;
 
 macro_rules! column {
@@ -208,21 +206,6 @@ pub(crate) fn prices(kind: u8) -> &'static [&'static str] {
     }
 }
 
-/// The fault of names that no column has.
-pub(crate) fn no_columns(names: &[&str]) -> Fault {
-    let visible = |name: &&str| match name.trim() {
-        "" => "without a name".into(),
-        name => shown(name),
-    };
-    let names: Vec<String> = names.iter().map(visible).collect();
-    let all: Vec<&str> = COLUMNS.iter().map(|column| column.name).collect();
-    let names = listed(&names, "or");
-    Fault::new(format!(
-        "there is no column {names}: {}",
-        listed(&all, "or")
-    ))
-}
-
 /// The names of the columns, a line each with their meanings and what is
 /// allowed.
 pub fn meanings() -> String {
@@ -249,15 +232,8 @@ mod tests {
         for name in ["", "cleanprice", "clean__price", "\u{212a}ind"] {
             assert!(Column::named(name).is_none(), "{name}");
         }
-        let fault = Column::find("a\nb").unwrap_err().to_string();
-        assert!(
-            fault.starts_with("there is no column a\\nb: kind, side, phase"),
-            "{fault}"
-        );
-        assert!(
-            fault.ends_with("settlement_index or issue_index"),
-            "{fault}"
-        );
+        let fault = Column::find("knd").unwrap_err();
+        assert_eq!(fault.to_string(), "there is no column knd: is kind meant?");
     }
 
     #[test]

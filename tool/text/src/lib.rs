@@ -37,6 +37,7 @@ mod separator;
 pub mod template;
 pub mod trade;
 pub mod trades_file;
+mod unknown;
 mod words;
 
 pub use column::{Column, Unit};

@@ -1,7 +1,7 @@
 //! The lines of a file, split into values.
 
 use crate::fault::Fault;
-use crate::separator::Separator;
+use crate::separator::{not_utf_8, Separator};
 use csv::{ByteRecord, Position, Reader, ReaderBuilder, StringRecord};
 use std::io::Cursor;
 
@@ -60,8 +60,7 @@ impl<'a> Lines<'a> {
             self.resume_behind(start, number).map_err(unread)?;
             return Err(Fault::new(message).on_line(number));
         }
-        let values = StringRecord::from_byte_record(values)
-            .map_err(|_| Fault::new("it is not written in UTF-8").on_line(number))?;
+        let values = StringRecord::from_byte_record(values).map_err(|_| not_utf_8(number))?;
         Ok(Some(Line { number, values }))
     }
 }
@@ -189,7 +188,7 @@ mod tests {
     #[test]
     fn lines_that_are_not_utf_8_are_told() {
         let text = b"a\n\xddb\n\nc\n\"\xff\n\"\nd";
-        let wrong = |line| format!("line {line}: it is not written in UTF-8");
+        let wrong = |line| format!("line {line}: it is not written in UTF-8: save it as CSV UTF-8");
         let due = [
             "1 [\"a\"]".into(),
             wrong(2),

@@ -1,13 +1,14 @@
 //! Files of trades, as spreadsheets read and write them.
 
 use crate::column::Column;
-use crate::columns::{no_columns, COLUMNS};
+use crate::columns::COLUMNS;
 use crate::decimal::Decimals;
-use crate::fault::{faultless, Fault};
+use crate::fault::{faultless, shown, Fault};
 use crate::file::content;
 use crate::lines::{Line, Lines};
-use crate::separator::{names_missing, Separator};
+use crate::separator::{names_missing, says_separator, Separator};
 use crate::trade::{record_of, values_of, Value};
+use crate::unknown::no_columns;
 use csv::WriterBuilder;
 use seddolki_format::Record;
 
@@ -38,7 +39,7 @@ pub fn read(bytes: &[u8]) -> Result<TradesFile, Vec<Fault>> {
     let bytes = content(bytes);
     let separator = Separator::of_file(&bytes).map_err(|fault| vec![fault])?;
     let mut lines = Lines::new(&bytes, separator);
-    let columns = columns(lines.next())?;
+    let columns = columns(&mut lines)?;
     let mut file = TradesFile::default();
     for line in lines {
         let line = line.map_err(|fault| vec![fault]);
@@ -50,35 +51,59 @@ pub fn read(bytes: &[u8]) -> Result<TradesFile, Vec<Fault>> {
     Ok(file)
 }
 
-/// The columns that the first line names.
-fn columns(line: Option<Result<Line, Fault>>) -> Result<Vec<&'static Column>, Vec<Fault>> {
+/// The columns of a file: those that are named, and how many unnamed ones
+/// stand behind them.
+struct Columns {
+    named: Vec<&'static Column>,
+    unnamed: usize,
+}
+
+/// The columns that the first line names, behind one that says what separates
+/// the values.
+fn columns(lines: &mut Lines) -> Result<Columns, Vec<Fault>> {
+    let says_separator = |line: &Line| line.values.get(0).is_some_and(says_separator);
+    let mut line = lines.next();
+    if matches!(&line, Some(Ok(first)) if says_separator(first)) {
+        line = lines.next();
+    }
     let line = line.unwrap_or_else(|| Err(names_missing()));
     let line = line.map_err(|fault| vec![fault])?;
+    let names: Vec<&str> = line.values.iter().collect();
+    let last = names.iter().rposition(|name| !name.trim().is_empty());
+    let (names, unnamed) = names.split_at(last.map_or(0, |last| last + 1));
+    let named = named(names).map_err(|faults| on_line(faults, line.number))?;
+    Ok(Columns {
+        named,
+        unnamed: unnamed.len(),
+    })
+}
+
+fn named(names: &[&str]) -> Result<Vec<&'static Column>, Vec<Fault>> {
     let (mut columns, mut unknown, mut faults) = (vec![], vec![], vec![]);
-    for name in &line.values {
+    for name in names {
         match Column::named(name) {
             Some(column) if columns.contains(&column) => {
                 faults.push(Fault::new("it is named twice").in_column(column.name));
             }
             Some(column) => columns.push(column),
-            None => unknown.push(name),
+            None => unknown.push(*name),
         }
     }
-    if !unknown.is_empty() {
-        faults.push(no_columns(&unknown));
-    }
-    faultless(columns, on_line(faults, line.number))
+    faults.extend(no_columns(&unknown));
+    faultless(columns, faults)
 }
 
-fn trade(
-    columns: &[&'static Column],
-    line: &Line,
-    decimals: Decimals,
-) -> Result<Trade, Vec<Fault>> {
-    if line.values.len() != columns.len() {
-        return Err(vec![miscounted(columns.len(), line)]);
+fn trade(columns: &Columns, line: &Line, decimals: Decimals) -> Result<Trade, Vec<Fault>> {
+    let (least, unnamed) = (columns.named.len(), columns.unnamed);
+    if !(least..=least + unnamed).contains(&line.values.len()) {
+        return Err(vec![miscounted(least, line)]);
     }
-    let values: Vec<Value> = columns.iter().copied().zip(&line.values).collect();
+    let mut behind = line.values.iter().skip(least);
+    if let Some(value) = behind.find(|value| !value.trim().is_empty()) {
+        let message = format!("{} stands in a column without a name", shown(value));
+        return Err(vec![Fault::new(message).on_line(line.number)]);
+    }
+    let values: Vec<Value> = columns.named.iter().copied().zip(&line.values).collect();
     let record = record_of(&values, decimals).map_err(|faults| on_line(faults, line.number))?;
     Ok(Trade {
         line: line.number,

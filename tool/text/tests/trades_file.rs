@@ -116,10 +116,11 @@ fn column_names_are_looked_at_first() {
     let (last, others) = names.split_last().unwrap();
     let all = format!("{} or {last}", others.join(", "));
     assert_eq!(
-        refused("kind,sid,Kind,\nswap,,,\n"),
+        refused("kind,price,Kind,,sid\nswap,,,,\n"),
         [
             "line 1, column kind: it is named twice".to_owned(),
-            format!("line 1: there is no column sid or without a name: {all}"),
+            "line 1: there is no column sid: is side meant?".into(),
+            format!("line 1: there is no column price or without a name: {all}"),
         ]
     );
     let allowed = "comma, semicolon or tab";
@@ -146,15 +147,78 @@ fn column_names_are_looked_at_first() {
         [format!("line 1: there is no column a;b: {all}")]
     );
     assert_eq!(refused("kind,\"side\n"), ["line 1: a quote is not closed"]);
+}
+
+/// As Turkish Windows and spreadsheets write that are not told otherwise.
+#[test]
+fn other_encodings_are_told() {
+    let due = ["line 1: it is not written in UTF-8: save it as CSV UTF-8"];
+    assert_eq!(refused(b"kind,s\xfede\n"), due);
+    for mark in ["\u{feff}", ""] {
+        let file = format!("{mark}kind\tside\r\n");
+        let units: Vec<u16> = file.encode_utf16().collect();
+        let low_first: Vec<u8> = units.iter().flat_map(|unit| unit.to_le_bytes()).collect();
+        let high_first: Vec<u8> = units.iter().flat_map(|unit| unit.to_be_bytes()).collect();
+        assert_eq!(refused(low_first), due);
+        assert_eq!(refused(high_first), due);
+    }
+}
+
+#[test]
+fn unnamed_columns_behind_the_others_are_empty() {
+    let (names, values) = REPO.trim_end().split_once('\n').unwrap();
+    for (behind_names, behind_values) in [(",,", ",,"), (", ,\"\"", ","), (",,", ""), (",", ", ")] {
+        let file = format!("{names}{behind_names}\n{values}{behind_values}\n");
+        assert_eq!(trades(file), [(2, repo())]);
+    }
+    let file = format!("{names},,\n{values},,x\n{values},,,\n{values}\n{values},1,\n");
     assert_eq!(
-        refused(b"kind,s\xfede\n"),
-        ["line 1: it is not written in UTF-8"]
+        wrong(&file),
+        [
+            "line 2: x stands in a column without a name",
+            "line 3: 9 values due by the column names, 12 found",
+            "line 5: 1 stands in a column without a name",
+        ]
     );
-    let utf_16: Vec<u8> = "\u{feff}kind,side\n"
-        .encode_utf16()
-        .flat_map(u16::to_le_bytes)
-        .collect();
-    assert_eq!(refused(utf_16), ["line 1: it is not written in UTF-8"]);
+    let between = refused("kind,,side\n");
+    assert!(between[0].starts_with("line 1: there is no column without a name: kind, "));
+}
+
+#[test]
+fn a_first_line_may_say_what_separates() {
+    let semicolons = REPO.replace(',', ";").replace('.', ",");
+    let tabs = REPO.replace(',', "\t");
+    for (first, file) in [
+        ("sep=,", REPO),
+        ("sep=;", &semicolons),
+        ("SEP=;", &semicolons),
+        ("\"sep=;\"", &semicolons),
+        ("sep=\t", &tabs),
+        ("sep=\\t", &tabs),
+    ] {
+        for end in ["\n", "\r\n", "\r"] {
+            let file = format!("\u{feff}{first}\n{file}").replace('\n', end);
+            assert_eq!(trades(&file), [(3, repo())], "{file:?}");
+        }
+    }
+    // it decides how numbers are written where one column does not
+    assert_eq!(
+        wrong("sep=;\nkind\noutright\n").last().unwrap(),
+        "line 3, column accrued: nothing is given: 0,0000 to 100,0000"
+    );
+    assert_eq!(
+        refused(format!("sep=;\n{REPO}")),
+        ["line 2: comma stands between the column names: semicolon is due"]
+    );
+    assert_eq!(
+        refused("sep=,\n\nkind,side;phase\n"),
+        ["line 3: comma and semicolon stand between the column names: comma is due"]
+    );
+    assert_eq!(
+        refused("sep=|\nkind|side\n"),
+        ["line 1: sep=| names none of comma, semicolon or tab"]
+    );
+    assert_eq!(refused("sep=;\n"), ["the line of column names is missing"]);
 }
 
 #[test]
@@ -186,7 +250,7 @@ fn every_wrong_line_is_told_at_once() {
             "line 6: a quote is not closed",
             "line 7, column cash_curve: -1 is too small: 1 to 8",
             "line 8: text stands behind a closing quote",
-            "line 9: it is not written in UTF-8",
+            "line 9: it is not written in UTF-8: save it as CSV UTF-8",
             "line 10, column kind: nothing is given: outright, pool repo or specified repo",
             "line 11, column cash_curve: 300 is too large: 1 to 8",
             "line 11, column nominal: 1\\n0 is not a number: 0.01 to 10,000,000,000.00",
