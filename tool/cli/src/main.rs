@@ -6,6 +6,8 @@ mod arguments;
 mod books;
 mod chosen;
 mod commands;
+mod common_run;
+mod cores;
 mod curves_text;
 mod differences;
 mod ended;

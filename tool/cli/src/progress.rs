@@ -1,8 +1,8 @@
 //! Work on several books at once, on all cores.
 
+use crate::cores::on_all_cores;
 use crate::ended::{Ended, DONE};
 use indicatif::{ProgressBar, ProgressStyle};
-use rayon::prelude::*;
 use seddolki_store::shown;
 use std::collections::BTreeSet;
 use std::path::{Path, PathBuf};
@@ -16,14 +16,11 @@ pub fn over_books<T: Send>(
 ) -> Result<(Vec<T>, u8), Ended> {
     named_once(paths)?;
     let bar = bar(paths.len());
-    let ended: Vec<Result<T, Ended>> = paths
-        .par_iter()
-        .map(|path| {
-            let ended = work(path);
-            bar.inc(1);
-            ended
-        })
-        .collect();
+    let ended = on_all_cores(paths, |path| {
+        let ended = work(path);
+        bar.inc(1);
+        ended
+    });
     bar.finish_and_clear();
     let (mut made, mut worst) = (vec![], DONE);
     for ended in ended {

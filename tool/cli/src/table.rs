@@ -5,7 +5,7 @@ use serde_json::{Map, Value as Json};
 use unicode_width::UnicodeWidthStr;
 
 /// A cell. A decimal number is whole in units of the last of its places.
-#[derive(Clone, Debug)]
+#[derive(Clone, Debug, PartialEq)]
 pub enum Value {
     Nothing,
     Text(String),

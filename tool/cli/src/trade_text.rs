@@ -3,9 +3,7 @@
 use crate::ended::Ended;
 use crate::table::Value;
 use seddolki::Record;
-use seddolki_text::trade::values_of;
-use seddolki_text::{Column, Unit, COLUMNS};
-use seddolki_text::{Decimals, Fault};
+use seddolki_text::{Column, Decimals, Fault, Unit, COLUMNS};
 
 /// What stands on each side of the equals signs.
 pub fn named_values(arguments: &[String]) -> Result<Vec<(&'static Column, &str)>, Ended> {
@@ -46,10 +44,4 @@ fn cell(column: &Column, record: &Record) -> Value {
         Unit::Number(quantity) if quantity.places == 0 => Value::Whole(column.get(record).into()),
         Unit::Number(quantity) => Value::Decimal(column.get(record).into(), quantity.places),
     }
-}
-
-/// The columns of a trade as texts, each behind its name.
-pub fn written(record: &Record) -> Vec<(&'static str, String)> {
-    let values = values_of(record, Decimals::Point).into_iter();
-    values.map(|(column, text)| (column.name, text)).collect()
 }

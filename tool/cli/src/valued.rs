@@ -3,8 +3,8 @@
 //! engine's is never shown.
 
 use crate::books::BookFile;
+use crate::cores::on_all_cores;
 use crate::ended::Ended;
-use rayon::prelude::*;
 use seddolki::CurveFigures;
 use seddolki_format::block::{Curve, Node};
 use seddolki_model::curve::rate_on;
@@ -45,7 +45,7 @@ pub fn valued<'a>(file: &BookFile, curves: &[&'a Curve]) -> Result<Vec<Valued<'a
             losses: valuation.losses,
         })
     };
-    curves.par_iter().map(one).collect()
+    on_all_cores(curves, one).into_iter().collect()
 }
 
 fn agree(curve: &Curve, found: (i64, i64, u32), figures: &CurveFigures) -> Result<(), Ended> {

@@ -104,8 +104,10 @@ fn a_trade_is_appended_and_struck() {
         "security=single payment",
         "security_curve=1",
         "nominal=1,000.00",
+        "value_day_1=0",
         "first_payment_day=365",
         "clean_price=70",
+        "accrued=0",
     ];
     let run = desk.run(&opposite);
     assert_eq!(
@@ -203,7 +205,7 @@ fn two_books_are_told_apart() {
     std::fs::copy(example("buyer.book"), desk.path("buyer.book")).unwrap();
     let diff = desk.done(&["diff", "desk.book", "buyer.book"]);
     assert!(
-        diff.contains("account") && diff.contains("node of day 365"),
+        diff.contains("account") && diff.contains("rate of day 365"),
         "{diff}"
     );
 }
@@ -250,18 +252,18 @@ fn losses_are_those_of_the_margin() {
         assert_eq!(figures[3..5], worst[..2]);
         assert_eq!((figures[6], figures[7]), (worst[6], worst[2]));
     }
-    // the trades of a curve add up to its figures, which stand in its last row
-    let trades = desk.done(&["losses", "--trades", "desk.book", "--curve", "1", "--csv"]);
-    let cents = |text: &str| text.replace('.', "").parse::<i64>().unwrap();
-    let rows: Vec<Vec<&str>> = trades
-        .lines()
-        .skip(1)
-        .map(|line| line.splitn(7, ',').collect())
-        .collect();
-    let (all, each) = rows.split_last().unwrap();
-    for column in [4, 5] {
-        let sum: i64 = each.iter().map(|row| cents(row[column])).sum();
-        assert_eq!(sum, cents(all[column]));
+    // the trades of a curve add up to its figures, which stand in a table of their own
+    let arguments = ["losses", "--trades", "desk.book", "--curve", "1", "--json"];
+    let tables: serde_json::Value = serde_json::from_str(&desk.done(&arguments)).unwrap();
+    let cents = |value: &serde_json::Value| -> i64 {
+        let text = value.as_str().unwrap().replace('.', "");
+        text.parse().unwrap()
+    };
+    let trades = tables["trades"].as_array().unwrap();
+    assert!(trades.len() > 3);
+    for figure in ["base", "loss"] {
+        let sum: i64 = trades.iter().map(|trade| cents(&trade[figure])).sum();
+        assert_eq!(sum, cents(&tables["curves"][0][figure]));
     }
 }
 

@@ -9,8 +9,8 @@ const REPO: &str = "kind,side,phase,cash_curve,value_day_1,value_day_2,term,repo
                     pool repo,repo,1,2,1,8,7,500.00,13.2\n";
 
 const BOND: &str = "kind,side,cash_curve,security,security_curve,nominal,value_day_1,\
-                    first_payment_day,period,payments,coupon,clean_price\n\
-                    outright,buyer,1,coupons,1,1000.00,1,90,91,4,2.5,99\n";
+                    first_payment_day,period,payments,coupon,clean_price,accrued\n\
+                    outright,buyer,1,coupons,1,1000.00,1,90,91,4,2.5,99,0\n";
 
 /// The refusal of an import of these lines, and the book kept.
 fn import(lines: &str) -> String {
@@ -118,7 +118,7 @@ fn numbers_that_the_engine_refuses_are_told_by_column() {
         REPO,
         "pool repo,repo,1,2,1,8,7,,13",
         "repo_cash",
-        &["ground 10"],
+        &["nothing is given", "0.01 to 10,000,000,000.00"],
     );
     refused(
         REPO,
@@ -134,25 +134,25 @@ fn numbers_that_the_engine_refuses_are_told_by_column() {
     );
     refused(
         BOND,
-        "outright,buyer,1,coupons,3,1,1,90,91,4,2,99",
+        "outright,buyer,1,coupons,3,1,1,90,91,4,2,99,0",
         "security_curve",
         &["USD", "TRY", "ground 11"],
     );
     refused(
         BOND,
-        "outright,buyer,1,coupons,1,1,1,1,91,4,2,99",
+        "outright,buyer,1,coupons,1,1,1,1,91,4,2,99,0",
         "first_payment_day",
         &["ground 9"],
     );
     refused(
         BOND,
-        "outright,buyer,1,coupons,1,1,1,90,367,4,2,99",
+        "outright,buyer,1,coupons,1,1,1,90,367,4,2,99,0",
         "period",
         &["367", "1 to 366"],
     );
     refused(
         BOND,
-        "outright,buyer,1,single payment,1,1,1,90,,,2,99",
+        "outright,buyer,1,single payment,1,1,1,90,,,2,99,0",
         "coupon",
         &["2.0000% is there", "only coupons have"],
     );
@@ -190,7 +190,9 @@ fn the_right_column_is_blamed() {
     ]);
     assert!(no_security.contains("column security: "), "{no_security}");
     assert!(
-        no_security.contains("single payment, coupons or indexed coupons is due"),
+        no_security.contains(
+            "column security: nothing is given: single payment, coupons or indexed coupons"
+        ),
         "{no_security}"
     );
     let no_indices = blamed(&[
@@ -216,10 +218,10 @@ fn the_right_column_is_blamed() {
 #[test]
 fn a_full_book_is_said_to_be_full() {
     let desk = Desk::with("empty.book");
-    let head =
-        "kind,side,cash_curve,security,security_curve,nominal,first_payment_day,clean_price\n";
-    let lines =
-        (1..=1_134).map(|nominal| format!("outright,buyer,1,single payment,1,{nominal},9,99\n"));
+    let head = "kind,side,cash_curve,security,security_curve,nominal,value_day_1,\
+                first_payment_day,clean_price,accrued\n";
+    let lines = (1..=1_134)
+        .map(|nominal| format!("outright,buyer,1,single payment,1,{nominal},0,9,99,0\n"));
     desk.write("full.csv", head.to_owned() + &lines.collect::<String>());
     desk.run(&["import", "empty.book", "full.csv"]);
     assert_eq!(desk.trades("empty.book"), 1_134);

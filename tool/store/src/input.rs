@@ -1,5 +1,6 @@
 //! Reading, with a bound.
 
+use crate::temporary::refuse_temporary_name;
 use crate::{is_standard_stream, shown, Failure};
 use std::fs::{File, Metadata};
 use std::io::{self, Read};
@@ -47,6 +48,7 @@ pub fn read_at_most(path: &Path, most: usize) -> Result<Input, Failure> {
     } else {
         (path, File::open(path))
     };
+    refuse_temporary_name(name, name)?;
     let file = opened.map_err(Failure::of(name))?;
     let metadata = file.metadata().map_err(Failure::of(name))?;
     refuse_standard_output(name, &metadata)?;

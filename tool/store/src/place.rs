@@ -2,7 +2,7 @@
 
 use crate::failure::words;
 use crate::input::identity;
-use crate::temporary::{remove_leftovers, Temporary};
+use crate::temporary::{refuse_temporary_name, remove_leftovers, Temporary};
 use crate::{shown, Failure, Patience, Written};
 use std::fs::{self, File};
 use std::io;
@@ -35,6 +35,7 @@ impl<'a> Place<'a> {
 
     fn lock(given: &'a Path, resolve: Resolve, patience: &Patience) -> Result<Self, Failure> {
         let target = resolve(given).map_err(Failure::of(given))?;
+        refuse_temporary_name(given, &target)?;
         let opened = File::open(folder_of(&target));
         let folder = opened.map_err(Failure::because(given, "its folder can't be opened"))?;
         patience.lock(given, folder_of(&target), &folder)?;

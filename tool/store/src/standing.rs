@@ -3,10 +3,12 @@
 use crate::input::{bytes_of, identity, refuse_standard_output, Identity};
 use crate::place::Place;
 use crate::{Failure, Patience, Written};
+use std::ffi::OsString;
 use std::fs::{self, File, Metadata, OpenOptions};
 use std::io;
 use std::os::unix::fs::{fchown, FileTypeExt, MetadataExt};
 use std::path::Path;
+use xattr::FileExt;
 
 /// A regular file that its user may write, with its folder locked.
 pub(crate) struct Standing<'a> {
@@ -48,6 +50,10 @@ impl<'a> Standing<'a> {
         let temporary = self.place.write_beside(0o600, bytes)?;
         keep_owner_and_mode(&self.metadata, &temporary.file)
             .map_err(Failure::because(given, "its owner and mode can't be kept"))?;
+        keep_attributes(&self.file, &temporary.file).map_err(Failure::because(
+            given,
+            "its access list and attributes can't be kept",
+        ))?;
         self.place.sync(&temporary)?;
         self.refuse_change_meanwhile()?;
         temporary
@@ -71,6 +77,34 @@ impl<'a> Standing<'a> {
 /// Whatever changes a file changes this.
 fn state(file: &Metadata) -> (Identity, u64, i64, i64) {
     (identity(file), file.len(), file.ctime(), file.ctime_nsec())
+}
+
+/// Gives a file the extended attributes of another, access lists among them,
+/// and no others.
+fn keep_attributes(old: &File, new: &File) -> io::Result<()> {
+    let kept = attributes(old)?;
+    for name in attributes(new)? {
+        if !kept.contains(&name) {
+            new.remove_xattr(name)?;
+        }
+    }
+    for name in kept {
+        let value = old.get_xattr(&name)?.unwrap_or_default();
+        if new.get_xattr(&name)?.as_ref() != Some(&value) {
+            new.set_xattr(&name, &value)?;
+        }
+    }
+    Ok(())
+}
+
+/// The names of a file's extended attributes; none where its file system
+/// knows of none.
+fn attributes(file: &File) -> io::Result<Vec<OsString>> {
+    match file.list_xattr() {
+        Ok(names) => Ok(names.collect()),
+        Err(error) if error.kind() == io::ErrorKind::Unsupported => Ok(vec![]),
+        Err(error) => Err(error),
+    }
 }
 
 fn keep_owner_and_mode(old: &Metadata, new: &File) -> io::Result<()> {

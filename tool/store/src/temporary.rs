@@ -1,5 +1,7 @@
 //! Files that are written beside others before they take a name.
 
+use crate::Failure;
+use std::ffi::OsStr;
 use std::fs::{self, DirEntry, File, OpenOptions};
 use std::io::{self, Read, Write};
 use std::os::unix::ffi::OsStrExt;
@@ -61,9 +63,20 @@ pub(crate) fn remove_leftovers(folder: &Path) {
 }
 
 fn is_leftover(entry: &DirEntry) -> bool {
+    is_temporary_name(&entry.file_name()) && entry.file_type().is_ok_and(|kind| kind.is_file())
+}
+
+/// Refuses a file whose name the next edit would take for a leftover's.
+pub(crate) fn refuse_temporary_name(given: &Path, file: &Path) -> Result<(), Failure> {
+    if file.file_name().is_some_and(is_temporary_name) {
+        let reason = "has a name that is kept for temporary files";
+        return Err(Failure::new(given, reason));
+    }
+    Ok(())
+}
+
+fn is_temporary_name(name: &OsStr) -> bool {
     let is_digit = |byte: &u8| matches!(byte, b'0'..=b'9' | b'a'..=b'f');
-    let name = entry.file_name();
     let digits = name.as_bytes().strip_prefix(PREFIX.as_bytes());
     digits.is_some_and(|digits| digits.len() == DIGITS && digits.iter().all(is_digit))
-        && entry.file_type().is_ok_and(|kind| kind.is_file())
 }

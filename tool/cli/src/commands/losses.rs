@@ -13,12 +13,15 @@ pub fn run(arguments: &Losses) -> Result<u8, Ended> {
     let file = accepted(&arguments.one.book)?;
     let curves = chosen_curves(&file, arguments.curve)?;
     let valued = valued(&file, &curves)?;
-    let table = if arguments.trades {
-        by_trade(&file, &valued)
+    let form = arguments.form;
+    if arguments.trades {
+        let tables = [by_trade(&file, &valued), sums(&valued)];
+        form.print(&tables, |[trades, sums]| {
+            format!("{}\n{}", trades.text(), sums.text())
+        })?;
     } else {
-        by_scenario(&valued)
-    };
-    arguments.form.print(&[table], |[table]| table.text())?;
+        form.print(&[by_scenario(&valued)], |[losses]| losses.text())?;
+    }
     Ok(DONE)
 }
 
@@ -55,33 +58,33 @@ fn by_scenario(valued: &[Valued]) -> Table {
     table
 }
 
-/// The last row of each curve is the sum, which is the engine's figure.
 fn by_trade(file: &BookFile, valued: &[Valued]) -> Table {
-    let mut table = Table::new(
-        "trades",
-        &[
-            "curve", "currency", "scenario", "position", "base", "loss", "trade",
-        ],
-    );
+    let columns = [
+        "curve", "currency", "scenario", "position", "base", "loss", "trade",
+    ];
+    let mut table = Table::new("trades", &columns);
     for one in valued {
-        let mut push = |position, base: i64, loss: i64, trade: String| {
+        for part in one.parts(file) {
             let mut row = curve_cells(one);
             row.push(Value::Whole(one.figures.scenario.into()));
-            row.push(position);
-            row.extend([Value::money(base), Value::money(loss), Value::Text(trade)]);
+            row.push(Value::count(part.position));
+            row.extend([part.base, part.loss].map(Value::money));
+            row.push(Value::text(words::trade(&file.parts.trades[part.position])));
             table.push(row);
-        };
-        for part in one.parts(file) {
-            let trade = words::trade(&file.parts.trades[part.position]);
-            push(Value::count(part.position), part.base, part.loss, trade);
         }
-        let figures = one.figures;
-        push(
-            Value::Nothing,
-            figures.base,
-            figures.worst_loss,
-            "all trades".into(),
-        );
+    }
+    table
+}
+
+/// The figures of each curve, to which its trades add up.
+fn sums(valued: &[Valued]) -> Table {
+    let columns = ["curve", "currency", "scenario", "base", "loss"];
+    let mut table = Table::new("curves", &columns);
+    for one in valued {
+        let mut row = curve_cells(one);
+        row.push(Value::Whole(one.figures.scenario.into()));
+        row.extend([one.figures.base, one.figures.worst_loss].map(Value::money));
+        table.push(row);
     }
     table
 }

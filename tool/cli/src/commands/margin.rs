@@ -28,9 +28,6 @@ pub fn run(arguments: &Margin) -> Result<u8, Ended> {
     let paths = &arguments.books.books;
     one_stream(paths)?;
     let (margined, worst) = over_books(paths, margined)?;
-    if margined.is_empty() {
-        return Ok(worst);
-    }
     let several = paths.len() > 1;
     let tables = [curves(&margined), currencies(&margined), totals(&margined)];
     arguments
@@ -47,6 +44,9 @@ fn margined(path: &Path) -> Result<Margined, Ended> {
 }
 
 fn text([curves, currencies, totals]: &[Table; 3], several: bool) -> String {
+    if curves.rows.is_empty() {
+        return String::new();
+    }
     if several {
         return format!("{}\n{}", currencies.text(), totals.text());
     }
