@@ -1,7 +1,7 @@
 //! The named columns of a trade.
 
 use crate::column::{Column, Unit};
-use crate::decimal::{Decimals, MONEY, PERCENT};
+use crate::decimal::{MONEY, PERCENT};
 use crate::quantity::Quantity;
 use crate::words::{kinds, securities, sides};
 use seddolki_format::limits::{
@@ -87,7 +87,7 @@ pub static COLUMNS: [Column; 20] = [
         security,
         Unit::Words(securities),
         always,
-        "what the security pays"
+        "what the security pays, none in phase 1 of a pool repo"
     ),
     column!(
         "security_curve",
@@ -206,20 +206,10 @@ pub(crate) fn prices(kind: u8) -> &'static [&'static str] {
     }
 }
 
-/// The names of the columns, a line each with their meanings and what is
-/// allowed.
-pub fn meanings() -> String {
-    let line = |column: &Column| {
-        let (name, meaning) = (column.name, column.meaning);
-        let allowed = column.allowed(&Record::default(), Decimals::Point);
-        format!("  {name:<18} {meaning}: {allowed}\n")
-    };
-    COLUMNS.iter().map(line).collect()
-}
-
 #[cfg(test)]
 mod tests {
     use super::*;
+    use crate::decimal::Decimals;
     use seddolki_books::curve::draw_curves;
     use seddolki_books::{draw_record, Draw};
     use seddolki_format::record::RECORD;
@@ -287,16 +277,5 @@ mod tests {
                 );
             }
         }
-    }
-
-    #[test]
-    fn meanings_name_what_is_allowed() {
-        let text = meanings();
-        assert_eq!(text.lines().count(), COLUMNS.len());
-        assert!(text.contains("\n  term               of a repo in days: 1 to 730\n"));
-        assert!(
-            text.contains("\n  nominal            of the security: 0.01 to 10,000,000,000.00\n")
-        );
-        assert!(text.contains(": buyer, seller, repo or reverse repo\n"));
     }
 }

@@ -53,7 +53,7 @@ impl Draft {
                 curve.take_line(number, word, values)
             }
             Some((word, _)) => {
-                let words = listed(&WORDS, "or");
+                let words = listed(WORDS, "or");
                 Err(wrong(format!("{} is none of {words}", shown(word))))
             }
         }
@@ -184,7 +184,7 @@ fn once(word: &str, first: &mut Option<u64>, line: u64) -> Result<(), Wrong> {
 }
 
 fn currency(values: &[&str]) -> Result<u8, Wrong> {
-    let allowed = listed(&CURRENCIES, "or");
+    let allowed = listed(CURRENCIES, "or");
     let [name] = values else {
         let found = values.len();
         return Err(wrong(format!("1 currency due, {found} found: {allowed}")));

@@ -80,7 +80,7 @@ fn said_by(line: &str) -> Option<Result<Separator, Fault>> {
     let mut all = Separator::ALL.into_iter();
     let said = all.find(|separator| line.as_bytes()[SAYS.len()..] == [separator.byte()]);
     Some(said.ok_or_else(|| {
-        let allowed = listed(&Separator::ALL, "or");
+        let allowed = listed(Separator::ALL, "or");
         Fault::new(format!("{} names none of {allowed}", shown(line)))
     }))
 }
@@ -92,7 +92,7 @@ fn between_names(names: &str, said: Option<Separator>) -> Result<Separator, Faul
     let mut found = Separator::ALL.to_vec();
     found.retain(|separator| outside.contains(char::from(separator.byte())));
     let stand = if found.len() == 1 { "stands" } else { "stand" };
-    let allowed = said.map_or_else(|| listed(&Separator::ALL, "or"), |said| said.to_string());
+    let allowed = said.map_or_else(|| listed(Separator::ALL, "or"), |said| said.to_string());
     let between = match found[..] {
         [separator] if said.is_none_or(|said| said == separator) => return Ok(separator),
         [] if is_one_name(names) => return Ok(said.unwrap_or(Separator::Comma)),

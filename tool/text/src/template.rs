@@ -3,5 +3,5 @@
 /// A file of two curves, with comments.
 pub const CURVES: &str = include_str!("../templates/curves.txt");
 
-/// A file with a trade of each kind.
+/// A file with trades of each kind, phase and security, none like another.
 pub const TRADES: &str = include_str!("../templates/trades.csv");

@@ -32,12 +32,11 @@ pub(crate) fn no_columns(names: &[&str]) -> Vec<Fault> {
 /// The columns whose names are closest, if they are close.
 fn closest(name: &str) -> Vec<&'static str> {
     let name = spelled(name);
-    let like = |column: &&str| {
-        // the search takes time and space by the product of the lengths
-        let comparable = name.len() <= 2 * column.len();
-        comparable
-            .then(|| likeness(&name, column))
-            .unwrap_or_default()
+    // the search takes time and space by the product of the lengths
+    let comparable = |column: &str| name.len() <= 2 * column.len();
+    let like = |column: &&str| match comparable(column) {
+        true => likeness(&name, column),
+        false => 0.0,
     };
     let columns = || COLUMNS.iter().map(|column| column.name);
     let most = columns().map(|column| like(&column)).fold(CLOSE, f64::max);

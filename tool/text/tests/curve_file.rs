@@ -100,7 +100,7 @@ fn a_part_has_its_own_line() {
     let file = "node 1 1 0 0 0\ncurve usd\n\nnode 9 1 0 0 0\nranges 0 0 0\n\
                 # a remark\nnode 8 1 0 0 0\nsteps 0 0 0\n";
     let file = format!("account 1\n{FILE}{file}").replace("account 7", "");
-    assert_eq!(refused(&file.replace("curve usd", "curve gbp")).len(), 1);
+    assert_eq!(refused(file.replace("curve usd", "curve gbp")).len(), 1);
     let last = CurveLines {
         curve: 11,
         steps: 17,

@@ -1,7 +1,7 @@
 //! The files that a new user starts from.
 
-use seddolki::Book;
-use seddolki_format::record::{OUTRIGHT, POOL, SPECIFIED};
+use seddolki::{doubles, Book};
+use seddolki_format::record::{INDEXED_COUPONS, NO_SECURITY, OUTRIGHT, POOL, SPECIFIED};
 use seddolki_format::{assemble, Record};
 use seddolki_text::trades_file::Trade;
 use seddolki_text::{curve_file, template, trades_file};
@@ -33,14 +33,35 @@ fn the_engine_takes_the_trades_on_the_curves() {
 }
 
 #[test]
+fn no_trade_looks_keyed_twice() {
+    let records: Vec<Record> = trades().iter().map(|trade| trade.record).collect();
+    assert_eq!(doubles(&records), []);
+}
+
+#[test]
 fn trades_of_each_kind_are_shown() {
     let records: Vec<Record> = trades().iter().map(|trade| trade.record).collect();
     let forms = records.iter().map(|record| (record.kind, record.phase));
-    let forms: Vec<(u8, u8)> = forms.collect();
+    let mut forms: Vec<(u8, u8)> = forms.collect();
+    forms.dedup();
     assert_eq!(
         forms,
-        [(OUTRIGHT, 0), (OUTRIGHT, 0), (POOL, 1), (SPECIFIED, 1)]
+        [
+            (OUTRIGHT, 0),
+            (POOL, 1),
+            (POOL, 2),
+            (POOL, 3),
+            (SPECIFIED, 1),
+            (SPECIFIED, 2)
+        ]
     );
+    for security in NO_SECURITY..=INDEXED_COUPONS {
+        let mut records = records.iter();
+        assert!(
+            records.any(|record| record.security == security),
+            "{security}"
+        );
+    }
     let written = trades_file::write(&records, seddolki_text::Separator::Comma);
     assert_eq!(written, template::TRADES);
 }

@@ -331,10 +331,10 @@ fn a_0_that_is_meant_is_written() {
         (&but(&outright, "coupon=1"), "accrued", "0.0000 to 100.0000"),
     ] {
         let nothing = format!("column {column}: nothing is given: {limits}");
-        assert_eq!(refused(&but(trade, column)), [nothing.clone()]);
+        assert_eq!(refused(&but(trade, column)), [nothing.as_str()]);
         assert_eq!(
             refused(&but(trade, &format!("{column}= "))),
-            [nothing.clone()]
+            [nothing.as_str()]
         );
         let column = Column::find(column).unwrap();
         let zero = made(&but(trade, &format!("{}=0", column.name))).unwrap();

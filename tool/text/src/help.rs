@@ -1,0 +1,204 @@
+//! The columns as a help text tells them.
+
+use crate::column::Column;
+use crate::columns::COLUMNS;
+use crate::decimal::Decimals;
+use seddolki_format::record::{OUTRIGHT, POOL};
+use seddolki_format::Record;
+
+/// The most characters of a line.
+const WIDTH: usize = 80;
+
+/// The characters before a meaning.
+const MARGIN: usize = 21;
+
+/// The names of the columns with their meanings and what is allowed, in lines
+/// of at most 80 characters.
+pub fn meanings() -> String {
+    COLUMNS.iter().map(meaning).collect()
+}
+
+fn meaning(column: &Column) -> String {
+    let text = format!("{}: {}", column.meaning, allowed(column));
+    let mut name = column.name;
+    let mut lines = String::new();
+    for line in wrapped(&text, WIDTH - MARGIN) {
+        lines += &format!("  {name:<width$}{line}\n", width = MARGIN - 2);
+        name = "";
+    }
+    lines
+}
+
+/// What trades of all kinds may have.
+fn allowed(column: &Column) -> String {
+    let of = |kind| {
+        let trade = Record {
+            kind,
+            ..Record::default()
+        };
+        column.allowed(&trade, Decimals::Point)
+    };
+    match column.field {
+        "side" => format!("{} of an outright, {} of a repo", of(OUTRIGHT), of(POOL)),
+        _ => of(0),
+    }
+}
+
+/// A text in lines that are no wider than this, unless a word is.
+fn wrapped(text: &str, width: usize) -> Vec<String> {
+    let mut lines: Vec<String> = vec![];
+    for word in text.split(' ') {
+        match lines.last_mut() {
+            Some(line) if line.len() + 1 + word.len() <= width => *line += &format!(" {word}"),
+            _ => lines.push(word.into()),
+        }
+    }
+    lines
+}
+
+/// Which columns the trades of each kind and phase use, and two examples that
+/// fit the curves of the template; in lines of at most 80 characters.
+pub fn uses() -> &'static str {
+    "\
+Every column that the trade uses has to be given: a 0 that is meant is written.
+By kind and phase it uses:
+
+                                outright  pool 1  pool 2       pool 3
+                                                  specified 1  specified 2
+  kind, side, cash_curve        yes       yes     yes          yes
+  phase                         no        yes     yes          yes
+  security                      yes       no      yes          yes
+  value_day_1                   yes       yes     yes          no
+  value_day_2, term             no        yes     yes          yes
+  clean_price, accrued          yes       no      no           no
+  repo_cash, repo_rate          no        yes     yes          yes
+
+and by security:
+
+                                              none  single   coupons  indexed
+                                                    payment           coupons
+  security_curve, nominal, first_payment_day  no    yes      yes      yes
+  period, payments, coupon                    no    no       yes      yes
+  settlement_index, issue_index               no    no       no       yes
+
+A bond that is bought, and a pool repo before its security is known:
+
+  seddolki append desk.book kind=outright side=buyer cash_curve=1 \\
+      security=coupons security_curve=1 nominal=5000000 value_day_1=1 \\
+      first_payment_day=120 period=182 payments=8 coupon=6.45 \\
+      clean_price=98.75 accrued=2.15
+
+  seddolki append desk.book kind=pool_repo side=repo phase=1 cash_curve=2 \\
+      value_day_1=1 value_day_2=8 term=7 repo_cash=3000000 repo_rate=13.2
+"
+}
+
+#[cfg(test)]
+mod tests {
+    use super::*;
+    use crate::trade::{record_of, Value};
+    use crate::{curve_file, template};
+    use seddolki::{doubles, Book};
+    use seddolki_format::assemble;
+    use seddolki_format::record::SPECIFIED;
+
+    fn assert_narrow(text: &str) {
+        for line in text.lines() {
+            assert!(
+                line.chars().count() <= WIDTH && line == line.trim_end(),
+                "{line}"
+            );
+        }
+    }
+
+    #[test]
+    fn meanings_name_what_is_allowed() {
+        let text = meanings();
+        assert_narrow(&text);
+        for lines in [
+            "\n  term               of a repo in days: 1 to 730\n",
+            "\n  nominal            of the security: 0.01 to 10,000,000,000.00\n",
+            "\n  side               of the account: buyer or seller of an outright, repo or\n\
+             \x20                    reverse repo of a repo\n",
+            "\n  value_day_1        of settlement or the first leg: 0 to 10,950 days from today\n",
+            "\n  first_payment_day  of the security: 1 to 10,950 days from today\n",
+        ] {
+            assert!(text.contains(lines), "{text}");
+        }
+        let named = text.lines().filter(|line| !line.starts_with("   "));
+        assert_eq!(named.count(), COLUMNS.len());
+    }
+
+    /// The columns of a row of a table, and whether each place uses them.
+    fn row(line: &str) -> Option<(Vec<&'static Column>, [bool; 4])> {
+        let mut cells = line.trim().split("  ").map(str::trim);
+        let names = cells.next()?.split(", ");
+        let columns = names.map(Column::named).collect::<Option<Vec<_>>>()?;
+        let used = cells
+            .filter(|cell| !cell.is_empty())
+            .map(|cell| match cell {
+                "yes" => true,
+                "no" => false,
+                _ => panic!("{cell}"),
+            });
+        Some((columns, used.collect::<Vec<_>>().try_into().unwrap()))
+    }
+
+    fn trade(kind: u8, phase: u8, security: u8) -> Record {
+        Record {
+            kind,
+            phase,
+            security,
+            ..Record::default()
+        }
+    }
+
+    #[test]
+    fn the_tables_are_those_of_the_columns() {
+        assert_narrow(uses());
+        let (by_kind, by_security) = uses().split_once("and by security").unwrap();
+        let forms = [
+            vec![trade(OUTRIGHT, 0, 1)],
+            vec![trade(POOL, 1, 0)],
+            vec![trade(POOL, 2, 1), trade(SPECIFIED, 1, 2)],
+            vec![trade(POOL, 3, 1), trade(SPECIFIED, 2, 3)],
+        ];
+        let securities = [0, 1, 2, 3].map(|security| {
+            let phase = if security == 0 { 1 } else { 2 };
+            vec![trade(POOL, phase, security)]
+        });
+        let mut told = vec![];
+        for (table, places) in [(by_kind, forms), (by_security, securities)] {
+            for (columns, used) in table.lines().filter_map(row) {
+                for column in columns {
+                    let due = |trades: &Vec<Record>| trades.iter().all(|t| column.is_due(t));
+                    assert_eq!(places.each_ref().map(due), used, "{}", column.name);
+                    told.push(column.name);
+                }
+            }
+        }
+        let mut all = COLUMNS.iter().map(|column| column.name).collect::<Vec<_>>();
+        all.sort_unstable();
+        told.sort_unstable();
+        assert_eq!(told, all);
+    }
+
+    #[test]
+    fn the_engine_takes_the_examples() {
+        let file = curve_file::read(template::CURVES.as_bytes()).unwrap();
+        let mut book = Book::from_bytes(assemble(file.account, &file.curves, &[]));
+        let mut records = vec![];
+        for command in uses().split("seddolki append desk.book").skip(1) {
+            let words = command.split_whitespace().filter(|word| *word != "\\");
+            let pairs = words.map(|word| word.split_once('=').unwrap());
+            let named = pairs.map(|(name, value)| (Column::find(name).unwrap(), value));
+            let values: Vec<Value> = named.collect();
+            let record = record_of(&values, Decimals::Point).unwrap();
+            assert_eq!(book.append(&record), Ok(records.len()));
+            records.push(record);
+        }
+        let kinds: Vec<u8> = records.iter().map(|record| record.kind).collect();
+        assert_eq!(kinds, [OUTRIGHT, POOL]);
+        assert_eq!(doubles(&records), []);
+    }
+}
