@@ -76,6 +76,11 @@ pub enum Command {
     Man,
 }
 
+/// The columns of a trade, and which trades use them.
+fn columns() -> String {
+    format!("{}\n{}", seddolki_text::meanings(), seddolki_text::uses())
+}
+
 /// Of every command that writes into a folder.
 #[derive(Args, Clone, Copy, Debug)]
 pub struct Waiting {
@@ -132,11 +137,11 @@ pub struct Again {
 }
 
 #[derive(Args, Debug)]
-#[command(after_help = seddolki_text::meanings())]
+#[command(after_help = columns())]
 pub struct Append {
     /// The book to change
     pub book: PathBuf,
-    /// Columns that the trade does not use are left out
+    /// Every column that the trade uses; the others are left out
     #[arg(required = true, value_name = "COLUMN=VALUE")]
     pub values: Vec<String>,
     #[command(flatten)]
@@ -146,7 +151,7 @@ pub struct Append {
 }
 
 #[derive(Args, Debug)]
-#[command(after_help = format!("{}\n{}", crate::commands::import::FORM, seddolki_text::meanings()))]
+#[command(after_help = format!("{}\n{}", crate::commands::import::FORM, columns()))]
 pub struct Import {
     /// The book to change
     pub book: PathBuf,
@@ -159,7 +164,7 @@ pub struct Import {
 }
 
 #[derive(Args, Debug)]
-#[command(after_help = seddolki_text::meanings())]
+#[command(after_help = columns())]
 pub struct Amend {
     /// The book to change
     pub book: PathBuf,

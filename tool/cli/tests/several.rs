@@ -116,9 +116,15 @@ fn tables_are_there_for_programs_also_where_every_book_is_refused() {
     desk.write("bad.book", [0; 1024]);
     let run = desk.run(&["margin", "--json", "bad.book"]);
     let tables: serde_json::Value = serde_json::from_str(&run.out).unwrap();
-    assert_eq!((run.status, tables["curves"].as_array().unwrap().len()), (REFUSED, 0));
+    assert_eq!(
+        (run.status, tables["curves"].as_array().unwrap().len()),
+        (REFUSED, 0)
+    );
     let run = desk.run(&["check", "--json", "bad.book"]);
     let tables: serde_json::Value = serde_json::from_str(&run.out).unwrap();
     let row = &tables["books"][0];
-    assert_eq!((&row["accepted"], &row["ground"]), (&false.into(), &2.into()));
+    assert_eq!(
+        (&row["accepted"], &row["ground"]),
+        (&false.into(), &2.into())
+    );
 }

@@ -274,3 +274,52 @@ fn what_another_program_writes_meanwhile_is_not_lost() {
     assert_eq!(fs::read(&book).unwrap(), b"the other's");
     assert_eq!(names(folder.path()), ["desk.book"]);
 }
+
+/// An access list as the system stores it: the owner and user 1000 may read
+/// and write, the owning group and others may nothing.
+fn access_list() -> Vec<u8> {
+    let entries = [
+        (1, 6, !0),
+        (2, 6, 1000),
+        (4, 0, !0),
+        (16, 6, !0),
+        (32, 0, !0),
+    ];
+    let mut bytes = 2_u32.to_le_bytes().to_vec();
+    for (tag, rights, user) in entries {
+        bytes.extend(u16::to_le_bytes(tag));
+        bytes.extend(u16::to_le_bytes(rights));
+        bytes.extend(u32::to_le_bytes(user));
+    }
+    bytes
+}
+
+#[test]
+fn access_lists_and_attributes_stay() {
+    let (_folder, book) = folder_with("desk.book", b"old");
+    let kept = [
+        ("user.note", b"checked".to_vec()),
+        ("system.posix_acl_access", access_list()),
+    ];
+    for (name, value) in &kept {
+        xattr::set(&book, name, value).expect("the test's folder has attributes");
+    }
+    let before = mode(&book);
+    assert_eq!(edit_to(&book, b"new").unwrap().warning, None);
+    assert_eq!(
+        (fs::read(&book).unwrap(), mode(&book)),
+        (b"new".to_vec(), before)
+    );
+    for (name, value) in kept {
+        assert_eq!(xattr::get(&book, name).unwrap(), Some(value), "{name}");
+    }
+}
+
+#[test]
+fn a_folder_s_access_list_does_not_come_to_its_books() {
+    let (folder, book) = folder_with("desk.book", b"old");
+    let name = "system.posix_acl_default";
+    xattr::set(folder.path(), name, &access_list()).expect("the test's folder has attributes");
+    assert_eq!(edit_to(&book, b"new").unwrap().warning, None);
+    assert_eq!(xattr::list(&book).unwrap().count(), 0);
+}

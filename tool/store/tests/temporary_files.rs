@@ -7,7 +7,7 @@ use common::{
     edit_to, folder_with, given, leftovers, make_fifo, names, open_folder, reason, run, state,
     Faults, AT_ONCE,
 };
-use seddolki_store::create;
+use seddolki_store::{create, read_at_most, write_output};
 use std::ffi::OsStr;
 use std::fs;
 use std::os::unix::ffi::OsStrExt;
@@ -125,4 +125,20 @@ fn whatever_fails_a_new_file_leaves_none() {
         ));
         assert!(names(folder.path()).is_empty(), "where {call} fails");
     }
+}
+
+#[test]
+fn a_file_with_such_a_name_is_refused_and_stays() {
+    let (folder, book) = folder_with(".seddolki-00112233445566778899aabbccddeeff", b"old");
+    let kept = "has a name that is kept for temporary files";
+    for failure in [
+        reason(edit_to(&book, b"new")),
+        reason(create(&book, b"new", &AT_ONCE)),
+        reason(read_at_most(&book, 10)),
+        reason(write_output(&book, b"new", true, &[], &AT_ONCE)),
+    ] {
+        assert!(failure.ends_with(kept), "{failure}");
+    }
+    assert_eq!(fs::read(&book).unwrap(), b"old");
+    assert_eq!(names(folder.path()).len(), 1);
 }
