@@ -1,6 +1,6 @@
 //! The commands and what they take.
 
-use crate::form::Form;
+use crate::printed::form::Form;
 use clap::{Args, Parser, Subcommand, ValueEnum};
 use seddolki::Ground;
 use std::path::PathBuf;

@@ -1,6 +1,6 @@
 //! How a command ends when it does not do what it was asked to.
 
-use crate::print;
+use crate::printed::print;
 use seddolki_store::Failure;
 
 /// The exit status of a command that did all it was asked to.

@@ -3,30 +3,20 @@
 #![forbid(unsafe_code)]
 
 mod arguments;
-mod books;
-mod chosen;
 mod commands;
-mod common_run;
+mod compared;
 mod cores;
-mod curves_text;
-mod differences;
 mod ended;
-mod form;
-mod keyed_twice;
-mod ladder;
-mod outputs;
-mod print;
-mod progress;
-mod refusal;
-mod table;
-mod trade_text;
-mod valued;
-mod words;
+mod figures;
+mod files;
+mod printed;
+mod trades;
 
 use arguments::Arguments;
 use clap::error::ErrorKind;
 use clap::Parser;
 use ended::Ended;
+use printed::print;
 use std::process::ExitCode;
 
 fn main() -> ExitCode {

@@ -1,13 +1,13 @@
 //! Columns of one trade changed.
 
 use crate::arguments::Amend;
-use crate::books::{accepted_parts, edit};
 use crate::ended::{Ended, DONE};
-use crate::keyed_twice::Told;
-use crate::print;
-use crate::refusal::record_refused;
-use crate::trade_text::{faults_told, named_values};
-use crate::words;
+use crate::files::books::{accepted_parts, edit};
+use crate::printed::print;
+use crate::trades::keyed::{faults_told, named_values};
+use crate::trades::keyed_twice::Told;
+use crate::trades::refusal::record_refused;
+use crate::trades::words;
 use seddolki::{doubles_at, Book, Ground, Placed, Record};
 use seddolki_format::assemble;
 use seddolki_model::accept;

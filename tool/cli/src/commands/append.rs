@@ -1,13 +1,13 @@
 //! One trade added.
 
 use crate::arguments::Append;
-use crate::books::{accepted_parts, edit};
 use crate::ended::{Ended, DONE};
-use crate::keyed_twice::Told;
-use crate::print;
-use crate::refusal::record_refused;
-use crate::trade_text::{faults_told, named_values};
-use crate::words;
+use crate::files::books::{accepted_parts, edit};
+use crate::printed::print;
+use crate::trades::keyed::{faults_told, named_values};
+use crate::trades::keyed_twice::Told;
+use crate::trades::refusal::record_refused;
+use crate::trades::words;
 use seddolki::{doubles_of, Placed};
 use seddolki_store::shown;
 use seddolki_text::trade::record_of;

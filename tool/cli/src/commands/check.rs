@@ -1,12 +1,12 @@
 //! Whether books keep every rule, and which trades look keyed twice.
 
 use crate::arguments::Check;
-use crate::books::{one_stream, read, BookFile};
 use crate::ended::Ended;
-use crate::progress::over_books;
-use crate::refusal::book_refused;
-use crate::table::{Table, Value};
-use crate::words::{self, count};
+use crate::files::books::{one_stream, read, BookFile};
+use crate::printed::progress::over_books;
+use crate::printed::table::{Table, Value};
+use crate::trades::refusal::book_refused;
+use crate::trades::words::{self, count};
 use seddolki::{doubles, Double, Likeness, Refusal};
 use std::path::Path;
 

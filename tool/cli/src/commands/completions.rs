@@ -2,7 +2,7 @@
 
 use crate::arguments::{Arguments, Completions};
 use crate::ended::{Ended, DONE};
-use crate::print;
+use crate::printed::print;
 use clap::CommandFactory;
 use clap_complete::Shell;
 

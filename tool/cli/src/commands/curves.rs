@@ -1,11 +1,11 @@
 //! The curves of a book replaced.
 
 use crate::arguments::Curves;
-use crate::books::{accepted_parts, edit, text};
-use crate::curves_text::{book_of, read_curves};
 use crate::ended::{Ended, DONE};
-use crate::print;
-use crate::words::count;
+use crate::files::books::{accepted_parts, edit, text};
+use crate::files::curve_files::{book_of, read_curves};
+use crate::printed::print;
+use crate::trades::words::count;
 use seddolki_store::shown;
 
 pub fn run(arguments: &Curves) -> Result<u8, Ended> {

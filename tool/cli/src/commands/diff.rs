@@ -1,10 +1,10 @@
 //! What two books differ in.
 
 use crate::arguments::Diff;
-use crate::books::{accepted, one_stream};
-use crate::differences::differences;
+use crate::compared::differences::differences;
 use crate::ended::{Ended, DONE};
-use crate::table::Table;
+use crate::files::books::{accepted, one_stream};
+use crate::printed::table::Table;
 
 pub fn run(arguments: &Diff) -> Result<u8, Ended> {
     one_stream(&[&arguments.book, &arguments.other])?;

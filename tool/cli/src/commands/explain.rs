@@ -1,10 +1,10 @@
 //! A ground of refusal in words, and where it applies.
 
 use crate::arguments::Explain;
-use crate::books::LARGEST;
 use crate::ended::{Ended, DONE};
-use crate::print;
-use crate::refusal::book_refused;
+use crate::files::books::LARGEST;
+use crate::printed::print;
+use crate::trades::refusal::book_refused;
 use seddolki::{Book, Ground};
 use seddolki_model::rule;
 use seddolki_store::{read_at_most, shown};

@@ -1,10 +1,11 @@
 //! A book as text that can be read back.
 
 use crate::arguments::Export;
-use crate::books::{accepted, is_stream};
 use crate::ended::{Ended, DONE};
-use crate::words::count;
-use crate::{outputs, print};
+use crate::files::books::{accepted, is_stream};
+use crate::files::outputs;
+use crate::printed::print;
+use crate::trades::words::count;
 use seddolki_store::shown;
 use seddolki_text::{curve_file, trades_file, Separator};
 

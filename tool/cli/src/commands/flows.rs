@@ -1,11 +1,11 @@
 //! The net cash flow ladder.
 
 use crate::arguments::Flows;
-use crate::books::accepted;
-use crate::chosen::chosen_curves;
 use crate::ended::{Ended, DONE};
-use crate::ladder::{ladder, Sums};
-use crate::table::{Table, Value};
+use crate::figures::chosen::chosen_curves;
+use crate::figures::ladder::{ladder, Sums};
+use crate::files::books::accepted;
+use crate::printed::table::{Table, Value};
 use seddolki_format::report::currency_name;
 
 const COLUMNS: [&str; 6] = ["curve", "currency", "day", "in", "out", "net"];

@@ -1,13 +1,13 @@
 //! Trades added from a CSV file.
 
 use crate::arguments::Import;
-use crate::books::{accepted_parts, edit, one_stream, text};
 use crate::ended::{Ended, DONE};
-use crate::keyed_twice::{Told, MEANT};
-use crate::print;
-use crate::refusal::record_refused;
-use crate::trade_text::faults_told;
-use crate::words::count;
+use crate::files::books::{accepted_parts, edit, one_stream, text};
+use crate::printed::print;
+use crate::trades::keyed::faults_told;
+use crate::trades::keyed_twice::{Told, MEANT};
+use crate::trades::refusal::record_refused;
+use crate::trades::words::count;
 use seddolki::{doubles_among, stands_already, Book, Ground, Placed, Record};
 use seddolki_format::block::Curve;
 use seddolki_store::{shown, Input};

@@ -1,12 +1,12 @@
 //! Losses by scenario, and by trade.
 
 use crate::arguments::Losses;
-use crate::books::{accepted, BookFile};
-use crate::chosen::chosen_curves;
 use crate::ended::{Ended, DONE};
-use crate::table::{Table, Value};
-use crate::valued::{valued, Valued};
-use crate::words;
+use crate::figures::chosen::chosen_curves;
+use crate::figures::valued::{valued, Valued};
+use crate::files::books::{accepted, BookFile};
+use crate::printed::table::{Table, Value};
+use crate::trades::words;
 use seddolki_format::report::currency_name;
 
 pub fn run(arguments: &Losses) -> Result<u8, Ended> {

@@ -2,8 +2,8 @@
 
 use crate::arguments::{Arguments, DAY, STATUSES};
 use crate::ended::{Ended, DONE};
-use crate::keyed_twice::KINDS;
-use crate::print;
+use crate::printed::print;
+use crate::trades::keyed_twice::KINDS;
 use clap::{Arg, Command, CommandFactory};
 
 pub fn run() -> Result<u8, Ended> {

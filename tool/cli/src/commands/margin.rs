@@ -1,10 +1,10 @@
 //! The margin of books as a dealer reads it.
 
 use crate::arguments::Margin;
-use crate::books::{accepted, one_stream, BookFile};
 use crate::ended::Ended;
-use crate::progress::over_books;
-use crate::table::{Table, Value};
+use crate::files::books::{accepted, one_stream, BookFile};
+use crate::printed::progress::over_books;
+use crate::printed::table::{Table, Value};
 use seddolki::{CurrencyFigures, CurveFigures, Report};
 use seddolki_format::block::Curve;
 use seddolki_format::report::{currency_name, CURRENCIES};

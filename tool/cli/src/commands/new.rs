@@ -1,11 +1,11 @@
 //! A new book of curves alone.
 
 use crate::arguments::New;
-use crate::books::{is_stream, patience, settled, text};
-use crate::curves_text::{book_of, read_curves};
 use crate::ended::{Ended, DONE};
-use crate::print;
-use crate::words::count;
+use crate::files::books::{is_stream, patience, settled, text};
+use crate::files::curve_files::{book_of, read_curves};
+use crate::printed::print;
+use crate::trades::words::count;
 use seddolki_store::{self as store, shown};
 
 pub fn run(arguments: &New) -> Result<u8, Ended> {

@@ -1,13 +1,14 @@
 //! Pictures of a curve.
 
 use crate::arguments::Plot;
-use crate::books::{accepted, is_stream, BookFile};
-use crate::chosen::curve;
 use crate::ended::{Ended, DONE};
-use crate::ladder::ladder;
-use crate::valued::{valued, Valued};
-use crate::words::count;
-use crate::{outputs, print};
+use crate::figures::chosen::curve;
+use crate::figures::ladder::ladder;
+use crate::figures::valued::{valued, Valued};
+use crate::files::books::{accepted, is_stream, BookFile};
+use crate::files::outputs;
+use crate::printed::print;
+use crate::trades::words::count;
 use seddolki::CurveFigures;
 use seddolki_chart::{DayFlows, Heading, Losses, Node, Rates};
 use seddolki_format::block::{self, Curve};

@@ -1,11 +1,11 @@
 //! The curves and trades of a book, in words.
 
 use crate::arguments::Show;
-use crate::books::accepted;
 use crate::ended::{Ended, DONE};
-use crate::table::{Table, Value};
-use crate::trade_text::cells;
-use crate::words::{self, count};
+use crate::files::books::accepted;
+use crate::printed::table::{Table, Value};
+use crate::trades::keyed::cells;
+use crate::trades::words::{self, count};
 use seddolki::Record;
 use seddolki_format::block::Curve;
 use seddolki_format::report::currency_name;

@@ -1,10 +1,10 @@
 //! One trade removed.
 
 use crate::arguments::Strike;
-use crate::books::edit;
 use crate::ended::{Ended, DONE};
-use crate::print;
-use crate::words::trade;
+use crate::files::books::edit;
+use crate::printed::print;
+use crate::trades::words::trade;
 use seddolki_store::shown;
 
 pub fn run(arguments: &Strike) -> Result<u8, Ended> {

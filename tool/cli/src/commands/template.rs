@@ -1,9 +1,10 @@
 //! Files to start from.
 
 use crate::arguments::{Kind, Template};
-use crate::books::is_stream;
 use crate::ended::{Ended, DONE};
-use crate::{outputs, print};
+use crate::files::books::is_stream;
+use crate::files::outputs;
+use crate::printed::print;
 use seddolki_store::shown;
 use seddolki_text::template;
 

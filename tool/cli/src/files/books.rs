@@ -2,8 +2,8 @@
 
 use crate::arguments::Waiting;
 use crate::ended::Ended;
-use crate::print;
-use crate::refusal::book_refused;
+use crate::printed::print;
+use crate::trades::refusal::book_refused;
 use seddolki::Book;
 use seddolki_format::block::BLOCK;
 use seddolki_format::limits::MAX_BLOCKS;

@@ -1,8 +1,8 @@
 //! Files that the tool writes besides books.
 
 use crate::arguments::Output;
-use crate::books::{patience, settled};
 use crate::ended::Ended;
+use crate::files::books::{patience, settled};
 use seddolki_store::{self as store, Input};
 use std::path::Path;
 

@@ -1,8 +1,8 @@
 //! Trades that look keyed twice.
 
 use crate::ended::Ended;
-use crate::print;
-use crate::words;
+use crate::printed::print;
+use crate::trades::words;
 use seddolki::{Double, Placed};
 
 /// What is looked for.

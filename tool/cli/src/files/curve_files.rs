@@ -1,8 +1,8 @@
 //! Books from files of curves.
 
 use crate::ended::Ended;
-use crate::refusal::{book_refused, by_ground, where_and_why};
-use crate::trade_text::faults_told;
+use crate::trades::keyed::faults_told;
+use crate::trades::refusal::{book_refused, by_ground, where_and_why};
 use seddolki::{Book, Record};
 use seddolki_format::assemble;
 use seddolki_model::{BookFault, Fault};

@@ -50,7 +50,7 @@ impl Value {
     fn for_people(&self) -> String {
         match self {
             Value::Nothing => String::new(),
-            Value::Text(text) => crate::print::visible(text).replace('\n', "\\n"),
+            Value::Text(text) => crate::printed::print::visible(text).replace('\n', "\\n"),
             Value::Whole(number) => decimal::format(*number, 0),
             Value::Id(number) => number.to_string(),
             Value::Flag(flag) => if *flag { "yes" } else { "" }.to_owned(),

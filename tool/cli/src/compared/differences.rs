@@ -1,9 +1,9 @@
 //! What one book has and another has not.
 
-use crate::common_run::{replaced, Replaced};
-use crate::table::{Table, Value};
-use crate::trade_text::cells;
-use crate::words;
+use crate::compared::common_run::{replaced, Replaced};
+use crate::printed::table::{Table, Value};
+use crate::trades::keyed::cells;
+use crate::trades::words;
 use seddolki::Record;
 use seddolki_format::block::{Curve, Node};
 use seddolki_format::report::currency_name;

@@ -1,7 +1,7 @@
 //! Refusals in words: the verdict is the engine's, and the second
 //! implementation says where and why.
 
-use crate::words::count;
+use crate::trades::words::count;
 use seddolki::{Book, Ground, Record, Refusal};
 use seddolki_format::block::Curve;
 use seddolki_format::limits::{FULL_BLOCK, MAX_BLOCKS};

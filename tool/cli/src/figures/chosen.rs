@@ -1,7 +1,7 @@
 //! The curves that a command speaks of.
 
-use crate::books::BookFile;
 use crate::ended::Ended;
+use crate::files::books::BookFile;
 use seddolki_format::block::Curve;
 
 /// All curves of a book, or the one with an id.

@@ -1,8 +1,8 @@
 //! The form in which tables are printed.
 
 use crate::ended::Ended;
-use crate::print;
-use crate::table::{csv, json, Table};
+use crate::printed::print;
+use crate::printed::table::{csv, json, Table};
 use clap::Args;
 use seddolki_text::decimal::Decimals;
 

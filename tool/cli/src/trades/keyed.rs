@@ -1,7 +1,7 @@
 //! Trades that were keyed, and trades as cells.
 
 use crate::ended::Ended;
-use crate::table::Value;
+use crate::printed::table::Value;
 use seddolki::Record;
 use seddolki_text::{Column, Decimals, Fault, Unit, COLUMNS};
 

@@ -2,9 +2,9 @@
 //! second implementation works them out; a worst loss that is not the
 //! engine's is never shown.
 
-use crate::books::BookFile;
 use crate::cores::on_all_cores;
 use crate::ended::Ended;
+use crate::files::books::BookFile;
 use seddolki::CurveFigures;
 use seddolki_format::block::{Curve, Node};
 use seddolki_model::curve::rate_on;

@@ -1,0 +1,4 @@
+//! Two books beside each other.
+
+mod common_run;
+pub mod differences;

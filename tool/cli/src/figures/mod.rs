@@ -1,0 +1,5 @@
+//! Figures that are shown of a curve.
+
+pub mod chosen;
+pub mod ladder;
+pub mod valued;

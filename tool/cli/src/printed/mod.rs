@@ -1,0 +1,6 @@
+//! What is printed, for people and for programs.
+
+pub mod form;
+pub mod print;
+pub mod progress;
+pub mod table;
