@@ -2,7 +2,7 @@
 
 use crate::arguments::Amend;
 use crate::ended::{Ended, DONE};
-use crate::files::books::{accepted_parts, edit};
+use crate::files::books::edit;
 use crate::printed::print;
 use crate::trades::keyed::{faults_told, named_values};
 use crate::trades::keyed_twice::Told;
@@ -19,16 +19,16 @@ use seddolki_text::Decimals;
 pub fn run(arguments: &Amend) -> Result<u8, Ended> {
     let given = named_values(&arguments.values)?;
     let position = arguments.position;
-    let (record, notes) = edit(&arguments.book, arguments.waiting, |name, book| {
-        let mut parts = accepted_parts(name, book)?;
-        let record = changed(name, &parts, position, &given)?;
+    let name = shown(&arguments.book);
+    let (record, notes) = edit(&arguments.book, arguments.waiting, |book, mut parts| {
+        let record = changed(&name, &parts, position, &given)?;
         parts.trades[position] = record;
-        *book = judged(name, &parts, &record)?;
+        *book = judged(&name, &parts, &record)?;
         let doubles = doubles_at(&parts.trades, position);
         let named = |trade: &Placed| trade.to_string();
         Ok((record, Told::of(&doubles, arguments.again.again, named)?))
     })?;
-    let (name, words) = (shown(&arguments.book), words::trade(&record));
+    let words = words::trade(&record);
     print::notice(&format!("{name}: trade {position} is now: {words}"));
     notes.say();
     Ok(DONE)

@@ -2,7 +2,7 @@
 
 use crate::arguments::Append;
 use crate::ended::{Ended, DONE};
-use crate::files::books::{accepted_parts, edit};
+use crate::files::books::edit;
 use crate::printed::print;
 use crate::trades::keyed::{faults_told, named_values};
 use crate::trades::keyed_twice::Told;
@@ -18,8 +18,7 @@ pub fn run(arguments: &Append) -> Result<u8, Ended> {
     let given = named_values(&arguments.values)?;
     let record = record_of(&given, Decimals::Point);
     let record = record.map_err(|faults| faults_told(&name, &faults))?;
-    let (position, notes) = edit(&arguments.book, arguments.waiting, |name, book| {
-        let parts = accepted_parts(name, book)?;
+    let (position, notes) = edit(&arguments.book, arguments.waiting, |book, parts| {
         let position = book.append(&record).map_err(|refusal| {
             let reason = record_refused(&record, &parts.curves, refusal);
             Ended::refused(format!("{name}: {reason}"))

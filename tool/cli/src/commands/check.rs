@@ -45,7 +45,7 @@ fn checked(path: &Path) -> Result<Checked, Ended> {
     let (input, book) = read(path)?;
     let name = input.name.clone();
     let verdict = match book.check() {
-        Ok(()) => Ok(BookFile::of(input, book)),
+        Ok(()) => Ok(BookFile::of(input, book)?),
         Err(refusal) => {
             let why = book_refused(&book, refusal);
             Err(Refused { refusal, why })

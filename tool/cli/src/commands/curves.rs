@@ -2,7 +2,7 @@
 
 use crate::arguments::Curves;
 use crate::ended::{Ended, DONE};
-use crate::files::books::{accepted_parts, edit, text};
+use crate::files::books::{edit, text};
 use crate::files::curve_files::{book_of, read_curves};
 use crate::printed::print;
 use crate::trades::words::count;
@@ -12,8 +12,8 @@ pub fn run(arguments: &Curves) -> Result<u8, Ended> {
     let input = text(&arguments.file)?;
     let from = shown(&arguments.file);
     let file = read_curves(&from, &input)?;
-    let (before, trades) = edit(&arguments.book, arguments.waiting, |name, book| {
-        let parts = accepted_parts(name, book)?;
+    let name = shown(&arguments.book);
+    let (before, trades) = edit(&arguments.book, arguments.waiting, |book, parts| {
         if parts.account != file.account {
             let (account, other) = (parts.account, file.account);
             let reason = format!("{from}: account {other}, and {name} is of account {account}");
@@ -22,7 +22,6 @@ pub fn run(arguments: &Curves) -> Result<u8, Ended> {
         *book = book_of(&from, &file, &parts.trades)?;
         Ok((parts.curves.len(), parts.trades.len()))
     })?;
-    let name = shown(&arguments.book);
     let (curves, trades) = (count(before, "curve"), count(trades, "trade"));
     let now = file.curves.len();
     print::notice(&format!(

@@ -2,7 +2,7 @@
 
 use crate::arguments::Import;
 use crate::ended::{Ended, DONE};
-use crate::files::books::{accepted_parts, edit, one_stream, text};
+use crate::files::books::{edit, one_stream, text};
 use crate::printed::print;
 use crate::trades::keyed::faults_told;
 use crate::trades::keyed_twice::{Told, MEANT};
@@ -31,11 +31,10 @@ struct Lines {
 }
 
 pub fn run(arguments: &Import) -> Result<u8, Ended> {
-    let lines = read(arguments)?;
-    let (first, notes) = edit(&arguments.book, arguments.waiting, |name, book| {
-        let parts = accepted_parts(name, book)?;
+    let (lines, name) = (read(arguments)?, shown(&arguments.book));
+    let (first, notes) = edit(&arguments.book, arguments.waiting, |book, parts| {
         if !arguments.again.again {
-            lines.not_there_already(name, &parts.trades)?;
+            lines.not_there_already(&name, &parts.trades)?;
         }
         append_all(book, &parts.curves, &lines)?;
         let doubles = doubles_among(&parts.trades, &lines.records);
@@ -43,7 +42,6 @@ pub fn run(arguments: &Import) -> Result<u8, Ended> {
         let notes = Told::of(&doubles, arguments.again.again, named)?;
         Ok((parts.trades.len(), notes))
     })?;
-    let name = shown(&arguments.book);
     print::notice(&format!("{name}: {}", added(first, lines.records.len())));
     notes.say();
     Ok(DONE)

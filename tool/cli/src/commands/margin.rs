@@ -38,8 +38,7 @@ pub fn run(arguments: &Margin) -> Result<u8, Ended> {
 
 fn margined(path: &Path) -> Result<Margined, Ended> {
     let file = accepted(path)?;
-    let report = file.book.margin();
-    let report = report.map_err(|refusal| Ended::refused(format!("{}: {refusal}", file.name)))?;
+    let report = file.margin()?;
     Ok(Margined { file, report })
 }
 

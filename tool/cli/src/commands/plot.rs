@@ -73,9 +73,7 @@ impl Words {
 }
 
 fn rates(file: &BookFile, curve: &Curve) -> Result<String, Ended> {
-    let report = file.book.margin();
-    let report = report.map_err(|refusal| Ended::refused(format!("{}: {refusal}", file.name)))?;
-    let figures = report.curves[usize::from(curve.id) - 1];
+    let figures = file.margin()?.curves[usize::from(curve.id) - 1];
     let scenarios = scenarios(curve);
     let stressed = |scenario| nodes(&stressed_nodes(curve.nodes(), scenario));
     let stressed: Vec<Vec<Node>> = scenarios.iter().map(stressed).collect();

@@ -9,13 +9,14 @@ use seddolki_store::shown;
 
 pub fn run(arguments: &Strike) -> Result<u8, Ended> {
     let position = arguments.position;
-    let struck = edit(&arguments.book, arguments.waiting, |name, book| {
+    let name = shown(&arguments.book);
+    let struck = edit(&arguments.book, arguments.waiting, |book, _| {
         let record = book.read(position);
         book.strike(position)
             .and(record)
             .map_err(|refusal| Ended::refused(format!("{name}: position {position}: {refusal}")))
     })?;
-    let (name, words) = (shown(&arguments.book), trade(&struck));
+    let words = trade(&struck);
     print::notice(&format!("{name}: trade {position} is struck: {words}"));
     Ok(DONE)
 }

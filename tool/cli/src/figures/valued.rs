@@ -30,8 +30,7 @@ pub struct Part {
 
 /// The curves valued, on all cores.
 pub fn valued<'a>(file: &BookFile, curves: &[&'a Curve]) -> Result<Vec<Valued<'a>>, Ended> {
-    let report = file.book.margin();
-    let report = report.map_err(|refusal| Ended::refused(format!("{}: {refusal}", file.name)))?;
+    let report = file.margin()?;
     let one = |curve: &&'a Curve| {
         let figures = report.curves[usize::from(curve.id) - 1];
         let valuation = valuation(curve, &file.parts.flows_on(curve));

@@ -4,7 +4,7 @@ use crate::arguments::Waiting;
 use crate::ended::Ended;
 use crate::printed::print;
 use crate::trades::refusal::book_refused;
-use seddolki::Book;
+use seddolki::{Book, Report};
 use seddolki_format::block::BLOCK;
 use seddolki_format::limits::MAX_BLOCKS;
 use seddolki_model::accept::{self, accept};
@@ -29,13 +29,19 @@ pub struct BookFile {
 
 impl BookFile {
     /// Of a book that the engine has accepted.
-    pub fn of(input: Input, book: Book) -> Self {
-        BookFile {
+    pub fn of(input: Input, book: Book) -> Result<Self, Ended> {
+        Ok(BookFile {
             name: input.name.clone(),
-            parts: parts(&book),
+            parts: parts(&input.name, &book)?,
             input,
             book,
-        }
+        })
+    }
+
+    /// The margin of the book.
+    pub fn margin(&self) -> Result<Report, Ended> {
+        let refused = |refusal| Ended::refused(format!("{}: {refusal}", self.name));
+        self.book.margin().map_err(refused)
     }
 }
 
@@ -50,7 +56,7 @@ pub fn read(path: &Path) -> Result<(Input, Book), Failure> {
 pub fn accepted(path: &Path) -> Result<BookFile, Ended> {
     let (input, book) = read(path)?;
     accept_book(&input.name, &book)?;
-    Ok(BookFile::of(input, book))
+    BookFile::of(input, book)
 }
 
 fn accept_book(name: &str, book: &Book) -> Result<(), Ended> {
@@ -58,15 +64,11 @@ fn accept_book(name: &str, book: &Book) -> Result<(), Ended> {
         .map_err(|refusal| Ended::refused(format!("{name}: {}", book_refused(book, refusal))))
 }
 
-fn parts(book: &Book) -> accept::Book {
+/// The parts of a book that the engine has accepted.
+fn parts(name: &str, book: &Book) -> Result<accept::Book, Ended> {
     let bytes = book.as_bytes();
-    accept(bytes, bytes.len()).expect("the engine has accepted the book")
-}
-
-/// The parts of a book that the engine accepts.
-pub fn accepted_parts(name: &str, book: &Book) -> Result<accept::Book, Ended> {
-    accept_book(name, book)?;
-    Ok(parts(book))
+    let reason = "accepted by the engine, and not by the second implementation";
+    accept(bytes, bytes.len()).map_err(|_| Ended::Failed(format!("{name}: {reason}")))
 }
 
 /// The text of a file.
@@ -79,11 +81,12 @@ pub fn text(path: &Path) -> Result<Input, Ended> {
     Ok(input)
 }
 
-/// Edits the book in a file. Where the edit is refused, the file stays.
+/// Edits the book in a file; `change` gets the book and its parts. Where the
+/// edit is refused, the file stays.
 pub fn edit<T>(
     path: &Path,
     waiting: Waiting,
-    change: impl FnOnce(&str, &mut Book) -> Result<T, Ended>,
+    change: impl FnOnce(&mut Book, accept::Book) -> Result<T, Ended>,
 ) -> Result<T, Ended> {
     if is_stream(path) {
         let reason = "an edit takes a book in a file, and not standard input";
@@ -92,9 +95,10 @@ pub fn edit<T>(
     let name = shown(path);
     let edited = store::edit(path, LARGEST, &patience(waiting), |bytes| {
         let mut book = Book::from_bytes(bytes);
-        accepted_parts(&name, &book)?;
-        let given = change(&name, &mut book)?;
-        Ok::<_, Ended>((book.as_bytes().to_vec(), given))
+        accept_book(&name, &book)?;
+        let parts = parts(&name, &book)?;
+        let result = change(&mut book, parts)?;
+        Ok::<_, Ended>((book.as_bytes().to_vec(), result))
     })?;
     Ok(settled(edited))
 }
