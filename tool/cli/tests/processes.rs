@@ -4,8 +4,8 @@ mod tool;
 
 use seddolki::Book;
 use std::fs::File;
+use std::io::{BufRead, BufReader};
 use std::process::Stdio;
-use std::thread::sleep;
 use std::time::{Duration, Instant};
 use tool::{example, outright, Desk, DONE, FAILED};
 
@@ -72,18 +72,15 @@ fn a_lock_that_is_let_go_in_time_is_taken() {
     let held = File::open(desk.path(".")).unwrap();
     held.lock().unwrap();
     let mut command = desk.tool(&["strike", "buyer.book", "0"]);
-    let child = command
-        .stdout(Stdio::null())
-        .stderr(Stdio::piped())
-        .spawn()
-        .unwrap();
-    sleep(Duration::from_millis(400));
+    command.stdout(Stdio::null()).stderr(Stdio::piped());
+    let mut child = command.spawn().unwrap();
+    let mut told = String::new();
+    let mut lines = BufReader::new(child.stderr.take().unwrap());
+    lines.read_line(&mut told).unwrap();
+    assert!(told.contains("waiting up to 10 s"), "{told}");
+    assert_eq!(desk.trades("buyer.book"), 1);
     drop(held);
-    let output = child.wait_with_output().unwrap();
-    assert_eq!(output.status.code(), Some(DONE));
-    assert!(String::from_utf8(output.stderr)
-        .unwrap()
-        .contains("waiting up to 10 s"));
+    assert_eq!(child.wait().unwrap().code(), Some(DONE));
     assert_eq!(desk.trades("buyer.book"), 0);
 }
 

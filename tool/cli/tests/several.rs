@@ -96,21 +96,6 @@ fn many_books_are_margined_as_each_alone() {
 }
 
 #[test]
-fn where_no_thread_can_be_started_one_core_does_it() {
-    let desk = desk_with_books();
-    for command in [
-        "margin buyer.book desk.book",
-        "check buyer.book desk.book",
-        "losses desk.book",
-    ] {
-        let alone = desk.shell(&format!("ulimit -v 24000; \"$0\" {command}"));
-        assert_eq!(alone.status, DONE, "{command}: {}", alone.err);
-        let usual = desk.shell(&format!("\"$0\" {command}"));
-        assert_eq!(alone.out, usual.out);
-    }
-}
-
-#[test]
 fn tables_are_there_for_programs_also_where_every_book_is_refused() {
     let desk = Desk::new();
     desk.write("bad.book", [0; 1024]);
