@@ -290,7 +290,9 @@ typedef struct {
  * A curve. Blocks 1 on, one for each curve of the header. A scenario takes
  * for each component i a j from -steps[i] to steps[i], and adds to the rate
  * of each node j * ranges[i] / steps[i] hundredths of component i, nothing
- * where steps[i] is 0.
+ * where steps[i] is 0. Each of these quotients is cut towards zero, and so is
+ * the hundredth part of their sum with the components; the rate is then
+ * brought into 0 to MAX_RATE.
  */
 typedef struct {
     uint8_t kind;                             /* 0: CURVE_KIND */

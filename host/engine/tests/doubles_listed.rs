@@ -108,7 +108,8 @@ fn found_in_full_book(trade_at: impl Fn(u64) -> Record) -> Found {
     let found = found_in(&trades);
     let taken = start.elapsed();
     println!("{} doubles in {taken:?}", found.len());
-    assert!(cfg!(debug_assertions) || taken < Duration::from_secs(1));
+    // some hundredths of a second; a search by all pairs of pairs would not end
+    assert!(taken < Duration::from_secs(60));
     found
 }
 

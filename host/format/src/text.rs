@@ -47,6 +47,12 @@ fn separated(digits: &str, thousands: Option<char>) -> String {
     text
 }
 
+/// A number of things.
+pub fn count(number: usize, thing: &str) -> String {
+    let plural = if number == 1 { "" } else { "s" };
+    format!("{} {thing}{plural}", decimal(number as i128, 0))
+}
+
 /// Items with commas between them, the last two with a word.
 pub fn listed(items: impl IntoIterator<Item = impl Display>, word: &str) -> String {
     let items: Vec<String> = items.into_iter().map(|item| item.to_string()).collect();
@@ -74,6 +80,12 @@ mod tests {
             "1.234.567,89"
         );
         assert_eq!(decimal_with(',', None, 123_456_789, MONEY), "1234567,89");
+    }
+
+    #[test]
+    fn things_are_counted() {
+        assert_eq!(count(1, "trade"), "1 trade");
+        assert_eq!(count(1_134, "trade"), "1,134 trades");
     }
 
     #[test]

@@ -1,12 +1,13 @@
 //! The losses of a curve by scenario.
 
 use crate::heading::Heading;
-use crate::numbers::{money, units};
+use crate::numbers::units;
 use crate::page::{page, Area, Drawn};
 use crate::panel::{Axis, Panel, Point};
 use crate::scale::Scale;
 use crate::style::{Look, Marker, BLUE, VERMILLION};
 use plotters::style::text_anchor::HPos;
+use seddolki_format::text::{decimal, MONEY};
 
 /// Losses by scenario, the first worst marked.
 #[derive(Clone, Copy, Debug)]
@@ -87,7 +88,10 @@ impl Losses<'_> {
         panel.line(vec![(point.0, 0.0), point], &look)?;
         panel.points(&[point], &look)?;
         let currency = self.heading.currency;
-        let text = format!("worst: scenario {worst}, {} {currency}", money(loss));
+        let text = format!(
+            "worst: scenario {worst}, {} {currency}",
+            decimal(loss, MONEY)
+        );
         panel.label((point.0, point.1.max(0.0)), self.side(worst), &text)
     }
 

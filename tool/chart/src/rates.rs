@@ -2,12 +2,13 @@
 
 use crate::heading::Heading;
 use crate::legend::legend;
-use crate::numbers::{count, units};
+use crate::numbers::units;
 use crate::page::{page, Area, Drawn};
 use crate::panel::{Axis, Panel, Point};
 use crate::scale::Scale;
 use crate::style::{Look, Marker, BLUE, GREY, ORANGE, VERMILLION};
 use plotters::prelude::{Color, BLACK};
+use seddolki_format::text::count;
 
 /// A node of a curve.
 #[derive(Clone, Copy, Debug)]

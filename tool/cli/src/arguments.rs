@@ -6,16 +6,14 @@ use seddolki::Ground;
 use std::path::PathBuf;
 
 /// A back office's day, from an empty folder to a margin.
-pub const DAY: &str = "\
-  seddolki template curves curves.txt
+pub const DAY: &str = "  seddolki template curves curves.txt
   seddolki template trades trades.csv
   seddolki new desk.book curves.txt
   seddolki import desk.book trades.csv
   seddolki margin desk.book";
 
 /// What an exit status says.
-pub const STATUSES: &str = "\
-  0  done
+pub const STATUSES: &str = "  0  done
   1  refused, by a ground of the engine or by a rule of what was put in
   2  wrong usage
   3  a file or the system failed; nothing has changed
@@ -212,7 +210,7 @@ pub struct Books {
 
 /// A book to read.
 #[derive(Args, Clone, Debug)]
-pub struct One {
+pub struct OneBook {
     /// The book; - is standard input
     pub book: PathBuf,
 }
@@ -231,7 +229,7 @@ pub struct Check {
 #[derive(Args, Debug)]
 pub struct Show {
     #[command(flatten)]
-    pub one: One,
+    pub one: OneBook,
     #[command(flatten)]
     pub form: Form,
 }
@@ -248,7 +246,7 @@ pub struct Margin {
 #[derive(Args, Debug)]
 pub struct Flows {
     #[command(flatten)]
-    pub one: One,
+    pub one: OneBook,
     /// Only the curve with this id
     #[arg(long, value_name = "ID", value_parser = curve_id)]
     pub curve: Option<u8>,
@@ -259,7 +257,7 @@ pub struct Flows {
 #[derive(Args, Debug)]
 pub struct Losses {
     #[command(flatten)]
-    pub one: One,
+    pub one: OneBook,
     /// Only the curve with this id
     #[arg(long, value_name = "ID", value_parser = curve_id)]
     pub curve: Option<u8>,
@@ -283,7 +281,7 @@ pub struct Diff {
 #[derive(Args, Debug)]
 pub struct Export {
     #[command(flatten)]
-    pub one: One,
+    pub one: OneBook,
     /// The file to write; - is standard output
     #[arg(default_value = "-")]
     pub file: PathBuf,
@@ -300,7 +298,7 @@ pub struct Export {
 #[derive(Args, Debug)]
 pub struct Plot {
     #[command(flatten)]
-    pub one: One,
+    pub one: OneBook,
     /// The curve's id
     #[arg(value_parser = curve_id)]
     pub curve: u8,

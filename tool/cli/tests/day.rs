@@ -33,6 +33,11 @@ fn margin_of_the_day(commands: &[&str]) -> String {
 #[test]
 fn the_help_shows_a_day_that_runs_as_written() {
     let help = Desk::new().done(&["help"]);
+    assert!(
+        help.contains("\n  seddolki template curves curves.txt\n"),
+        "{help}"
+    );
+    assert!(help.contains("\n  0  done\n"), "{help}");
     let margin = margin_of_the_day(&commands(&help));
     assert!(
         margin.starts_with("account ") && margin.contains("\ncurrency"),
@@ -94,6 +99,25 @@ fn the_completions_are_taken_by_bash() {
     let run = desk.shell("source <(\"$0\" completions bash) && complete -p seddolki");
     assert_eq!(run.status, 0, "{}", run.err);
     assert!(run.out.contains("seddolki"), "{}", run.out);
+}
+
+#[test]
+fn files_are_completed_where_books_are_due_and_options_behind_dashes() {
+    let desk = Desk::new();
+    let completed = |words: &str| {
+        let run = desk.shell(&format!(
+            "source <(\"$0\" completions bash); COMP_WORDS=({words}); \
+             COMP_CWORD=$(( ${{#COMP_WORDS[@]}} - 1 )); _seddolki seddolki; echo \"${{COMPREPLY[*]}}\""
+        ));
+        assert_eq!((run.status, run.err.as_str()), (0, ""));
+        run.out
+    };
+    // bash offers files where nothing else is
+    assert_eq!(completed("seddolki check ''"), "\n");
+    assert_eq!(completed("seddolki append desk.book ''"), "\n");
+    assert_eq!(completed("seddolki check --d"), "--doubles\n");
+    assert_eq!(completed("seddolki template c"), "curves\n");
+    assert_eq!(completed("seddolki mar"), "margin\n");
 }
 
 #[test]

@@ -180,6 +180,20 @@ fn doubles_within_a_file_are_told_by_line_and_at_once() {
         assert!(run.err.contains(words), "{}", run.err);
     }
     assert_eq!(desk.trades("desk.book"), 11);
+    // beside a line that is wrong
+    let wrong = line(7).replace(",8,", ",9,");
+    desk.write(
+        "trades.csv",
+        [head.to_owned(), line(5), line(5), wrong].concat(),
+    );
+    let run = desk.run(&["import", "desk.book", "trades.csv"]);
+    assert_eq!(run.status, REFUSED);
+    for words in [
+        "line 4, column term: ",
+        "line 3 of trades.csv is the same as line 2",
+    ] {
+        assert!(run.err.contains(words), "{}", run.err);
+    }
 }
 
 #[test]

@@ -64,8 +64,9 @@ fn an_input_is_never_written_over_by_any_name() {
 #[test]
 fn what_is_no_file_is_written_through() {
     let desk = Desk::with("desk.book");
-    let run = desk
-        .shell("mkfifo pipe; cat pipe > got & \"$0\" export desk.book pipe; wait; test -p pipe");
+    let run = desk.shell(
+        "mkfifo pipe; timeout 20 cat pipe > got & \"$0\" export desk.book pipe; wait; test -p pipe",
+    );
     assert_eq!((run.status, run.err.as_str()), (DONE, ""));
     let exported = desk.done(&["export", "desk.book"]);
     assert_eq!(desk.read("got"), exported.as_bytes());

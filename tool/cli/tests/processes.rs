@@ -21,11 +21,8 @@ fn edits_at_the_same_time_are_all_kept() {
     let desk = Desk::with("buyer.book");
     let adding: Vec<_> = (1..=8)
         .map(|nominal| {
-            let arguments = [
-                vec!["append".into(), "buyer.book".into()],
-                outright(nominal),
-            ]
-            .concat();
+            let arguments = ["append", "--wait", "600", "buyer.book"].map(str::to_owned);
+            let arguments = [arguments.to_vec(), outright(nominal)].concat();
             let mut command = desk.tool(&arguments);
             command.stdout(Stdio::null()).stderr(Stdio::null());
             command.spawn().unwrap()
@@ -97,34 +94,48 @@ fn kill_midway(desk: &Desk, arguments: &[String], microseconds: u64) {
     child.wait().unwrap();
 }
 
+/// Moments from the start of a run to a little behind its end, one by one.
+fn moments(run: impl FnOnce()) -> impl Iterator<Item = u64> {
+    let start = Instant::now();
+    run();
+    let whole = start.elapsed().as_micros() as u64;
+    (0..60).cycle().map(move |part| whole * part / 50)
+}
+
 #[test]
 fn killed_edits_leave_a_whole_book_and_the_next_edit_tidies_up() {
     let desk = Desk::with("buyer.book");
-    let mut left = 0;
-    for round in 0..300 {
+    let whole = || assert_eq!(desk.append("buyer.book", &outright(900)).status, DONE);
+    for (round, moment) in (0..300).zip(moments(whole)) {
         let before = desk.trades("buyer.book");
         let trade = outright(1_000 + round);
         let arguments = [vec!["append".into(), "buyer.book".into()], trade].concat();
-        kill_midway(&desk, &arguments, u64::from(round % 60) * 60);
+        kill_midway(&desk, &arguments, moment);
         let book = Book::from_bytes(desk.read("buyer.book"));
         book.check().expect("a killed edit leaves an accepted book");
         assert!((before..=before + 1).contains(&desk.trades("buyer.book")));
-        left += temporary(&desk).len();
         if !temporary(&desk).is_empty() {
             let run = desk.append("buyer.book", &outright(500_000 + round));
             assert_eq!(run.status, DONE, "{}", run.err);
             assert_eq!(desk.files(), ["buyer.book"]);
         }
     }
-    println!("{left} killed runs left a temporary file");
+    assert!(
+        desk.trades("buyer.book") > 2,
+        "some edits were done in time"
+    );
 }
 
 #[test]
 fn a_new_book_that_is_killed_appears_whole_or_not_at_all() {
     let desk = Desk::new();
     let arguments = ["new", "new.book", &example("desk-curves.txt")].map(str::to_owned);
-    for round in 0..150 {
-        kill_midway(&desk, &arguments, (round % 50) * 50);
+    let whole = || {
+        desk.done(&arguments);
+        std::fs::remove_file(desk.path("new.book")).unwrap();
+    };
+    for moment in moments(whole).take(150) {
+        kill_midway(&desk, &arguments, moment);
         if desk.path("new.book").exists() {
             let book = Book::from_bytes(desk.read("new.book"));
             book.check().expect("a new book is whole");

@@ -4,6 +4,7 @@ mod tool;
 
 use seddolki::{Book, Record};
 use seddolki_books::{assemble, draw_book, Draw};
+use std::collections::BTreeSet;
 use tool::Desk;
 
 #[test]
@@ -49,7 +50,8 @@ fn drawn_books_are_shown_and_drawn() {
 
 #[test]
 fn every_column_of_every_kind_is_amended() {
-    for seed in 0..20 {
+    let mut kinds = BTreeSet::new();
+    for seed in 0..80 {
         let mut draw = Draw::new(seed);
         let mut book = draw_book(&mut draw, 100);
         book.trades.truncate(12);
@@ -86,5 +88,7 @@ fn every_column_of_every_kind_is_amended() {
         let records: Vec<Record> = amended.records().unwrap().collect();
         assert_eq!(records[0], to);
         assert_eq!(records[1..], book.trades[1..]);
+        kinds.insert((from.kind, to.kind));
     }
+    assert_eq!(kinds.len(), 9, "from every kind to every kind: {kinds:?}");
 }

@@ -60,9 +60,10 @@ fn a_bad_book_does_not_stop_the_others_and_the_worst_status_counts() {
 #[test]
 fn a_book_counts_once() {
     let desk = desk_with_books();
-    for command in ["margin", "check"] {
-        let reason = desk.ended(MISUSED, &[command, "desk.book", "./desk.book"]);
-        assert_eq!(reason, "./desk.book is named twice");
+    std::fs::hard_link(desk.path("desk.book"), desk.path("hard.book")).unwrap();
+    for (command, name) in [("margin", "./desk.book"), ("check", "hard.book")] {
+        let reason = desk.ended(MISUSED, &[command, "desk.book", name]);
+        assert_eq!(reason, format!("{name} is named twice"));
     }
 }
 

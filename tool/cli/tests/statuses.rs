@@ -66,6 +66,9 @@ fn a_reader_that_stops_early_is_no_fault() {
         "set -o pipefail; for i in 1 2 3 4 5 6 7 8 9; do \"$0\" show desk.book; done | head -n 1",
     );
     assert_eq!((run.out.as_str(), run.err.as_str()), ("account 1042\n", ""));
+    assert_eq!(run.status, DONE);
+    let run = desk.shell("set -o pipefail; \"$0\" export desk.book | true");
+    assert_eq!((run.status, run.err.as_str()), (DONE, ""));
 }
 
 #[test]

@@ -20,7 +20,7 @@ pub use failure::Failure;
 pub use input::{read_at_most, Input};
 pub use lock::Patience;
 pub use output::{print, write_output};
-pub use shown::shown;
+pub use shown::{is_hidden, shown};
 
 use std::path::Path;
 

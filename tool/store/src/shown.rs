@@ -20,9 +20,7 @@ pub fn shown(path: &Path) -> String {
 fn push_char(text: &mut String, c: char) {
     match c {
         '\n' | '\r' | '\t' => text.extend(c.escape_default()),
-        _ if c.is_control() || turns_text(c) => {
-            push_bytes(text, c.encode_utf8(&mut [0; 4]).as_bytes())
-        }
+        _ if is_hidden(c) => push_bytes(text, c.encode_utf8(&mut [0; 4]).as_bytes()),
         _ => text.push(c),
     }
 }
@@ -32,10 +30,12 @@ fn push_bytes(text: &mut String, bytes: &[u8]) {
     text.extend(escapes);
 }
 
-/// Line and paragraph separators, and what changes the direction of text.
-fn turns_text(c: char) -> bool {
-    matches!(
-        c,
-        '\u{61c}' | '\u{200e}' | '\u{200f}' | '\u{2028}'..='\u{202e}' | '\u{2066}'..='\u{2069}'
-    )
+/// Control characters, line and paragraph separators, and what changes the
+/// direction of text.
+pub fn is_hidden(c: char) -> bool {
+    c.is_control()
+        || matches!(
+            c,
+            '\u{61c}' | '\u{200e}' | '\u{200f}' | '\u{2028}'..='\u{202e}' | '\u{2066}'..='\u{2069}'
+        )
 }

@@ -43,14 +43,15 @@ impl SmallDisk {
         let folder = open_folder();
         let mut mount = Command::new("mount");
         mount.args(["-t", "tmpfs", "-o", "size=16k", "tmpfs"]);
-        let output = mount.arg(folder.path()).output().unwrap();
+        let output = mount.arg(folder.path()).output().ok()?;
         output.status.success().then(|| SmallDisk { folder })
     }
 }
 
 impl Drop for SmallDisk {
     fn drop(&mut self) {
-        let unmounted = Command::new("umount").arg(self.folder.path()).status();
+        let mut unmount = Command::new("umount");
+        let unmounted = unmount.arg("-l").arg(self.folder.path()).status();
         assert!(unmounted.unwrap().success());
     }
 }

@@ -24,12 +24,14 @@ fn hold(folder: &Path) -> File {
 
 /// How a message names the process that holds a folder's lock.
 fn process_in_message(folder: &Path, process: u32) -> String {
-    let inode = fs::metadata(folder).unwrap().ino();
+    let folder = fs::metadata(folder).unwrap();
+    let (major, minor) = (folder.dev() >> 8 & 0xfff, folder.dev() & 0xff);
+    let locked = format!(" {major:02x}:{minor:02x}:{} ", folder.ino());
     let locks = fs::read_to_string("/proc/locks").unwrap_or_default();
-    // not all file systems tell their locks there
+    // not all file systems tell their locks there, or by this number
     let told = locks
         .lines()
-        .any(|line| line.contains(&format!(" {process} ")) && line.contains(&format!(":{inode} ")));
+        .any(|line| line.contains(&format!(" {process} ")) && line.contains(&locked));
     if told {
         format!(" (process {process})")
     } else {

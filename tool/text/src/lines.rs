@@ -1,67 +1,58 @@
-//! The lines of a file, split into values.
+//! The lines of a file of trades, and their values.
 
 use crate::fault::Fault;
 use crate::separator::{not_utf_8, Separator};
-use csv::{ByteRecord, Position, Reader, ReaderBuilder, StringRecord};
-use std::io::Cursor;
+use csv::{ReaderBuilder, StringRecord};
 
 /// The values of a line.
 pub(crate) struct Line {
-    /// Counted from 1; the first one, where a quoted value has line ends.
+    /// Counted from 1.
     pub number: u64,
     pub values: StringRecord,
 }
 
-/// The lines that hold a value, in order.
+/// The lines that hold a value, in order. No value of a trade has line ends,
+/// so each line is read by itself.
 pub(crate) struct Lines<'a> {
-    bytes: &'a [u8],
+    rest: Option<&'a [u8]>,
+    number: u64,
     separator: Separator,
-    reader: Reader<Cursor<&'a [u8]>>,
 }
 
 impl<'a> Lines<'a> {
     pub fn new(bytes: &'a [u8], separator: Separator) -> Self {
-        let mut builder = ReaderBuilder::new();
-        builder.delimiter(separator.byte());
-        builder.has_headers(false).flexible(true);
         Lines {
-            bytes,
+            rest: Some(bytes),
+            number: 0,
             separator,
-            reader: builder.from_reader(Cursor::new(bytes)),
         }
-    }
-
-    /// Goes on with the line behind the one that starts here, whatever
-    /// quotes are open.
-    fn resume_behind(&mut self, start: usize, number: u64) -> Result<(), csv::Error> {
-        let rest = self.bytes[start..].iter();
-        let length = rest.take_while(|byte| **byte != b'\n').count();
-        let next = self.bytes.len().min(start + length + 1);
-        let mut position = Position::new();
-        position.set_byte(next as u64).set_line(number + 1);
-        self.reader.seek(position)
     }
 
     /// The next line, empty or not; none at the end.
-    fn read(&mut self) -> Result<Option<Line>, Fault> {
-        let mut values = ByteRecord::new();
-        let from = self.reader.position().clone();
-        if !self.reader.read_byte_record(&mut values).map_err(unread)? {
-            return Ok(None);
-        }
-        let range = from.byte() as usize..self.reader.position().byte() as usize;
-        let text = &self.bytes[range.clone()];
-        // the reader passes over line ends only when it goes on
-        let ends = text.iter().take_while(|byte| b"\r\n".contains(byte));
-        let ends: Vec<u8> = ends.copied().collect();
-        let number = from.line() + newlines(&ends) as u64;
-        if let Some(message) = quote_fault(&text[ends.len()..], self.separator.byte()) {
-            let start = range.start + ends.len();
-            self.resume_behind(start, number).map_err(unread)?;
+    fn read(&mut self) -> Option<Result<Line, Fault>> {
+        let bytes = self.rest?;
+        let length = bytes.iter().position(|byte| *byte == b'\n');
+        let (line, rest) = match length {
+            Some(length) => (&bytes[..length], Some(&bytes[length + 1..])),
+            None => (bytes, None),
+        };
+        self.rest = rest;
+        self.number += 1;
+        let line = line.strip_suffix(b"\r").unwrap_or(line);
+        Some(self.values(line))
+    }
+
+    fn values(&self, line: &[u8]) -> Result<Line, Fault> {
+        let (number, delimiter) = (self.number, self.separator.byte());
+        if let Some(message) = quote_fault(line, delimiter) {
             return Err(Fault::new(message).on_line(number));
         }
-        let values = StringRecord::from_byte_record(values).map_err(|_| not_utf_8(number))?;
-        Ok(Some(Line { number, values }))
+        let mut builder = ReaderBuilder::new();
+        builder.delimiter(delimiter).has_headers(false);
+        let mut values = StringRecord::new();
+        let read = builder.from_reader(line).read_record(&mut values);
+        read.map_err(|_| not_utf_8(number))?;
+        Ok(Line { number, values })
     }
 }
 
@@ -71,20 +62,12 @@ impl Iterator for Lines<'_> {
     fn next(&mut self) -> Option<Self::Item> {
         let empty = |line: &Line| line.values.iter().all(|value| value.trim().is_empty());
         loop {
-            let line = self.read().transpose()?;
+            let line = self.read()?;
             if !line.as_ref().is_ok_and(empty) {
                 return Some(line);
             }
         }
     }
-}
-
-fn unread(error: csv::Error) -> Fault {
-    Fault::new(error.to_string())
-}
-
-fn newlines(bytes: &[u8]) -> usize {
-    bytes.iter().filter(|byte| **byte == b'\n').count()
 }
 
 /// Where a byte of a line stands.
@@ -101,26 +84,21 @@ enum Place {
 /// What is wrong with the quotes of a line, which the reader passes over.
 fn quote_fault(line: &[u8], separator: u8) -> Option<&'static str> {
     let mut place = Place::Start;
-    for (index, byte) in line.iter().enumerate() {
+    for byte in line {
         place = match (place, *byte) {
             (Place::Start | Place::Quote, b'"') => Place::Quoted,
             (Place::Quoted, b'"') => Place::Quote,
             (Place::Quoted, _) => Place::Quoted,
             (_, byte) if byte == separator => Place::Start,
-            (Place::Quote | Place::Behind, b' ' | b'\t' | b'\r' | b'\n') => Place::Behind,
-            (Place::Quote | Place::Behind, _) if newlines(&line[..index]) > 0 => {
-                return Some(NOT_CLOSED)
-            }
+            (Place::Quote | Place::Behind, b' ' | b'\t') => Place::Behind,
             (Place::Quote | Place::Behind, _) => {
                 return Some("text stands behind a closing quote");
             }
             (Place::Start | Place::Unquoted, _) => Place::Unquoted,
         };
     }
-    matches!(place, Place::Quoted).then_some(NOT_CLOSED)
+    matches!(place, Place::Quoted).then_some("a quote is not closed on its line")
 }
-
-const NOT_CLOSED: &str = "a quote is not closed";
 
 #[cfg(test)]
 mod tests {
@@ -158,19 +136,15 @@ mod tests {
     }
 
     #[test]
-    fn quoted_values_hold_commas_quotes_and_line_ends() {
+    fn quoted_values_hold_commas_and_quotes() {
         assert_eq!(lines(r#""1,000.00" ,x"#), [r#"1 ["1,000.00 ", "x"]"#]);
         assert_eq!(lines(r#""a ""b"" c""#), [r#"1 ["a \"b\" c"]"#]);
-        assert_eq!(
-            lines("\"a\n\nb\",c\nd"),
-            [r#"1 ["a\n\nb", "c"]"#, r#"4 ["d"]"#]
-        );
         assert_eq!(lines(r#"a"b,c"#), [r#"1 ["a\"b", "c"]"#]);
     }
 
     #[test]
     fn wrong_quotes_are_told_and_the_next_line_read() {
-        let not_closed = "line 2: a quote is not closed";
+        let not_closed = "line 2: a quote is not closed on its line";
         assert_eq!(
             lines("a\nb,\"c\nd\ne"),
             ["1 [\"a\"]", not_closed, "3 [\"d\"]", "4 [\"e\"]"]
@@ -187,7 +161,7 @@ mod tests {
 
     #[test]
     fn lines_that_are_not_utf_8_are_told() {
-        let text = b"a\n\xddb\n\nc\n\"\xff\n\"\nd";
+        let text = b"a\n\xddb\n\nc\n\"\xff\"\n\nd";
         let wrong = |line| format!("line {line}: it is not written in UTF-8: save it as CSV UTF-8");
         let due = [
             "1 [\"a\"]".into(),

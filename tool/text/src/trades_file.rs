@@ -113,14 +113,7 @@ fn trade(columns: &Columns, line: &Line, decimals: Decimals) -> Result<Trade, Ve
 
 fn miscounted(due: usize, line: &Line) -> Fault {
     let found = line.values.len();
-    // most likely by a quote that is not closed on its line
-    let spread = line.values.iter().any(|value| value.contains('\n'));
-    let note = if spread {
-        ", and one holds a line end"
-    } else {
-        ""
-    };
-    let message = format!("{due} values due by the column names, {found} found{note}");
+    let message = format!("{due} values due by the column names, {found} found");
     Fault::new(message).on_line(line.number)
 }
 

@@ -146,7 +146,10 @@ fn column_names_are_looked_at_first() {
         refused("kind,\"a;b\"\n"),
         [format!("line 1: there is no column a;b: {all}")]
     );
-    assert_eq!(refused("kind,\"side\n"), ["line 1: a quote is not closed"]);
+    assert_eq!(
+        refused("kind,\"side\n"),
+        ["line 1: a quote is not closed on its line"]
+    );
 }
 
 /// As Turkish Windows and spreadsheets write that are not told otherwise.
@@ -232,7 +235,7 @@ fn every_wrong_line_is_told_at_once() {
         outright,buyer,\"1\"1,single payment,1,100,0,9,0,99\n\
         outright,b\xfcyer,1,single payment,1,100,0,9,0,99\n\
         ,buyer,1,single payment,1,100,0,9,0,99\n\
-        outright,buyer,300,single payment,1,\"1\n0\",0,9,0,99\n\
+        outright,buyer,300,single payment,1,1 0,0,9,0,99\n\
         outright,buyer,1,single payment,1,100,0,9,0,\n\
         outright,seller,1,single payment,1,100,0,9,0\n\
         outright,\"seller,1,single payment,1,100,0,9,0,99\n\
@@ -247,16 +250,17 @@ fn every_wrong_line_is_told_at_once() {
             "line 3: 10 values due by the column names, 11 found",
             "line 4, column side: repo is not for an outright: buyer or seller",
             "line 4, column clean_price: 99,5 is not a number with a decimal point: write 99.5000",
-            "line 6: a quote is not closed",
+            "line 6: a quote is not closed on its line",
             "line 7, column cash_curve: -1 is too small: 1 to 8",
             "line 8: text stands behind a closing quote",
             "line 9: it is not written in UTF-8: save it as CSV UTF-8",
             "line 10, column kind: nothing is given: outright, pool repo or specified repo",
             "line 11, column cash_curve: 300 is too large: 1 to 8",
-            "line 11, column nominal: 1\\n0 is not a number: 0.01 to 10,000,000,000.00",
-            "line 13, column clean_price: nothing is given: 0.0001 to 400.0000",
-            "line 14: 10 values due by the column names, 9 found",
-            "line 15: 10 values due by the column names, 2 found, and one holds a line end",
+            "line 11, column nominal: 1 0 is not a number: 0.01 to 10,000,000,000.00",
+            "line 12, column clean_price: nothing is given: 0.0001 to 400.0000",
+            "line 13: 10 values due by the column names, 9 found",
+            "line 14: a quote is not closed on its line",
+            "line 15, column clean_price: 99\" is not a number: 0.0001 to 400.0000",
         ]
     );
 }

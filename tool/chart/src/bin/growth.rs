@@ -1,23 +1,22 @@
 //! Draws how the processor time of a margin grows, from the benchmark's table.
 //!
-//! `growth CSV SVG`; it ends with 0 drawn, 1 a wrong table, 2 wrong usage,
-//! 3 a file that failed.
+//! `growth CSV` prints the picture; it ends with 0 drawn, 1 a wrong table,
+//! 2 wrong usage, 3 a file or standard output that failed.
 
 #![forbid(unsafe_code)]
 
 use seddolki_chart::Growth;
-use std::fmt::Display;
+use std::ffi::OsString;
 use std::fs;
-use std::io::{stderr, Write};
-use std::os::unix::fs::MetadataExt;
-use std::path::{Path, PathBuf};
+use std::io::{stderr, stdout, Write};
+use std::path::Path;
 use std::process::ExitCode;
 
 fn main() -> ExitCode {
-    let operands: Vec<PathBuf> = std::env::args_os().skip(1).map(PathBuf::from).collect();
+    let operands: Vec<OsString> = std::env::args_os().skip(1).collect();
     let drawn = match &operands[..] {
-        [table, picture] => draw(table, picture),
-        _ => Err((2, "usage: growth CSV SVG".into())),
+        [table] => draw(Path::new(table)),
+        _ => Err((2, "usage: growth CSV".into())),
     };
     match drawn {
         Ok(()) => ExitCode::SUCCESS,
@@ -30,18 +29,10 @@ fn main() -> ExitCode {
 }
 
 /// A fault has the exit status and what is said.
-fn draw(table: &Path, picture: &Path) -> Result<(), (u8, String)> {
-    let told = |path: &Path, fault: &dyn Display| format!("{}: {fault}", path.display());
-    let text = fs::read_to_string(table).map_err(|error| (3, told(table, &error)))?;
-    let growth = Growth::read(&text).map_err(|refusal| (1, told(table, &refusal)))?;
-    if same(table, picture) {
-        return Err((3, told(picture, &"is the table itself")));
-    }
-    fs::write(picture, growth.draw()).map_err(|error| (3, told(picture, &error)))
-}
-
-/// Whether two paths lead to one file, by whatever names.
-fn same(one: &Path, other: &Path) -> bool {
-    let file = |path| fs::metadata(path).map(|file| (file.dev(), file.ino())).ok();
-    file(one).is_some_and(|one| file(other) == Some(one))
+fn draw(table: &Path) -> Result<(), (u8, String)> {
+    let name = table.display();
+    let text = fs::read_to_string(table).map_err(|error| (3, format!("{name}: {error}")))?;
+    let growth = Growth::read(&text).map_err(|refusal| (1, format!("{name}: {refusal}")))?;
+    let printed = stdout().write_all(growth.draw().as_bytes());
+    printed.map_err(|error| (3, format!("standard output: {error}")))
 }

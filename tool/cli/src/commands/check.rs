@@ -6,8 +6,9 @@ use crate::files::books::{one_stream, read, BookFile};
 use crate::printed::progress::over_books;
 use crate::printed::table::{Table, Value};
 use crate::trades::refusal::book_refused;
-use crate::trades::words::{self, count};
+use crate::trades::words;
 use seddolki::{doubles, Double, Likeness, Refusal};
+use seddolki_format::text::count;
 use std::path::Path;
 
 /// A book, accepted or not.
@@ -99,7 +100,7 @@ fn books_table(checked: &[Checked]) -> Table {
             ],
             Err(Refused { refusal, why }) => [
                 Value::count(refusal.ground.number() as usize),
-                Value::count(refusal.block),
+                block(*refusal),
                 Value::text(why),
                 Value::Nothing,
                 Value::Nothing,
@@ -109,6 +110,14 @@ fn books_table(checked: &[Checked]) -> Table {
         table.push(row);
     }
     table
+}
+
+fn block(refusal: Refusal) -> Value {
+    if refusal.ground.names_block() {
+        Value::count(refusal.block)
+    } else {
+        Value::Nothing
+    }
 }
 
 fn doubles_table(checked: &[Checked]) -> Table {

@@ -5,13 +5,12 @@ use crate::ended::{Ended, DONE};
 use crate::files::books::{edit, text};
 use crate::files::curve_files::{book_of, read_curves};
 use crate::printed::print;
-use crate::trades::words::count;
+use seddolki_format::text::count;
 use seddolki_store::shown;
 
 pub fn run(arguments: &Curves) -> Result<u8, Ended> {
     let input = text(&arguments.file)?;
-    let from = shown(&arguments.file);
-    let file = read_curves(&from, &input)?;
+    let (file, from) = (read_curves(&input)?, &input.name);
     let name = shown(&arguments.book);
     let (before, trades) = edit(&arguments.book, arguments.waiting, |book, parts| {
         if parts.account != file.account {
@@ -19,7 +18,7 @@ pub fn run(arguments: &Curves) -> Result<u8, Ended> {
             let reason = format!("{from}: account {other}, and {name} is of account {account}");
             return Err(Ended::refused(reason));
         }
-        *book = book_of(&from, &file, &parts.trades)?;
+        *book = book_of(from, &file, &parts.trades)?;
         Ok((parts.curves.len(), parts.trades.len()))
     })?;
     let (curves, trades) = (count(before, "curve"), count(trades, "trade"));

@@ -2,12 +2,11 @@
 
 use crate::arguments::Explain;
 use crate::ended::{Ended, DONE};
-use crate::files::books::LARGEST;
+use crate::files::books::read;
 use crate::printed::print;
 use crate::trades::refusal::book_refused;
-use seddolki::{Book, Ground};
+use seddolki::Ground;
 use seddolki_model::rule;
-use seddolki_store::{read_at_most, shown};
 use std::path::Path;
 
 pub fn run(arguments: &Explain) -> Result<u8, Ended> {
@@ -22,8 +21,8 @@ pub fn run(arguments: &Explain) -> Result<u8, Ended> {
 
 /// Whether a book is refused by the ground, and where.
 fn applied(ground: Ground, path: &Path) -> Result<String, Ended> {
-    let input = read_at_most(path, LARGEST)?;
-    let (name, book) = (shown(path), Book::from_bytes(input.bytes));
+    let (input, book) = read(path)?;
+    let name = input.name;
     Ok(match book.check() {
         Ok(()) => format!("{name}: accepted"),
         Err(refusal) if refusal.ground == ground => {

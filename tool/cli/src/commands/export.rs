@@ -2,10 +2,10 @@
 
 use crate::arguments::Export;
 use crate::ended::{Ended, DONE};
-use crate::files::books::{accepted, is_stream};
+use crate::files::books::{accepted, is_dash};
 use crate::files::outputs;
 use crate::printed::print;
-use crate::trades::words::count;
+use seddolki_format::text::count;
 use seddolki_store::shown;
 use seddolki_text::{curve_file, trades_file, Separator};
 
@@ -25,7 +25,7 @@ pub fn run(arguments: &Export) -> Result<u8, Ended> {
         (text, count(parts.trades.len(), "trade"))
     };
     outputs::write(&arguments.file, &text, &arguments.output, &[&file.input])?;
-    if !is_stream(&arguments.file) {
+    if !is_dash(&arguments.file) {
         print::notice(&format!("{}: {holds}", shown(&arguments.file)));
     }
     Ok(DONE)

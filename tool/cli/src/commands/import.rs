@@ -7,9 +7,9 @@ use crate::printed::print;
 use crate::trades::keyed::faults_told;
 use crate::trades::keyed_twice::{Told, MEANT};
 use crate::trades::refusal::record_refused;
-use crate::trades::words::count;
 use seddolki::{doubles_among, stands_already, Book, Ground, Placed, Record};
 use seddolki_format::block::Curve;
+use seddolki_format::text::count;
 use seddolki_store::{shown, Input};
 use seddolki_text::trades_file;
 
@@ -36,11 +36,11 @@ pub fn run(arguments: &Import) -> Result<u8, Ended> {
         if !arguments.again.again {
             lines.not_there_already(&name, &parts.trades)?;
         }
-        append_all(book, &parts.curves, &lines)?;
+        let wrong = lines.wrong_in(book, &parts.curves);
         let doubles = doubles_among(&parts.trades, &lines.records);
         let named = |trade: &Placed| lines.named(trade, parts.trades.len());
-        let notes = Told::of(&doubles, arguments.again.again, named)?;
-        Ok((parts.trades.len(), notes))
+        let notes = Told::of(&doubles, arguments.again.again, named);
+        Ok((parts.trades.len(), refused_by_both(wrong, notes)?))
     })?;
     print::notice(&format!("{name}: {}", added(first, lines.records.len())));
     notes.say();
@@ -76,28 +76,38 @@ fn read(arguments: &Import) -> Result<Lines, Ended> {
     })
 }
 
-/// Appends all records, or tells every line that is wrong or refused.
-fn append_all(book: &mut Book, curves: &[Curve], lines: &Lines) -> Result<(), Ended> {
-    let mut faults = lines.faults.clone();
-    for (line, record) in lines.numbers.iter().zip(&lines.records) {
-        if let Err(refusal) = book.append(record) {
-            let reason = record_refused(record, curves, refusal);
-            faults.push((*line, format!("line {line}, {reason}")));
-            if refusal.ground == Ground::BookSpace {
-                break;
-            }
-        }
+/// The notes, if no line is wrong and nothing looks keyed twice; else all
+/// that is to be said of both.
+fn refused_by_both(wrong: Vec<String>, notes: Result<Told, Ended>) -> Result<Told, Ended> {
+    match notes {
+        Ok(notes) if wrong.is_empty() => Ok(notes),
+        Err(Ended::Refused(doubles)) => Err(Ended::Refused([wrong, doubles].concat())),
+        Ok(_) => Err(Ended::Refused(wrong)),
+        Err(ended) => Err(ended),
     }
-    if faults.is_empty() {
-        return Ok(());
-    }
-    faults.sort_by_key(|(line, _)| *line);
-    let name = &lines.name;
-    let told = faults.iter().map(|(_, fault)| format!("{name}: {fault}"));
-    Err(Ended::Refused(told.collect()))
 }
 
 impl Lines {
+    /// Appends all records to a book, and gives every line that is wrong or
+    /// refused.
+    fn wrong_in(&self, book: &mut Book, curves: &[Curve]) -> Vec<String> {
+        let mut faults = self.faults.clone();
+        for (line, record) in self.numbers.iter().zip(&self.records) {
+            if let Err(refusal) = book.append(record) {
+                let reason = record_refused(record, curves, refusal);
+                faults.push((*line, format!("line {line}, {reason}")));
+                if refusal.ground == Ground::BookSpace {
+                    break;
+                }
+            }
+        }
+        faults.sort_by_key(|(line, _)| *line);
+        let told = faults
+            .iter()
+            .map(|(_, fault)| format!("{}: {fault}", self.name));
+        told.collect()
+    }
+
     /// A trade of the book by its position, one of the file by its line.
     fn named(&self, trade: &Placed, standing: usize) -> String {
         match trade.position.checked_sub(standing) {

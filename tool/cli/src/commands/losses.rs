@@ -64,12 +64,14 @@ fn by_trade(file: &BookFile, valued: &[Valued]) -> Table {
     ];
     let mut table = Table::new("trades", &columns);
     for one in valued {
-        for part in one.parts(file) {
+        for share in one.shares(file) {
             let mut row = curve_cells(one);
             row.push(Value::Whole(one.figures.scenario.into()));
-            row.push(Value::count(part.position));
-            row.extend([part.base, part.loss].map(Value::money));
-            row.push(Value::text(words::trade(&file.parts.trades[part.position])));
+            row.push(Value::count(share.position));
+            row.extend([share.base, share.loss].map(Value::money));
+            row.push(Value::text(words::trade(
+                &file.parts.trades[share.position],
+            )));
             table.push(row);
         }
     }

@@ -2,19 +2,18 @@
 
 use crate::arguments::New;
 use crate::ended::{Ended, DONE};
-use crate::files::books::{is_stream, patience, settled, text};
+use crate::files::books::{is_dash, patience, text, with_warning_told};
 use crate::files::curve_files::{book_of, read_curves};
 use crate::printed::print;
-use crate::trades::words::count;
+use seddolki_format::text::count;
 use seddolki_store::{self as store, shown};
 
 pub fn run(arguments: &New) -> Result<u8, Ended> {
     let input = text(&arguments.curves)?;
-    let name = shown(&arguments.curves);
-    let file = read_curves(&name, &input)?;
-    let book = book_of(&name, &file, &[])?;
+    let file = read_curves(&input)?;
+    let book = book_of(&input.name, &file, &[])?;
     let patience = patience(arguments.waiting);
-    if is_stream(&arguments.book) {
+    if is_dash(&arguments.book) {
         let written = store::write_output(
             &arguments.book,
             book.as_bytes(),
@@ -22,10 +21,10 @@ pub fn run(arguments: &New) -> Result<u8, Ended> {
             &[&input],
             &patience,
         )?;
-        settled(written);
+        with_warning_told(written);
         return Ok(DONE);
     }
-    settled(store::create(&arguments.book, book.as_bytes(), &patience)?);
+    with_warning_told(store::create(&arguments.book, book.as_bytes(), &patience)?);
     let count = count(file.curves.len(), "curve");
     let (name, account) = (shown(&arguments.book), file.account);
     print::notice(&format!("{name}: account {account}, {count}, no trades"));

@@ -5,14 +5,14 @@ use crate::ended::{Ended, DONE};
 use crate::figures::chosen::curve;
 use crate::figures::ladder::ladder;
 use crate::figures::valued::{valued, Valued};
-use crate::files::books::{accepted, is_stream, BookFile};
+use crate::files::books::{accepted, is_dash, BookFile};
 use crate::files::outputs;
 use crate::printed::print;
-use crate::trades::words::count;
 use seddolki::CurveFigures;
 use seddolki_chart::{DayFlows, Heading, Losses, Node, Rates};
 use seddolki_format::block::{self, Curve};
 use seddolki_format::report::currency_name;
+use seddolki_format::text::count;
 use seddolki_model::scenario::{scenarios, stressed_nodes, Scenario};
 use seddolki_store::shown;
 use seddolki_text::decimal::{format as decimal, format_signed, COEFFICIENT, MONEY};
@@ -26,7 +26,7 @@ pub fn run(arguments: &Plot) -> Result<u8, Ended> {
         rates(&file, curve)?
     };
     outputs::write(&arguments.file, &picture, &arguments.output, &[&file.input])?;
-    if !is_stream(&arguments.file) {
+    if !is_dash(&arguments.file) {
         let scenarios = count(scenarios(curve).len(), "scenario");
         let (name, id) = (shown(&arguments.file), curve.id);
         print::notice(&format!("{name}: curve {id}, {scenarios}"));

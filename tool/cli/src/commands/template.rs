@@ -2,7 +2,7 @@
 
 use crate::arguments::{Kind, Template};
 use crate::ended::{Ended, DONE};
-use crate::files::books::is_stream;
+use crate::files::books::is_dash;
 use crate::files::outputs;
 use crate::printed::print;
 use seddolki_store::shown;
@@ -14,7 +14,7 @@ pub fn run(arguments: &Template) -> Result<u8, Ended> {
         Kind::Trades => (template::TRADES, "trades"),
     };
     outputs::write(&arguments.file, text, &arguments.output, &[])?;
-    if !is_stream(&arguments.file) {
+    if !is_dash(&arguments.file) {
         let name = shown(&arguments.file);
         print::notice(&format!("{name}: {holds} to start from"));
     }

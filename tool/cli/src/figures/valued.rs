@@ -21,8 +21,8 @@ pub struct Valued<'a> {
     pub losses: Vec<i64>,
 }
 
-/// A trade's part in the base value and in the worst loss of a curve.
-pub struct Part {
+/// A trade's share in the base value and in the worst loss of a curve.
+pub struct Share {
     pub position: usize,
     pub base: i64,
     pub loss: i64,
@@ -36,7 +36,9 @@ pub fn valued<'a>(file: &BookFile, curves: &[&'a Curve]) -> Result<Vec<Valued<'a
         let valuation = valuation(curve, &file.parts.flows_on(curve));
         let scenario = valuation.worst_scenario() as u32;
         let found = (valuation.base, valuation.worst_loss(), scenario);
-        agree(curve, found, &figures)?;
+        if found != (figures.base, figures.worst_loss, figures.scenario) {
+            return Err(unlike(file, curve));
+        }
         Ok(Valued {
             curve,
             figures,
@@ -47,38 +49,34 @@ pub fn valued<'a>(file: &BookFile, curves: &[&'a Curve]) -> Result<Vec<Valued<'a
     on_all_cores(curves, one).into_iter().collect()
 }
 
-fn agree(curve: &Curve, found: (i64, i64, u32), figures: &CurveFigures) -> Result<(), Ended> {
-    if found == (figures.base, figures.worst_loss, figures.scenario) {
-        return Ok(());
-    }
-    let reason = format!(
-        "curve {}: the second implementation has other figures than the engine",
-        curve.id
-    );
-    Err(Ended::Failed(reason))
+fn unlike(file: &BookFile, curve: &Curve) -> Ended {
+    Ended::Failed(format!(
+        "{}: curve {}: the second implementation has other figures than the engine",
+        file.name, curve.id
+    ))
 }
 
 impl Valued<'_> {
     /// Each trade that has a flow on the curve, by its position.
-    pub fn parts(&self, file: &BookFile) -> Vec<Part> {
+    pub fn shares(&self, file: &BookFile) -> Vec<Share> {
         let worst = self.scenarios[self.figures.scenario as usize];
         let stressed = stressed_nodes(self.curve.nodes(), &worst);
         let mut factors = Factors::default();
-        let mut parts = vec![];
+        let mut shares = vec![];
         for (position, record) in file.parts.trades.iter().enumerate() {
             let own = |flow: &CashFlow| flow.curve == self.curve.id;
             let flows: Vec<CashFlow> = cash_flows(record).into_iter().filter(own).collect();
             if !flows.is_empty() {
                 let base = value(&flows, self.curve.nodes(), &mut factors);
                 let loss = base - value(&flows, &stressed, &mut factors);
-                parts.push(Part {
+                shares.push(Share {
                     position,
                     base,
                     loss,
                 });
             }
         }
-        parts
+        shares
     }
 }
 

@@ -23,7 +23,7 @@ pub struct BookFile {
     pub name: String,
     pub input: Input,
     pub book: Book,
-    /// For display: every verdict and figure is the engine's.
+    /// For display: every verdict and every margin is the engine's.
     pub parts: accept::Book,
 }
 
@@ -88,7 +88,7 @@ pub fn edit<T>(
     waiting: Waiting,
     change: impl FnOnce(&mut Book, accept::Book) -> Result<T, Ended>,
 ) -> Result<T, Ended> {
-    if is_stream(path) {
+    if is_dash(path) {
         let reason = "an edit takes a book in a file, and not standard input";
         return Err(Ended::Misused(reason.into()));
     }
@@ -100,12 +100,12 @@ pub fn edit<T>(
         let result = change(&mut book, parts)?;
         Ok::<_, Ended>((book.as_bytes().to_vec(), result))
     })?;
-    Ok(settled(edited))
+    Ok(with_warning_told(edited))
 }
 
 /// Says what went wrong after a file had its new bytes: it is written all
 /// the same.
-pub fn settled<T>(written: Written<T>) -> T {
+pub fn with_warning_told<T>(written: Written<T>) -> T {
     if let Some(warning) = written.warning {
         print::say(&warning);
     }
@@ -119,13 +119,13 @@ pub fn patience(waiting: Waiting) -> Patience<'static> {
     }
 }
 
-pub fn is_stream(path: &Path) -> bool {
+pub fn is_dash(path: &Path) -> bool {
     path == Path::new("-")
 }
 
 /// Standard input can be read once.
 pub fn one_stream(paths: &[impl AsRef<Path>]) -> Result<(), Ended> {
-    if paths.iter().filter(|path| is_stream(path.as_ref())).count() > 1 {
+    if paths.iter().filter(|path| is_dash(path.as_ref())).count() > 1 {
         let reason = "standard input (-) is named twice, and can be read once";
         return Err(Ended::Misused(reason.into()));
     }

@@ -10,8 +10,8 @@ use seddolki_store::Input;
 use seddolki_text::curve_file::{self, CurveFile};
 
 /// The curves of a file; every fault is told with its line.
-pub fn read_curves(name: &str, input: &Input) -> Result<CurveFile, Ended> {
-    curve_file::read(&input.bytes).map_err(|faults| faults_told(name, &faults))
+pub fn read_curves(input: &Input) -> Result<CurveFile, Ended> {
+    curve_file::read(&input.bytes).map_err(|faults| faults_told(&input.name, &faults))
 }
 
 /// A book of a file's curves and these trades, if the engine accepts it.

@@ -2,7 +2,7 @@
 
 use crate::arguments::Output;
 use crate::ended::Ended;
-use crate::files::books::{patience, settled};
+use crate::files::books::{patience, with_warning_told};
 use seddolki_store::{self as store, Input};
 use std::path::Path;
 
@@ -10,6 +10,6 @@ use std::path::Path;
 pub fn write(path: &Path, text: &str, output: &Output, inputs: &[&Input]) -> Result<(), Ended> {
     let patience = patience(output.waiting);
     let written = store::write_output(path, text.as_bytes(), output.force, inputs, &patience)?;
-    settled(written);
+    with_warning_told(written);
     Ok(())
 }

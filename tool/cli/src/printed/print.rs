@@ -20,11 +20,11 @@ pub fn notice(text: &str) {
     let _ = store::print(format!("{}\n", visible(text)).as_bytes());
 }
 
-/// A text with its control characters as escapes; ends of lines stay.
+/// A text with what is not seen as escapes; ends of lines stay.
 pub fn visible(text: &str) -> String {
     let shown = |c: char| match c {
         '\n' => "\n".to_owned(),
-        c if c.is_control() => c.escape_default().to_string(),
+        c if store::is_hidden(c) => c.escape_unicode().to_string(),
         c => c.to_string(),
     };
     text.chars().map(shown).collect()
@@ -37,6 +37,9 @@ mod tests {
     #[test]
     fn control_characters_are_escaped_and_letters_are_not() {
         assert_eq!(visible("kuruş\n"), "kuruş\n");
-        assert_eq!(visible("\u{1b}[31m\t\r\u{9b}"), "\\u{1b}[31m\\t\\r\\u{9b}");
+        assert_eq!(
+            visible("\u{1b}[31m\t\r\u{9b}"),
+            "\\u{1b}[31m\\u{9}\\u{d}\\u{9b}"
+        );
     }
 }

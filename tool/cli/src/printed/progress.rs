@@ -5,6 +5,8 @@ use crate::ended::{Ended, DONE};
 use indicatif::{ProgressBar, ProgressStyle};
 use seddolki_store::shown;
 use std::collections::BTreeSet;
+use std::fs;
+use std::os::unix::fs::MetadataExt;
 use std::path::{Path, PathBuf};
 
 /// What was made of each book, and the exit status of the worst. A bar shows
@@ -36,8 +38,11 @@ pub fn over_books<T: Send>(
 fn named_once(paths: &[PathBuf]) -> Result<(), Ended> {
     let mut seen = BTreeSet::new();
     for path in paths {
-        let file = path.canonicalize().unwrap_or_else(|_| path.clone());
-        if !seen.insert(file) {
+        // one that cannot be looked at is told where it is read
+        let Ok(file) = fs::metadata(path) else {
+            continue;
+        };
+        if !seen.insert((file.dev(), file.ino())) {
             return Err(Ended::Misused(format!("{} is named twice", shown(path))));
         }
     }

@@ -1,10 +1,10 @@
 //! Refusals in words: the verdict is the engine's, and the second
 //! implementation says where and why.
 
-use crate::trades::words::count;
 use seddolki::{Book, Ground, Record, Refusal};
 use seddolki_format::block::Curve;
 use seddolki_format::limits::{FULL_BLOCK, MAX_BLOCKS};
+use seddolki_format::text::count;
 use seddolki_model::{book_fault, record_fault, BookFault, Fault};
 use seddolki_text::Column;
 

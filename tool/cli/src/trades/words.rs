@@ -2,15 +2,9 @@
 
 use seddolki::Record;
 use seddolki_format::record::{COUPONS, FIRST_SIDE, INDEXED_COUPONS, POOL, SINGLE_PAYMENT};
+use seddolki_format::text::count;
 use seddolki_model::flows::Leg;
 use seddolki_text::decimal::{format as decimal, MONEY, PERCENT};
-
-/// A number of things.
-pub fn count(number: usize, thing: &str) -> String {
-    let plural = if number == 1 { "" } else { "s" };
-    let number = decimal(number as u64, 0);
-    format!("{number} {thing}{plural}")
-}
 
 fn money(amount: u64) -> String {
     decimal(amount, MONEY)

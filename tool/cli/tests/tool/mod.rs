@@ -6,7 +6,7 @@ use std::fs;
 use std::os::unix::process::ExitStatusExt;
 use std::path::{Path, PathBuf};
 use std::process::{Command, Output, Stdio};
-use std::sync::atomic::{AtomicU32, Ordering};
+use tempfile::TempDir;
 
 pub const DONE: i32 = 0;
 pub const REFUSED: i32 = 1;
@@ -15,7 +15,7 @@ pub const FAILED: i32 = 3;
 
 /// A directory that goes with its test.
 pub struct Desk {
-    directory: PathBuf,
+    directory: TempDir,
 }
 
 /// What a run printed, and its exit status.
@@ -50,11 +50,7 @@ pub fn outright(nominal: u32) -> Vec<String> {
 
 impl Desk {
     pub fn new() -> Self {
-        static NEXT: AtomicU32 = AtomicU32::new(0);
-        let number = NEXT.fetch_add(1, Ordering::Relaxed);
-        let name = format!("seddolki-{}-{number}", std::process::id());
-        let directory = std::env::temp_dir().join(name);
-        fs::create_dir(&directory).unwrap();
+        let directory = tempfile::tempdir().unwrap();
         Desk { directory }
     }
 
@@ -66,7 +62,7 @@ impl Desk {
     }
 
     pub fn path(&self, name: impl AsRef<Path>) -> PathBuf {
-        self.directory.join(name)
+        self.directory.path().join(name)
     }
 
     pub fn write(&self, name: impl AsRef<Path>, content: impl AsRef<[u8]>) {
@@ -79,7 +75,7 @@ impl Desk {
 
     /// Names of all files, sorted.
     pub fn files(&self) -> Vec<String> {
-        let entries = fs::read_dir(&self.directory).unwrap();
+        let entries = fs::read_dir(self.directory.path()).unwrap();
         let name = |entry: fs::DirEntry| entry.file_name().to_string_lossy().into_owned();
         let mut names: Vec<String> = entries.map(|entry| name(entry.unwrap())).collect();
         names.sort();
@@ -89,7 +85,7 @@ impl Desk {
     /// The tool with these arguments, still to be run.
     pub fn tool<S: AsRef<std::ffi::OsStr>>(&self, arguments: &[S]) -> Command {
         let mut command = Command::new(tool());
-        command.args(arguments).current_dir(&self.directory);
+        command.args(arguments).current_dir(self.directory.path());
         command.stdin(Stdio::null());
         command
     }
@@ -144,13 +140,11 @@ impl Desk {
     pub fn shell(&self, line: &str) -> Run {
         let mut shell = Command::new("bash");
         shell.args(["-c", line]).arg(tool());
-        finish(shell.current_dir(&self.directory).stdin(Stdio::null()))
-    }
-}
-
-impl Drop for Desk {
-    fn drop(&mut self) {
-        let _ = fs::remove_dir_all(&self.directory);
+        finish(
+            shell
+                .current_dir(self.directory.path())
+                .stdin(Stdio::null()),
+        )
     }
 }
 
