@@ -75,21 +75,27 @@ fn texts_that_are_no_value_of_their_column() {
 fn sides_fit_their_kind() {
     let desk = Desk::with("desk.book");
     let before = desk.read("desk.book");
-    for (kind, side, allowed) in [
-        ("pool repo", "buyer", "repo or reverse repo"),
-        ("specified repo", "seller", "repo or reverse repo"),
-        ("outright", "repo", "buyer or seller"),
-        ("outright", "reverse repo", "buyer or seller"),
+    // whole trades, but for the side
+    let repo = "kind=pool repo;phase=1;cash_curve=2;value_day_1=1;value_day_2=8;term=7;\
+                repo_cash=5;repo_rate=9";
+    let outright = tool::outright(5).join(";").replace("side=buyer;", "");
+    for (trade, side, allowed) in [
+        (repo, "buyer", "repo or reverse repo"),
+        (repo, "seller", "repo or reverse repo"),
+        (&outright, "repo", "buyer or seller"),
+        (&outright, "reverse repo", "buyer or seller"),
     ] {
-        let (kind, side) = (format!("kind={kind}"), format!("side={side}"));
-        let run = desk.run(&["append", "desk.book", &kind, &side, "cash_curve=2"]);
-        assert_eq!(run.status, REFUSED);
-        let line = run.err.lines().find(|line| line.contains("column side: "));
+        let mut values: Vec<String> = trade.split(';').map(str::to_owned).collect();
+        values.push(format!("side={side}"));
+        let run = desk.append("desk.book", &values);
+        assert_eq!((run.status, run.out.as_str()), (REFUSED, ""), "{side}");
+        let line = format!("column side: {side} is not for a");
         assert!(
-            line.is_some_and(|line| line.contains(allowed)),
+            run.err.contains(&line) && run.err.contains(allowed),
             "{}",
             run.err
         );
+        assert_eq!(run.err.lines().count(), 1, "{}", run.err);
     }
     assert_eq!(desk.read("desk.book"), before);
 }

@@ -17,8 +17,8 @@ fn control_characters_are_escaped() {
         (vec!["\u{1b}[2J"], MISUSED),
     ] {
         let run = desk.run(&arguments);
-        assert_eq!(run.status, status, "{arguments:?}");
         assert!(!run.err.contains('\u{1b}'), "{:?}", run.err);
+        assert_eq!(run.status, status, "{arguments:?}");
         assert!(run.err.contains("[2J"), "{:?}", run.err);
     }
     std::fs::copy(desk.path("buyer.book"), desk.path(format!("{clear}.book"))).unwrap();

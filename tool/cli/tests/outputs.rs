@@ -63,18 +63,26 @@ fn an_input_is_never_written_over_by_any_name() {
 
 #[test]
 fn what_is_no_file_is_written_through() {
-    let desk = Desk::with("desk.book");
-    let run = desk.shell(
-        "mkfifo pipe; timeout 20 cat pipe > got & \"$0\" export desk.book pipe; wait; test -p pipe",
-    );
-    assert_eq!((run.status, run.err.as_str()), (DONE, ""));
-    let exported = desk.done(&["export", "desk.book"]);
-    assert_eq!(desk.read("got"), exported.as_bytes());
-    assert_eq!(desk.done(&["export", "desk.book", "-"]), exported);
-    desk.run(&["export", "desk.book", "/dev/null"]);
-    assert!(!fs::metadata("/dev/null").unwrap().is_file());
-    let full = desk.ended(FAILED, &["export", "desk.book", "/dev/full"]);
-    assert!(full.starts_with("/dev/full: "), "{full}");
+    for command in ["plot desk.book 1", "export desk.book"] {
+        let desk = Desk::with("desk.book");
+        let run = desk.shell(&format!(
+            "mkfifo pipe; timeout 20 cat pipe > got & \
+             until test -p pipe; do sleep 0.01; done; \"$0\" {command} pipe; test -p pipe || exit 9; wait"
+        ));
+        assert_eq!((run.status, run.err.as_str()), (DONE, ""), "{command}");
+        let printed = desk.shell(&format!("\"$0\" {command} -"));
+        assert_eq!(desk.read("got"), printed.out.as_bytes(), "{command}");
+        let null = desk.shell(&format!("\"$0\" {command} /dev/null"));
+        assert_eq!(null.status, DONE);
+        assert!(!fs::metadata("/dev/null").unwrap().is_file());
+        let full = desk.shell(&format!("\"$0\" {command} /dev/full"));
+        assert_eq!(full.status, FAILED);
+        assert!(
+            full.err.starts_with("seddolki: /dev/full: "),
+            "{}",
+            full.err
+        );
+    }
 }
 
 #[test]
