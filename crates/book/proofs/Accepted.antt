@@ -1,5 +1,5 @@
 -- What an accepted book gives its user.
-use mathlib.Core.Path.{_≡_, sym, _∙_}
+use mathlib.Core.Path.{_≡_, sym, ap, _∙_}
 use mathlib.Core.Bool.{false}
 use mathlib.Core.List.{List}
 use Prim.Native.Nat.{ℕ, _+_, _-_, _*_, _/_, _%_, _≤_, _<_, min}
@@ -13,6 +13,7 @@ use Rattle.ground.specs.declared.Verdict.the-variants.{Accepted}
 use Rattle.layout.proofs.Bytes.{length-part}
 use Rattle.ground.proofs.Verdicts.{unless-accepted}
 use Rattle.curve_block.specs.Verdict.{curveVerdict}
+use Rattle.curve_block.proofs.Accepted.{SoundCurve, accepted-curve}
 use Rattle.book.specs.Parts.{blockAt, curveCount, tradeBlocks, curvesOf, recordCount, recordPlace, tradeCount, recordAt}
 use Rattle.book.specs.Rules.{breaksLength}
 use Rattle.book.specs.Verdict.{bytesVerdict, firstOf, blockVerdict, verdict}
@@ -35,15 +36,15 @@ pub record Sound (s : List ℕ) (used : ℕ) : Type 0 where
       TradesSound (curvesOf s) (blockAt s (1 + curveCount s + j)) (1 + curveCount s + j) (eqb (1 + curveCount s + j + 1) (1 + curveCount s + tradeBlocks s))
 
 module _ (s : List ℕ) (used : ℕ) (h : verdict s used ≡ Accepted) where
-  passed : (breaksLength used (length s) ≡ false) × (firstOf (blockVerdict s (used / 512)) 0 (used / 512) ≡ Accepted)
+  pub length-passed : (breaksLength used (length s) ≡ false) × (firstOf (blockVerdict s (used / 512)) 0 (used / 512) ≡ Accepted)
   unfolding verdict
-  passed = unless-accepted (breaksLength used (length s)) Length 0 _ h
+  length-passed = unless-accepted (breaksLength used (length s)) Length 0 _ h
 
   fits : Long used (length s)
-  fits = long used (length s) (passed .0)
+  fits = long used (length s) (length-passed .0)
 
-  block-passed : (k : ℕ) → k < used / 512 → blockVerdict s (used / 512) k ≡ Accepted
-  block-passed k l = first-at (blockVerdict s (used / 512)) 0 (used / 512) (passed .1) k (omega arith) (omega arith)
+  pub block-passed : (k : ℕ) → k < used / 512 → blockVerdict s (used / 512) k ≡ Accepted
+  block-passed k l = first-at (blockVerdict s (used / 512)) 0 (used / 512) (length-passed .1) k (omega arith) (omega arith)
 
   headed : HeaderSound (blockAt s 0) (used / 512)
   headed = let l = fits in header-accepted (blockAt s 0) (used / 512) (sym (first-block s (used / 512)) ∙ block-passed 0 (omega arith))
@@ -69,6 +70,16 @@ module _ (s : List ℕ) (used : ℕ) (h : verdict s used ≡ Accepted) where
             (trades-accepted (curvesOf s) (blockAt s (1 + curveCount s + j)) (1 + curveCount s + j) (eqb (1 + curveCount s + j + 1) (used / 512))
             (sym (trade-place s (used / 512) (1 + curveCount s + j) (omega arith) (omega arith)) ∙ block-passed (1 + curveCount s + j) (omega arith)));
       }
+
+-- ---- its curves
+
+module _ (s : List ℕ) (used : ℕ) (b : Sound s used) (k : ℕ) (least : 1 ≤ k) (most : k ≤ curveCount s) where
+  pub curve-block-accepted : curveVerdict (blockAt s k) k ≡ Accepted
+  curve-block-accepted = let e : 1 + (k - 1) ≡ k = omega arith in ap (λ (j : ℕ). curveVerdict (blockAt s j) j) (sym e) ∙ b .curve (k - 1) (omega arith)
+
+  -- a curve's block breaks nothing
+  pub curve-sound : SoundCurve (blockAt s k) k
+  curve-sound = accepted-curve (blockAt s k) k curve-block-accepted
 
 -- ---- its records
 

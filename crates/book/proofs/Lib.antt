@@ -8,3 +8,4 @@ pub mod HeaderBlock
 pub mod TradeBlock
 pub mod Encoded
 pub mod Canonical
+pub mod Replaced

@@ -10,7 +10,7 @@ use Rattle.laws.proofs.Signed.{cast, read, cast-is, read-is, abs-sub, abs-mul-l
 use Rattle.curve.specs.declared.Node.{Node}
 use Rattle.curve.specs.Rates.{interpolated, Between}
 use Rattle.curve.specs.Limits.{highestRate, Limits}
-use Rattle.curve.proofs.Line.{line, part-le, line-up, line-down, line-high, line-monotone}
+use Rattle.curve.proofs.Line.{line, part-le, line-up, line-down, line-high, line-start, line-monotone}
 
 abbrev rise : Node → Node → ℤ
 rise a b = pos (b .rate) -ℤ pos (a .rate)
@@ -47,6 +47,12 @@ module _ (a b : Node) (t : ℕ) (h : Between a b t) where
 
   pub interpolated-high : (m : ℕ) → a .rate ≤ m → b .rate ≤ m → natAbs (interpolated a b t) ≤ m
   interpolated-high m p q = rw interpolated-line (line-high (a .rate) (b .rate) (t - a .day) (b .day - a .day) (omega arith) m p q)
+
+-- on the first node's day it is that node's rate
+pub interpolated-start : (a b : Node) → a .day < b .day → natAbs (interpolated a b (a .day)) ≡ a .rate
+interpolated-start a b h =
+    let gone : a .day - a .day ≡ 0 = omega arith in
+    rw (interpolated-line a b (a .day) (record { from = omega arith; before = h }), gone) (line-start (a .rate) (b .rate) (b .day - a .day))
 
 -- it does not fall where a node's rate rises
 pub interpolated-monotone

@@ -3,6 +3,7 @@ pub mod Line
 pub mod Interpolation
 pub mod Search
 pub mod Rates
+pub mod Lengthened
 pub mod Coefficients
 pub mod Scenarios
 pub mod Shifting

@@ -3,7 +3,7 @@
 use mathlib.Core.Path.{_≡_, refl}
 use mathlib.Core.Bool.{Bool, true, false, cond}
 use Prim.Native.Nat.{ℕ, _+_, _-_, _*_, _/_, _≤_, _<_}
-use native.Mathlib.Nat.{mul-le-mul-left, mul-le-mul-right, le-trans, mul-comm, div-le-of-le-mul, div-mul-le-self, lt-div-mul-add, le-of-mul-le-mul-right, lt-of-mul-lt-mul-right}
+use native.Mathlib.Nat.{mul-le-mul-left, mul-le-mul-right, le-trans, mul-comm, div-le-of-le-mul, div-mul-le-self, lt-div-mul-add, le-of-mul-le-mul-right, lt-of-mul-lt-mul-right, mul-zero, zero-div}
 use native.Mathlib.Omega.{arith}
 use borrow.Author.Tests.{leb-true, leb-false, le-leb, lt-leb}
 use lib.Dec.{leb}
@@ -34,6 +34,15 @@ module _ (r s g n : ℕ) where
         go : (t : Bool) → leb r s ≡ t → cond t (r + (s - r) * g / n) (r - (r - s) * g / n) ≤ m
         go true e = omega (arith, part-le (s - r) g n l, leb-true)
         go false e = omega arith
+
+-- it starts at its first end
+pub line-start : (r s n : ℕ) → line r s 0 n ≡ r
+unfolding line
+line-start r s n = go (leb r s)
+  where
+    go : (t : Bool) → cond t (r + (s - r) * 0 / n) (r - (r - s) * 0 / n) ≡ r
+    go true = simp (mul-zero, zero-div) (omega arith)
+    go false = simp (mul-zero, zero-div) (omega arith)
 
 -- ---- the line does not fall where an end rises. With k days left of n = k + g, n times the exact rate is r * k + s * g.
 

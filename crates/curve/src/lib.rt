@@ -6,6 +6,7 @@ ghost use Rattle.curve.specs.Rates.{nodesOf, interpolated, rateAt, Betwe
 ghost use Rattle.curve.specs.Limits.{Limits, Proper, ComponentLimits, ProperComponents, ScenarioLimits};
 ghost use Rattle.curve.specs.Scenarios.{coefficientCount, coefficient, scenarioCount, scenarioAt};
 ghost use Rattle.curve.specs.Stress.{shifted, clamped, stressed, stressedCurve};
+ghost use Rattle.curve.specs.Lengthen.{endDay, lengthenedCurve, atRate};
 
 // A node of a curve: its rate on a day, and the three components of the rate's moves, all in millionths.
 pub struct Node {
@@ -184,6 +185,40 @@ impl Curve {
             r.nodes[i] = b;
             i += 1;
         }
+        r
+    }
+}
+
+impl Node {
+    // The node at a rate.
+    pub fn at_rate(self, rate: u64) -> Node
+        ensures { λ r. ⌜ r ≡ atRate self rate ⌝ }
+    {
+        let mut n = self;
+        n.rate = rate;
+        n
+    }
+}
+
+impl Curve {
+    // The day of the last node.
+    pub fn end_day(self) -> u64
+        requires { ⌜ Proper self ⌝ }
+        ensures { λ r. ⌜ r ≡ endDay self ⌝ }
+    {
+        let last = self.nodes[self.count - 1];
+        last.day
+    }
+
+    // The curve with one node more, behind the last.
+    pub fn lengthened(self, n: Node) -> Curve
+        requires { ⌜ Proper self × (self .count < 24) ⌝ }
+        ensures { λ r. ⌜ r ≡ lengthenedCurve n self ⌝ }
+    {
+        let mut r = self;
+        let at = self.count;
+        r.nodes[at] = n;
+        r.count = at + 1;
         r
     }
 }

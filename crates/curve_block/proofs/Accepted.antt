@@ -44,7 +44,7 @@ steps-kept x h =
 
 -- ---- ground 6
 
-component-kept : (z : ℤ) → componentSound z ≡ true → natAbs z ≤ 1000000
+pub component-kept : (z : ℤ) → componentSound z ≡ true → natAbs z ≤ 1000000
 unfolding componentSound
 component-kept (pos n) h = leb-true n 1000000 h
 component-kept (negsuc n) h = let l : n ≤ 999999 = leb-true n 999999 (both (leb n 999999) true h .0) in omega arith

@@ -29,7 +29,7 @@ pub fn node_count(b: &[u8]) -> usize
 }
 
 // Where node i starts.
-fn node_place(i: usize) -> usize
+pub fn node_place(i: usize) -> usize
     requires { ⌜ i ≤ 24 ⌝ }
     ensures { λ r. ⌜ r ≡ nodePlace i ⌝ }
 {

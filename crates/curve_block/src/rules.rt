@@ -86,7 +86,8 @@ pub fn breaks_curve(b: &[u8], k: u64) -> bool
     !unnamed_zero(b)
 }
 
-fn component_sound(z: i64) -> bool
+// A component of a node.
+pub fn component_sound(z: i64) -> bool
     ensures { λ r. ⌜ r ≡ componentSound z ⌝ }
 {
     (-1_000_000 <= z) & (z <= 1_000_000)

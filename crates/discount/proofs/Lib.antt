@@ -7,4 +7,5 @@ pub mod Factors
 pub mod Exactness
 pub mod Bound
 pub mod FlowBounds
+pub mod Sums
 pub mod Figures

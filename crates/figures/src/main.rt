@@ -1,9 +1,11 @@
 // Compares the engine's arithmetic with the worked figures of source document 004, and with those that document 01 takes from it: a line for
 // each, and their count.
+mod extension;
 mod figure;
 mod worked;
 
 use decimal::round::half_up;
+use extension::found_rate;
 use figure::COUNT;
 use figure::Figure;
 use figure::Work;
@@ -62,6 +64,31 @@ fn compare(f: Figure) -> bool {
     false
 }
 
+// Four digits behind the point.
+fn write_fraction(n: u64) {
+    io::write_all(1, b".");
+    io::print_decimal(1, n / 1000 % 10);
+    io::print_decimal(1, n / 100 % 10);
+    io::print_decimal(1, n / 10 % 10);
+    io::print_decimal(1, n % 10);
+}
+
+// The bootstrap of 004: it discounts by simple interest, where its other examples compound, and leaves the rate open.
+fn write_extension() {
+    let value = worked(Work::Present(500_000_000, 105_000, 170)) / 10_000;
+    let rate = found_rate();
+    io::write_all(
+        1,
+        b"line 318: present value of 5 by simple interest 4.767, engine ",
+    );
+    io::print_decimal(1, value / 10_000);
+    write_fraction(value);
+    io::write_all(1, b"\nline 319: rate of day 350 left open, engine ");
+    io::print_decimal(1, rate / 10_000);
+    write_fraction(rate);
+    io::write_all(1, b"%\n");
+}
+
 // The last line.
 fn write_count(agreed: u64) {
     io::print_decimal(1, COUNT as u64);
@@ -79,5 +106,6 @@ fn main() {
         }
         i += 1;
     }
+    write_extension();
     write_count(agreed);
 }

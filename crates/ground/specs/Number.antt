@@ -1,7 +1,7 @@
--- The number of each ground (document 01, "Grounds of refusal").
+-- The number of each ground (document 01, "Grounds of refusal"; from 17 on, document 02).
 use Prim.Native.Nat.{ℕ}
 use Rattle.ground.specs.declared.Ground.{Ground}
-use Rattle.ground.specs.declared.Ground.the-variants.{Length, Check, Place, Header, Curve, Node, TradeBlock, Form, Days, Amounts, Currency, FlowLimit, ReportSpace, Position, BookSpace, ValueRange}
+use Rattle.ground.specs.declared.Ground.the-variants.{Length, Check, Place, Header, Curve, Node, TradeBlock, Form, Days, Amounts, Currency, FlowLimit, ReportSpace, Position, BookSpace, ValueRange, CurveEnd, RateRange}
 
 abbrev pub numberOf : Ground → ℕ
 numberOf Length = 1
@@ -20,3 +20,5 @@ numberOf ReportSpace = 13
 numberOf Position = 14
 numberOf BookSpace = 15
 numberOf ValueRange = 16
+numberOf CurveEnd = 17
+numberOf RateRange = 18

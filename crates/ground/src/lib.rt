@@ -7,7 +7,7 @@ ghost use Rattle.ground.specs.Verdicts.{orElse, unless, isAccepted};
 // The last day of a field or flow.
 pub const LAST_DAY: u64 = 10_950;
 
-// A case for each rule of document 01.
+// A case for each rule of documents 01 and 02.
 pub enum Ground {
     Length,
     Check,
@@ -25,6 +25,8 @@ pub enum Ground {
     Position,
     BookSpace,
     ValueRange,
+    CurveEnd,
+    RateRange,
 }
 
 // The answer of a check: nothing found, or the first ground that applies and the block that it was found in.
@@ -59,7 +61,7 @@ impl Verdict {
     }
 }
 
-// The ground's number in document 01.
+// The ground's number in documents 01 and 02.
 pub fn number(g: Ground) -> u64
     ensures { λ r. ⌜ r ≡ numberOf g ⌝ }
 {
@@ -80,5 +82,7 @@ pub fn number(g: Ground) -> u64
         Ground::Position => 14,
         Ground::BookSpace => 15,
         Ground::ValueRange => 16,
+        Ground::CurveEnd => 17,
+        Ground::RateRange => 18,
     }
 }

@@ -14,7 +14,7 @@ use mir.Facts.{toZ-ofZ, toZ-pos}
 
 -- ---- what fits, and is read back
 
-mag-abs : (z : ℤ) → mag z ≤ natAbs z
+pub mag-abs : (z : ℤ) → mag z ≤ natAbs z
 mag-abs (pos n) = omega arith
 mag-abs (negsuc n) = omega arith
 

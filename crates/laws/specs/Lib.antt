@@ -1,4 +1,5 @@
 pub mod Greatest
+pub mod Smallest
 pub mod Distance
 pub mod Walk
 pub mod Every

@@ -86,17 +86,17 @@ byte-put s at (b ∷ bs) (suc k) h l =
     let w : suc at + length bs ≤ length (set s at b) = rw length-set (omega arith) in
     rw e (byte-put (set s at b) (suc at) bs k w (omega arith))
 
+pub bytes-set : (s : List ℕ) (at b : ℕ) → AreBytes s → b < 256 → AreBytes (set s at b)
+bytes-set [] at b h l k = h k
+bytes-set (x ∷ s) zero b h l zero = l
+bytes-set (x ∷ s) zero b h l (suc k) = h (suc k)
+bytes-set (x ∷ s) (suc at) b h l zero = h 0
+bytes-set (x ∷ s) (suc at) b h l (suc k) = bytes-set s at b (λ j. h (suc j)) l k
+
 pub bytes-put : (s : List ℕ) (at : ℕ) (bs : List ℕ) → AreBytes s → AreBytes bs → AreBytes (put s at bs)
 unfolding put
 bytes-put s at [] hs hb = hs
-bytes-put s at (b ∷ bs) hs hb = bytes-put (set s at b) (suc at) bs (one s at hs) (λ k. hb (suc k))
-  where
-    one : (s : List ℕ) (at : ℕ) → AreBytes s → AreBytes (set s at b)
-    one [] at h k = h k
-    one (x ∷ s) zero h zero = hb 0
-    one (x ∷ s) zero h (suc k) = h (suc k)
-    one (x ∷ s) (suc at) h zero = h 0
-    one (x ∷ s) (suc at) h (suc k) = one s at (λ j. h (suc j)) k
+bytes-put s at (b ∷ bs) hs hb = bytes-put (set s at b) (suc at) bs (bytes-set s at b hs (hb 0)) (λ k. hb (suc k))
 
 -- ---- parts
 
@@ -172,6 +172,11 @@ put-behind [] s at bs = rw zero-add
 put-behind (x ∷ xs) s at bs =
     let e : suc (length xs) + at ≡ suc (length xs + at) = omega arith in
     rw e (put-later x (xs ++ s) (length xs + at) bs ∙ ap (λ (l : List ℕ). x ∷ l) (put-behind xs s at bs))
+
+pub bytes-append : (s t : List ℕ) → AreBytes s → AreBytes t → AreBytes (s ++ t)
+bytes-append [] t hs ht k = ht k
+bytes-append (x ∷ s) t hs ht zero = hs 0
+bytes-append (x ∷ s) t hs ht (suc k) = bytes-append s t (λ j. hs (suc j)) ht k
 
 -- written over the first
 pub put-over : (xs bs s : List ℕ) → length xs ≡ length bs → put (xs ++ s) 0 bs ≡ bs ++ s

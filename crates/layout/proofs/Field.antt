@@ -4,17 +4,19 @@ use mathlib.Core.Bool.{Bool, true, false, cond}
 use mathlib.Core.Logic.{_⊎_, inl, inr}
 use mathlib.Core.List.{List, [], _∷_, _++_}
 use Prim.Native.Nat.{ℕ, zero, suc, _+_, _-_, _*_, _/_, _%_, _^_, _≤_, _<_}
-use native.Mathlib.Nat.{zero-add, add-zero, one-mul, pow-zero, pow-suc}
+use native.Mathlib.Nat.{zero-add, add-zero, one-mul, pow-zero, pow-suc, two-pow-succ, one-le-pow}
 use native.Mathlib.Omega.{arith}
 use borrow.Author.Tests.{lt-ltb, le-ltb}
 use lib.Dec.{ltb}
+use lib.Pow.{pow-add}
 use lib.IntN.{ℤ, pos, negsuc, _-ℤ_}
 use lib.Signed.{mag}
 use lib.ListN.{length, set, List·getD-append}
 use lib.Seq.{getD-append-add, drop-cons}
 use Rattle.laws.proofs.Signed.{sub-down}
+use Rattle.laws.proofs.Powers.{pow-mul}
 use Rattle.layout.specs.Bytes.{byteAt, part, put, AreBytes}
-use Rattle.layout.specs.Field.{numberAt, bytesOf, signedOf, twos, i64At}
+use Rattle.layout.specs.Field.{numberAt, bytesOf, signedOf, twos}
 use Rattle.layout.proofs.Bytes.{byte-apart, byte-put, byte-part, put-part}
 
 -- ---- a field is its bytes
@@ -135,36 +137,70 @@ put-last s at n v h = rw h refl
 
 -- ---- signed fields
 
-pub twos-bound : (z : ℤ) → mag z < 2 ^ 63 → twos z < 2 ^ 64
-unfolding twos
-twos-bound (pos n) h = omega arith
-twos-bound (negsuc n) h = omega arith
-
-pub signed-twos : (z : ℤ) → mag z < 2 ^ 63 → signedOf 64 (twos z) ≡ z
-unfolding twos signedOf
-signed-twos (pos n) h = rw (lt-ltb n (2 ^ 63) h)
-signed-twos (negsuc n) h =
-    let back : 2 ^ 64 - (2 ^ 64 - suc n) ≡ suc n = omega arith in
-    rw (le-ltb (2 ^ 64 - suc n) (2 ^ 63) (omega arith)) (sub-down (2 ^ 64 - suc n) (2 ^ 64) (omega arith) ∙ rw back)
-
 -- the number of so many bits that stands for a signed one
 unsigned : ℕ → ℤ → ℕ
 unsigned bits (pos n) = n
 unsigned bits (negsuc n) = 2 ^ bits - suc n
 
-unsigned-signed : (bits n : ℕ) → n < 2 ^ bits → unsigned bits (signedOf bits n) ≡ n
-unfolding unsigned signedOf
-unsigned-signed bits n h = go (ltb n (2 ^ (bits - 1)))
-  where
-    go : (t : Bool) → unsigned bits (cond t (pos n) (pos n -ℤ pos (2 ^ bits))) ≡ n
-    go true = refl
-    go false =
-        let e : 2 ^ bits - n ≡ suc (2 ^ bits - n - 1) = omega arith in
-        rw (sub-down n (2 ^ bits) (omega arith), e) (omega arith)
+module _ (bits : ℕ) where
+  unsigned-signed : (n : ℕ) → n < 2 ^ bits → unsigned bits (signedOf bits n) ≡ n
+  unfolding unsigned signedOf
+  unsigned-signed n h = go (ltb n (2 ^ (bits - 1)))
+    where
+      go : (t : Bool) → unsigned bits (cond t (pos n) (pos n -ℤ pos (2 ^ bits))) ≡ n
+      go true = refl
+      go false =
+          let e : 2 ^ bits - n ≡ suc (2 ^ bits - n - 1) = omega arith in
+          rw (sub-down n (2 ^ bits) (omega arith), e) (omega arith)
 
--- a signed field settles its bits
-pub signed-settles : (bits m n : ℕ) → m < 2 ^ bits → n < 2 ^ bits → signedOf bits m ≡ signedOf bits n → m ≡ n
-signed-settles bits m n hm hn e = sym (unsigned-signed bits m hm) ∙ ap (unsigned bits) e ∙ unsigned-signed bits n hn
+  -- a signed field settles its bits
+  pub signed-settles : (m n : ℕ) → m < 2 ^ bits → n < 2 ^ bits → signedOf bits m ≡ signedOf bits n → m ≡ n
+  signed-settles m n hm hn e = sym (unsigned-signed m hm) ∙ ap (unsigned bits) e ∙ unsigned-signed n hn
 
-pub i64-put : (s : List ℕ) (at : ℕ) (z : ℤ) → at + 8 ≤ length s → mag z < 2 ^ 63 → i64At (put s at (bytesOf 8 (twos z))) at ≡ z
-i64-put s at z h b = rw (field-put 8 s at (twos z) h (twos-bound z b)) (signed-twos z b)
+  halves : 0 < bits → 2 ^ bits ≡ 2 ^ (bits - 1) + 2 ^ (bits - 1)
+  halves h = let e : bits ≡ suc (bits - 1) = omega arith in ap (λ (n : ℕ). 2 ^ n) e ∙ two-pow-succ (bits - 1)
+
+  unsigned-bound : (z : ℤ) → 0 < bits → mag z < 2 ^ (bits - 1) → unsigned bits z < 2 ^ bits
+  unfolding unsigned
+  unsigned-bound (pos n) some h = omega (arith, halves some)
+  unsigned-bound (negsuc n) some h = omega (arith, halves some)
+
+  -- and a number that its bits have room for is read back
+  signed-unsigned : (z : ℤ) → 0 < bits → mag z < 2 ^ (bits - 1) → signedOf bits (unsigned bits z) ≡ z
+  unfolding unsigned signedOf
+  signed-unsigned (pos n) some h = rw (lt-ltb n (2 ^ (bits - 1)) h)
+  signed-unsigned (negsuc n) some h =
+      let e = halves some in
+      let back : 2 ^ bits - (2 ^ bits - suc n) ≡ suc n = omega arith in
+      rw (le-ltb (2 ^ bits - suc n) (2 ^ (bits - 1)) (omega arith)) (sub-down (2 ^ bits - suc n) (2 ^ bits) (omega arith) ∙ rw back)
+
+-- the low bytes of a number do not see what lies above them
+bytes-low : (n v q : ℕ) → bytesOf n (v + q * 256 ^ n) ≡ bytesOf n v
+unfolding bytesOf
+bytes-low zero v q = refl
+bytes-low (suc n) v q =
+    let low : (v + q * 256 ^ suc n) % 256 ≡ v % 256 = rw pow-suc (omega arith) in
+    let high : (v + q * 256 ^ suc n) / 256 ≡ v / 256 + q * 256 ^ n = rw pow-suc (omega arith) in
+    rw (low, high, bytes-low n (v / 256) q)
+
+-- a number less k, where k reaches no higher than its low part
+above : (low high k all : ℕ) → high * low ≡ all → k ≤ low → 1 ≤ high → all - k ≡ (low - k) + (high - 1) * low
+above low zero k all e h l = absurd (omega arith)
+above low (suc high) k all e h l = let p : suc high - 1 ≡ high = omega arith in rw p (omega arith)
+
+-- so those of its 64 bits are those of the bits of its width
+bytes-twos : (n : ℕ) (z : ℤ) → n ≤ 8 → mag z < 256 ^ n → bytesOf n (twos z) ≡ bytesOf n (unsigned (8 * n) z)
+unfolding twos unsigned
+bytes-twos n (pos k) h b = refl
+bytes-twos n (negsuc k) h b =
+    let whole : (8 - n) + n ≡ 8 = omega arith in
+    let e : 256 ^ (8 - n) * 256 ^ n ≡ 2 ^ 64 = sym (pow-add 256 (8 - n) n) ∙ ap (λ (m : ℕ). 256 ^ m) whole in
+    rw (above (256 ^ n) (256 ^ (8 - n)) (suc k) (2 ^ 64) e (omega arith) (one-le-pow (8 - n) 256 (omega arith)), bytes-low, pow-mul 2 8 n)
+
+-- the low bytes of a signed number's two's complement stand for it, at every width that has room for it
+pub signed-bytes : (n : ℕ) (z : ℤ) → 0 < n → n ≤ 8 → mag z < 2 ^ (8 * n - 1) → signedOf (8 * n) (numberAt n (bytesOf n (twos z)) 0) ≡ z
+signed-bytes n z some most h =
+    let all = unsigned-bound (8 * n) z (omega arith) h in
+    let e = pow-mul 2 8 n in
+    rw (bytes-twos n z most (omega (arith, halves (8 * n) (omega arith))), number-bytes n (unsigned (8 * n) z) (omega arith))
+    (signed-unsigned (8 * n) z (omega arith) h)

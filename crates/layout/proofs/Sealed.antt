@@ -13,8 +13,8 @@ use Rattle.laws.proofs.Bools.{both}
 use Rattle.layout.specs.Bytes.{byteAt, part, put, AreBytes}
 use Rattle.layout.specs.Field.{numberAt, u16At, u32At, bytesOf}
 use Rattle.layout.specs.Check.{words, checkOf, sealed, breaksCheck, breaksPlace}
-use Rattle.layout.proofs.Bytes.{length-put, byte-apart, part-apart, put-again}
-use Rattle.layout.proofs.Field.{field-same, field-apart, field-put, put-field, length-bytes}
+use Rattle.layout.proofs.Bytes.{length-put, byte-apart, bytes-put, part-apart, put-again}
+use Rattle.layout.proofs.Field.{field-same, field-apart, field-put, put-field, length-bytes, bytes-bytes}
 
 -- ---- what the check reads
 
@@ -41,6 +41,10 @@ check-bound b = mod-lt _ (omega arith)
 pub length-sealed : (b : List ℕ) → length (sealed b) ≡ length b
 unfolding sealed
 length-sealed b = length-put b 508 (bytesOf 4 (checkOf b))
+
+pub bytes-sealed : (b : List ℕ) → AreBytes b → AreBytes (sealed b)
+unfolding sealed
+bytes-sealed b h = bytes-put b 508 (bytesOf 4 (checkOf b)) h (bytes-bytes 4 (checkOf b))
 
 pub byte-sealed : (b : List ℕ) (k : ℕ) → (k < 508) ⊎ (512 ≤ k) → byteAt (sealed b) k ≡ byteAt b k
 unfolding sealed

@@ -1,7 +1,8 @@
 -- The 64 bits of a signed number, by the code's test of its sign.
 use mathlib.Core.Path.{_≡_, refl, _∙_, ap}
 use mathlib.Core.Bool.{true, false, true≢false}
-use Prim.Native.Nat.{suc, _-_, _^_, _<_}
+use mathlib.Core.List.{List}
+use Prim.Native.Nat.{ℕ, suc, _-_, _^_, _<_}
 use native.Mathlib.Omega.{arith}
 use borrow.Author.Tests.{ltb-true}
 use lib.IntN.{ℤ, pos, negsuc, natAbs, _-ℤ_}
@@ -10,7 +11,8 @@ use mir.Syntax.{w64}
 use mir.Val.{SFits}
 use mir.Facts.{toZ-ofZ}
 use Rattle.laws.proofs.Signed.{read, read-is, sub-up, tested}
-use Rattle.layout.specs.Field.{twos}
+use Rattle.layout.specs.Bytes.{put}
+use Rattle.layout.specs.Field.{bytesOf, twos}
 
 -- what the code computes of a number below 0, and of any other
 pub record Negative (v : ℤ) : Type 0 where
@@ -43,3 +45,7 @@ module _ (v : ℤ) (f : SFits w64 v) where
 
   pub code-back : ltZ (read v) (pos 0) ≡ true → read (negsuc 0 -ℤ read v) ≡ pos (mag v)
   code-back t = rw (code-flip t) (read-is (pos (mag v)) (f .sfits))
+
+-- a signed number is written as it is read back from its bits
+pub read-back : (s : List ℕ) (at n : ℕ) (z : ℤ) → SFits w64 z → put s at (bytesOf n (twos (read z))) ≡ put s at (bytesOf n (twos z))
+read-back s at n z f = rw (code-read z f)

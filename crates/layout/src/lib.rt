@@ -91,11 +91,12 @@ fn bits_of(v: i64) -> u64
     v as u64
 }
 
-pub fn put_i64(out: &mut [u8], at: usize, v: i64)
-    requires { ⌜ at + 8 ≤ length (now out) ⌝ }
-    ensures { λ _. ⌜ now (out .exit) ≡ put (now (out .entry)) at (bytesOf 8 (twos v)) ⌝ }
+// Writes the n low bytes of a signed number in two's complement.
+pub fn put_signed(out: &mut [u8], at: usize, n: usize, v: i64)
+    requires { ⌜ at + n ≤ length (now out) ⌝ }
+    ensures { λ _. ⌜ now (out .exit) ≡ put (now (out .entry)) at (bytesOf n (twos v)) ⌝ }
 {
-    put_le(out, at, 8, bits_of(v));
+    put_le(out, at, n, bits_of(v));
 }
 
 // Copies all of src over dst from a place on.

@@ -23,7 +23,7 @@ use Rattle.curve.proofs.Rates.{each-limits}
 use Rattle.curve.proofs.Scenarios.{scenarios-most}
 use Rattle.book.specs.Parts.{curveCount}
 use Rattle.book.specs.Verdict.{verdict}
-use Rattle.book.proofs.Accepted.{Sound, sound}
+use Rattle.book.proofs.Accepted.{Sound, sound, curve-sound}
 use Rattle.margin.specs.declared.CurveMargin.{CurveMargin}
 use Rattle.margin.specs.declared.CurrencyMargin.{CurrencyMargin}
 use Rattle.margin.specs.Exposure.{Exposure}
@@ -40,7 +40,7 @@ use Rattle.exposure.specs.Exposures.{exposureAt, exposures}
 use Rattle.exposure.proofs.Fitting.{exposure-fits}
 use Rattle.report.specs.Entry.{marginIn, breaksReportSpace, marginVerdict, marginBytes}
 use Rattle.report.specs.Bounded.{Bounded}
-use Rattle.report.proofs.Placed.{length-exposures, length-figures, figures-at, block-sound, exposures-fit}
+use Rattle.report.proofs.Placed.{length-exposures, length-figures, figures-at, exposures-fit}
 use Rattle.report.proofs.Answers.{space}
 
 -- ---- the sum of a currency's losses fits 64 bits
@@ -60,14 +60,14 @@ module _ (s : List ℕ) (used : ℕ) (b : Sound s used) where
 
   nodes-limits : (k : ℕ) → 1 ≤ k → k ≤ curveCount s → All Limits (exposureAt s k .nodes)
   unfolding exposureAt
-  nodes-limits k l m = each-limits _ (block-sound s used b k l m .curve)
+  nodes-limits k l m = each-limits _ (curve-sound s used b k l m .curve)
 
   figures-fit : (k : ℕ) → 1 ≤ k → k ≤ curveCount s → CurveFits (curveMargin (exposureAt s k))
   unfolding curveMargin exposureAt unit
   figures-fit k l m =
       let f = exposure-fits s used b k in
       let limits = margin-limits (exposureAt s k) (f .each) (f .few) in
-      let c = block-sound s used b k l m in
+      let c = curve-sound s used b k l m in
       let figures = curveMargin (exposureAt s k) in
       record {
         base = fits (figures .base) (value-fits (figures .base) (limits .base)) .sfits;

@@ -1,7 +1,7 @@
 -- The curves of an accepted book, and their figures in eight places, one by one.
 use mathlib.Core.Path.{_≡_, sym, ap, _∙_, subst}
 use mathlib.Core.List.{List, map}
-use Prim.Native.Nat.{ℕ, zero, suc, _+_, _-_, _≤_, _<_}
+use Prim.Native.Nat.{ℕ, zero, suc, _+_, _≤_, _<_}
 use native.Mathlib.Decide.{ℕ-discrete}
 use native.Mathlib.Omega.{arith}
 use lib.ListN.{length, getD, take, set, length-set, length-map}
@@ -9,9 +9,7 @@ use lib.Seq.{ext-getD, getD-take, length-take-le, getD-set-same, getD-set-other}
 use Rattle.laws.specs.Walk.{table}
 use Rattle.laws.proofs.Walk.{length-table, getD-table}
 use Rattle.laws.proofs.Lists.{getD-map-in}
-use Rattle.curve_block.specs.Verdict.{curveVerdict}
-use Rattle.curve_block.proofs.Accepted as block
-use Rattle.book.specs.Parts.{blockAt, curveCount}
+use Rattle.book.specs.Parts.{curveCount}
 use Rattle.book.proofs.Accepted.{Sound}
 use Rattle.margin.specs.declared.CurveMargin.{CurveMargin}
 use Rattle.margin.specs.Exposure.{Exposure}
@@ -61,12 +59,6 @@ module _ (s : List ℕ) (curves : List CurveMargin) (k : ℕ) (h : CurvesPlaced 
       (λ i b. getD-take k curves i noCurve (omega arith) ∙ h .each i (omega arith) ∙ sym (figures-at s i (omega arith)))
 
 module _ (s : List ℕ) (used : ℕ) (b : Sound s used) where
-  -- a curve's block breaks nothing
-  pub block-sound : (k : ℕ) → 1 ≤ k → k ≤ curveCount s → block.SoundCurve (blockAt s k) k
-  block-sound k l m =
-      let e : 1 + (k - 1) ≡ k = omega arith in
-      block.accepted-curve (blockAt s k) k (ap (λ (j : ℕ). curveVerdict (blockAt s j) j) (sym e) ∙ b .curve (k - 1) (omega arith))
-
   all-fit : (i n : ℕ) → AllFlowsFit (table (exposureAt s) i n)
   unfolding table
   all-fit i zero = tt

@@ -4,20 +4,15 @@ use mathlib.Core.Bool.{false}
 use mathlib.Core.List.{List, [], _∷_, _++_, flatMap}
 use Prim.Native.Nat.{ℕ, _+_, _≤_}
 use native.Mathlib.Omega.{arith}
-use lib.IntN.{ℤ}
 use lib.ListN.{length, take, drop, replicate, length-append, length-replicate}
 use lib.Seq.{take-at, drop-at}
 use lib.Dec.{lit<}
-use mir.Syntax.{w64}
-use mir.Val.{SFits}
-use Rattle.laws.proofs.Signed.{read}
 use Rattle.laws.proofs.Lists.{length-flatMap}
 use Rattle.layout.specs.Bytes.{byteAt, part, put}
 use Rattle.layout.specs.Field.{u16At, numberAt, bytesOf, twos}
 use Rattle.layout.specs.Check.{sealed, breaksCheck, breaksPlace}
 use Rattle.layout.proofs.Bytes.{then, put-front}
 use Rattle.layout.proofs.Field.{length-bytes, field-byte, field-front}
-use Rattle.layout.proofs.Signed.{code-read}
 use Rattle.layout.proofs.Sealed.{length-sealed, field-sealed, sealed-sound}
 use Rattle.margin.specs.declared.CurveMargin.{CurveMargin}
 use Rattle.margin.specs.declared.CurrencyMargin.{CurrencyMargin}
@@ -94,10 +89,6 @@ unfolding currencyBytes bytesOf twos
 absent-currency = refl
 
 -- ---- written field by field
-
--- a signed number is written as it is read back from its bits
-pub read-back : (s : List ℕ) (at : ℕ) (z : ℤ) → SFits w64 z → put s at (bytesOf 8 (twos (read z))) ≡ put s at (bytesOf 8 (twos z))
-read-back s at z f = rw (code-read z f)
 
 pub curve-put : (s a b c d e : List ℕ) (at : ℕ) (m : CurveMargin)
     → a ≡ put s at (bytesOf 8 (twos (m .base)))

@@ -8,7 +8,7 @@ use lib.IntN.{ℤ}
 use lib.Signed.{mag}
 use lib.ListN.{length, getD, replicate, length-append}
 use Rattle.layout.specs.Field.{numberAt, bytesOf, signedOf, twos}
-use Rattle.layout.proofs.Field.{field-front, length-bytes, number-bytes, twos-bound, signed-twos}
+use Rattle.layout.proofs.Field.{field-front, length-bytes, number-bytes, signed-bytes}
 use Rattle.margin.specs.declared.CurveMargin.{CurveMargin}
 use Rattle.margin.specs.declared.CurrencyMargin.{CurrencyMargin}
 use Rattle.margin.specs.declared.Margin.{Margin}
@@ -35,7 +35,7 @@ use Rattle.report_block.proofs.Report.{Places, length-curve, length-cur
 
 -- the bits of a signed number, read back from the bytes of its field
 signed-back : (z : ℤ) {n : ℕ} → n ≡ numberAt 8 (bytesOf 8 (twos z)) 0 → mag z < 2 ^ 63 → signedOf 64 n ≡ z
-signed-back z e h = rw (e, number-bytes 8 (twos z) (twos-bound z h)) (signed-twos z h)
+signed-back z e h = rw e (signed-bytes 8 z (omega arith) (omega arith) h)
 
 same-curve : {base base' loss loss' : ℤ} {scenario scenario' currency currency' tolerance tolerance' : ℕ}
     → base ≡ base' → loss ≡ loss' → scenario ≡ scenario' → currency ≡ currency' → tolerance ≡ tolerance'

@@ -1,7 +1,7 @@
 // The report of a margin, written as one block.
 use layout::check::seal;
-use layout::put_i64;
 use layout::put_le;
+use layout::put_signed;
 use margin::CurrencyMargin;
 use margin::CurveMargin;
 use margin::Margin;
@@ -16,8 +16,8 @@ fn put_curve(out: &mut [u8], at: usize, m: CurveMargin)
     requires { ⌜ at + 32 ≤ length (now out) ⌝ }
     ensures { λ _. ⌜ now (out .exit) ≡ put (now (out .entry)) at (curveBytes m) ⌝ }
 {
-    put_i64(out, at, m.base);
-    put_i64(out, at + 8, m.loss);
+    put_signed(out, at, 8, m.base);
+    put_signed(out, at + 8, 8, m.loss);
     put_le(out, at + 16, 4, m.scenario);
     put_le(out, at + 20, 4, m.currency);
     put_le(out, at + 24, 8, m.tolerance);
@@ -27,9 +27,9 @@ fn put_currency(out: &mut [u8], at: usize, m: CurrencyMargin)
     requires { ⌜ at + 24 ≤ length (now out) ⌝ }
     ensures { λ _. ⌜ now (out .exit) ≡ put (now (out .entry)) at (currencyBytes m) ⌝ }
 {
-    put_i64(out, at, m.initial);
-    put_i64(out, at + 8, m.variation);
-    put_i64(out, at + 16, m.total);
+    put_signed(out, at, 8, m.initial);
+    put_signed(out, at + 8, 8, m.variation);
+    put_signed(out, at + 16, 8, m.total);
 }
 
 fn put_curves(out: &mut [u8], curves: [CurveMargin; 8])

@@ -5,9 +5,13 @@ use answers::edited_answer;
 use answers::valued_answer;
 use answers::valued_tolerance;
 use answers::verdict_answer;
+use bootstrap::Quote;
 ghost use mathlib.Core.Path.{_≡_};
 ghost use lib.ListN.{length};
 ghost use Rattle.book.specs.Verdict.{verdict};
+ghost use Rattle.bootstrap.specs.Bootstrap.{bootstrapped};
+ghost use Rattle.bootstrap.specs.Bought.{quoteOf};
+ghost use Rattle.bootstrap.specs.Refusals.{bootstrapVerdict};
 ghost use Rattle.discount.specs.Valued.{valuedOf};
 ghost use Rattle.edit.specs.Edits.{found, appendAnswer, appended, strikeAnswer, struck};
 ghost use Rattle.report.specs.Bounded.{Bounded};
@@ -56,6 +60,40 @@ pub extern "C" fn seddolki_strike(book: &mut [u8], used: usize, position: usize)
     ensures { λ _. ⌜ now (book .exit) ≡ struck (now (book .entry)) used position ⌝ }
 {
     edited_answer(edit::strike(book, used, position))
+}
+
+// What a desk gives, its components as numbers of 64 bits.
+fn quote_of(curve: usize, bond: [u8; 20], cash: u64, first: i32, second: i32, third: i32) -> Quote
+    ensures { λ r. ⌜ r ≡ quoteOf curve bond cash first second third ⌝ }
+{
+    Quote {
+        curve: curve,
+        bond: bond,
+        cash: cash,
+        first: first as i64,
+        second: second as i64,
+        third: third as i64,
+    }
+}
+
+// Extends a curve from a coupon bond's price: adds a node on the bond's last payment day. The bond is bytes 12 to 31 of a record.
+#[no_mangle]
+pub extern "C" fn seddolki_bootstrap(
+    book: &mut [u8],
+    used: usize,
+    curve: usize,
+    bond: &[u8; 20],
+    cash: u64,
+    first: i32,
+    second: i32,
+    third: i32,
+) -> Answer
+    ensures { λ r. ⌜ r ≡ verdictAnswer (bootstrapVerdict (now (book .entry)) used (quoteOf curve (now (bond .entry)) cash first second third)) ⌝ }
+    ensures { λ _. ⌜ now (book .exit) ≡ bootstrapped (now (book .entry)) used (quoteOf curve (now (bond .entry)) cash first second third) ⌝ }
+{
+    let bytes = *bond;
+    let quote = quote_of(curve, bytes, cash, first, second, third);
+    verdict_answer(bootstrap::bootstrap(book, used, quote))
 }
 
 // Reads the record at a position; a refused call writes zeros.

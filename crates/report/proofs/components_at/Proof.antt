@@ -2,8 +2,7 @@
 use mathlib.Core.Path.{refl, _∙_}
 use native.Mathlib.Omega.{arith}
 use borrow.Author.Needs.{needs}
-use Rattle.book.proofs.Accepted.{sound}
-use Rattle.report.proofs.Placed.{block-sound}
+use Rattle.book.proofs.Accepted.{sound, curve-sound}
 use Rattle.report.proofs.components_at.Statement.{statement}
 use Rattle.report.proofs.components_at.Tie as tie
 
@@ -18,7 +17,7 @@ returns c =
     let at = c .before in
     let start = at .before .before in
     let a = start .args in
-    let b = block-sound (a .book .now) (a .used) (sound (a .book .now) (a .used) (start .pre .0)) (a .curve) (start .pre .1) (start .pre .2) in
+    let b = curve-sound (a .book .now) (a .used) (sound (a .book .now) (a .used) (start .pre .0)) (a .curve) (start .pre .1) (start .pre .2) in
     (c .components-of .ensures ∙ rw (at .block-at .ensures .0) refl, rw (c .components-of .ensures, at .block-at .ensures .0) (b .components))
 
 pub components-at-spec : {M : Type 1} → statement M

@@ -2,9 +2,8 @@
 use mathlib.Core.Path.{refl, _∙_}
 use native.Mathlib.Omega.{arith}
 use borrow.Author.Needs.{needs}
-use Rattle.book.proofs.Accepted.{sound}
+use Rattle.book.proofs.Accepted.{sound, curve-sound}
 use Rattle.exposure.specs.Exposures.{exposureAt}
-use Rattle.report.proofs.Placed.{block-sound}
 use Rattle.report.proofs.curve_figures.Statement.{statement}
 use Rattle.report.proofs.curve_figures.Tie as tie
 
@@ -30,7 +29,7 @@ curve-margin-requires c κs =
     let gathered = at .before .before in
     let start = gathered .before .before .before in
     let a = start .args in
-    let b = block-sound (a .book .now) (a .used) (sound (a .book .now) (a .used) (start .pre .0)) (a .curve) (start .pre .1) (start .pre .2) in
+    let b = curve-sound (a .book .now) (a .used) (sound (a .book .now) (a .used) (start .pre .0)) (a .curve) (start .pre .1) (start .pre .2) in
     record {
       proper = rw (curve .curve-of .ensures, at .block-at .ensures .0) (b .curve);
       stress = components .components-at .ensures .1;

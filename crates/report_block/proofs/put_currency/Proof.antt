@@ -3,7 +3,8 @@ use borrow.Author.Needs.{needs}
 use mathlib.Core.Path.{_∙_}
 use mir.Syntax.{w64}
 use mir.Val.{SFits}
-use Rattle.report_block.proofs.Report.{read-back, currency-put}
+use Rattle.layout.proofs.Signed.{read-back}
+use Rattle.report_block.proofs.Report.{currency-put}
 use Rattle.report_block.proofs.put_currency.Statement.{statement}
 use Rattle.report_block.proofs.put_currency.Tie as tie
 
@@ -26,9 +27,9 @@ returns c =
     let after-slice-known = first .before .before .before in
     let s = after-slice-known .before in
     currency-put _ _ _ _ _ (s .args .m)
-    (first .put-i64 .ensures ∙ read-back _ _ (s .args .m .initial) (fits-initial s))
-    (second .put-i642 .ensures ∙ read-back _ _ (s .args .m .variation) (fits-variation s))
-    (third .put-i643 .ensures ∙ read-back _ _ (s .args .m .total) (fits-total s))
+    (first .put-signed .ensures ∙ read-back _ _ 8 (s .args .m .initial) (fits-initial s))
+    (second .put-signed2 .ensures ∙ read-back _ _ 8 (s .args .m .variation) (fits-variation s))
+    (third .put-signed3 .ensures ∙ read-back _ _ 8 (s .args .m .total) (fits-total s))
 
 pub put-currency-spec : {M : Type 1} → statement M
 put-currency-spec =

@@ -3,7 +3,8 @@ use borrow.Author.Needs.{needs}
 use mathlib.Core.Path.{_∙_}
 use mir.Syntax.{w64}
 use mir.Val.{SFits}
-use Rattle.report_block.proofs.Report.{read-back, curve-put}
+use Rattle.layout.proofs.Signed.{read-back}
+use Rattle.report_block.proofs.Report.{curve-put}
 use Rattle.report_block.proofs.put_curve.Statement.{statement}
 use Rattle.report_block.proofs.put_curve.Tie as tie
 
@@ -27,8 +28,8 @@ returns c =
     let after-slice-known = first .before .before .before in
     let s = after-slice-known .before in
     curve-put _ _ _ _ _ _ _ (s .args .m)
-    (first .put-i64 .ensures ∙ read-back _ _ (s .args .m .base) (fits-base s))
-    (second .put-i642 .ensures ∙ read-back _ _ (s .args .m .loss) (fits-loss s))
+    (first .put-signed .ensures ∙ read-back _ _ 8 (s .args .m .base) (fits-base s))
+    (second .put-signed2 .ensures ∙ read-back _ _ 8 (s .args .m .loss) (fits-loss s))
     (third .put-le .ensures)
     (fourth .put-le2 .ensures)
     (fifth .put-le3 .ensures)

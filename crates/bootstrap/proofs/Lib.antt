@@ -1,0 +1,7 @@
+pub mod Added
+pub mod Decisions
+pub mod Extending
+pub mod Kept
+pub mod Payments
+pub mod Tested
+pub mod Theorems

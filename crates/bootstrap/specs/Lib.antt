@@ -1,0 +1,4 @@
+pub mod Bought
+pub mod Refusals
+pub mod Limits
+pub mod Bootstrap

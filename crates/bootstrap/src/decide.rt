@@ -1,0 +1,86 @@
+// What a quote does to a book: the node that it adds, or the refusal.
+use crate::Quote;
+use crate::bought::payments_of;
+use crate::refusals::breaks_curve_end;
+use crate::refusals::quote_verdict;
+use bond::rate::breaks_rate_range;
+use bond::rate::rate_for;
+use bond::value::Extension;
+use book::parts::block_at;
+use book::parts::curves_of;
+use curve::Curve;
+use curve::Node;
+use curve_block::curve_of;
+use flows::Leg;
+use ground::Ground;
+use ground::Verdict;
+ghost use mathlib.Core.Path.{_≡_};
+ghost use Rattle.ground.specs.declared.Verdict.the-variants.{Accepted};
+ghost use Rattle.ground.specs.Verdicts.{orElse};
+ghost use Rattle.curve.specs.Limits.{Proper};
+ghost use Rattle.book.specs.Parts.{curvesOf};
+ghost use Rattle.book.specs.Verdict.{verdict};
+ghost use Rattle.bootstrap.specs.Bought.{bondPayments};
+ghost use Rattle.bootstrap.specs.Refusals.{openNode, quoteVerdict, extensionVerdict, curveAt, bootstrapVerdict};
+ghost use Rattle.bootstrap.specs.Limits.{QuoteLimits};
+ghost use Rattle.bootstrap.specs.Bootstrap.{newNode, decisionOf};
+
+// The node to add, or the ground and the block.
+pub enum Decision {
+    Add(Node),
+    Refused(Ground, u64),
+}
+
+// The node of a quote, its rate not yet found.
+fn open_node(q: Quote, l: Leg) -> Node
+    requires { ⌜ QuoteLimits q × (l ≡ bondPayments q) ⌝ }
+    ensures { λ r. ⌜ r ≡ openNode q ⌝ }
+{
+    Node {
+        day: l.first + (l.count - 1) * l.period,
+        rate: 0,
+        first: q.first,
+        second: q.second,
+        third: q.third,
+    }
+}
+
+// On a curve of the book, of a quote that keeps its own rules: grounds 17 and 18, or the node at the smallest rate.
+fn extended(c: Curve, q: Quote) -> Decision
+    requires { ⌜ Proper c × QuoteLimits q ⌝ }
+    ensures { λ r. ⌜ r ≡ decisionOf (extensionVerdict c q) (newNode c q) ⌝ }
+{
+    let l = payments_of(q);
+    let n = open_node(q, l);
+    if breaks_curve_end(c, n.day) {
+        return Decision::Refused(Ground::CurveEnd, 0);
+    }
+    let e = Extension::new(c, n, l);
+    if breaks_rate_range(e, q.cash) {
+        return Decision::Refused(Ground::RateRange, 0);
+    }
+    Decision::Add(n.at_rate(rate_for(e, q.cash)))
+}
+
+// On an accepted book.
+fn quoted(book: &[u8], used: usize, q: Quote) -> Decision
+    requires { ⌜ verdict (now book) used ≡ Accepted ⌝ }
+    ensures { λ r. ⌜ r ≡ decisionOf (orElse (quoteVerdict (curvesOf (now (book .entry))) q) (extensionVerdict (curveAt (now (book .entry)) (q .curve)) q)) (newNode (curveAt (now (book .entry)) (q .curve)) q) ⌝ }
+{
+    let v = quote_verdict(curves_of(book), q);
+    match v {
+        Verdict::Refused(g, k) => Decision::Refused(g, k),
+        Verdict::Accepted => extended(curve_of(block_at(book, q.curve)), q),
+    }
+}
+
+// On any bytes: the book's own grounds first.
+pub fn decided(book: &[u8], used: usize, q: Quote) -> Decision
+    ensures { λ r. ⌜ r ≡ decisionOf (bootstrapVerdict (now (book .entry)) used q) (newNode (curveAt (now (book .entry)) (q .curve)) q) ⌝ }
+{
+    let v = book::check(book, used);
+    match v {
+        Verdict::Refused(g, k) => Decision::Refused(g, k),
+        Verdict::Accepted => quoted(book, used, q),
+    }
+}
