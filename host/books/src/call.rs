@@ -1,6 +1,7 @@
 //! Calls drawn at random, and what an engine makes of them.
 
 use crate::book::{assemble, draw_book};
+use crate::bootstrap::draw_bootstrap;
 use crate::damage::{book_grounds, damage_anywhere, damage_book, draw_bad_used};
 use crate::draw::Draw;
 use crate::near_ties::{draw_near_ties, NearTies};
@@ -11,9 +12,9 @@ use seddolki_model::block::{seal, BLOCK};
 use seddolki_model::layout::Layout;
 use seddolki_model::limits::{MAX_AMOUNT, MAX_BLOCKS, MAX_DAY, MAX_RATE, PAYMENTS};
 use seddolki_model::record::RECORD;
-use seddolki_model::Answer;
+use seddolki_model::{Answer, Quote};
 
-/// The six calls, so that two engines can be given the same case.
+/// The seven calls, so that two engines can be given the same case.
 pub trait Engine {
     fn check(&self, book: &[u8], used: usize) -> Answer;
     fn margin(&self, book: &[u8], used: usize, report: &mut [u8]) -> Answer;
@@ -21,6 +22,7 @@ pub trait Engine {
     fn strike(&self, book: &mut [u8], used: usize, position: usize) -> Answer;
     fn read(&self, book: &[u8], used: usize, position: usize, record: &mut [u8; RECORD]) -> Answer;
     fn present_value(&self, amount: u64, rate: u64, day: u64, tolerance: &mut u64) -> Answer;
+    fn bootstrap(&self, book: &mut [u8], used: usize, quote: &Quote) -> Answer;
 }
 
 /// The second implementation.
@@ -50,6 +52,10 @@ impl Engine for Model {
     fn present_value(&self, amount: u64, rate: u64, day: u64, tolerance: &mut u64) -> Answer {
         seddolki_model::present_value(amount, rate, day, tolerance)
     }
+
+    fn bootstrap(&self, book: &mut [u8], used: usize, quote: &Quote) -> Answer {
+        seddolki_model::bootstrap(book, used, quote)
+    }
 }
 
 /// A call with what it is given beside the book, lent bytes included.
@@ -75,6 +81,9 @@ pub enum Call {
         day: u64,
         tolerance: u64,
     },
+    Bootstrap {
+        quote: Quote,
+    },
 }
 
 impl Call {
@@ -86,6 +95,7 @@ impl Call {
             Call::Strike { .. } => "strike",
             Call::Read { .. } => "read",
             Call::PresentValue { .. } => "present value",
+            Call::Bootstrap { .. } => "bootstrap",
         }
     }
 }
@@ -121,6 +131,7 @@ impl Case {
                 day,
                 tolerance,
             } => engine.present_value(*amount, *rate, *day, tolerance),
+            Call::Bootstrap { quote } => engine.bootstrap(lent, used, quote),
         };
         Outcome { answer, after }
     }
@@ -129,6 +140,15 @@ impl Case {
 /// Any call on any book, whole or spoiled, now and then one whose losses are
 /// near each other. `work` is as in `draw_book`.
 pub fn draw_case(draw: &mut Draw, work: usize) -> Case {
+    draw_case_of(draw, work, draw_call)
+}
+
+/// The same, its call drawn for the book by `draw_call`.
+pub(crate) fn draw_case_of(
+    draw: &mut Draw,
+    work: usize,
+    draw_call: impl Fn(&mut Draw, &Book) -> Call,
+) -> Case {
     let book = if draw.once_in(8) {
         let ties = draw.pick(&NearTies::ALL);
         draw_near_ties(draw, ties, work)
@@ -184,7 +204,7 @@ fn draw_noise(draw: &mut Draw) -> Vec<u8> {
 }
 
 fn draw_call(draw: &mut Draw, book: &Book) -> Call {
-    match draw.within(0..=5) {
+    match draw.within(0..=6) {
         0 => Call::Check,
         1 => Call::Margin {
             report: draw_report_space(draw),
@@ -199,7 +219,8 @@ fn draw_call(draw: &mut Draw, book: &Book) -> Call {
             position: draw_position(draw, book),
             record: [draw.number() as u8; RECORD],
         },
-        _ => draw_present_value(draw),
+        5 => draw_present_value(draw),
+        _ => draw_bootstrap(draw, book),
     }
 }
 

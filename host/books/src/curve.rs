@@ -61,17 +61,22 @@ fn draw_node_days(draw: &mut Draw) -> BTreeSet<u16> {
 }
 
 fn draw_node(draw: &mut Draw, day: u16) -> Node {
-    let components = [(); 3].map(|()| {
+    let components = draw_components(draw);
+    Node {
+        day,
+        rate: draw.edge(0..=MAX_RATE) as u32,
+        components,
+    }
+}
+
+/// Of a node, of either sign.
+pub(crate) fn draw_components(draw: &mut Draw) -> [i32; 3] {
+    [(); 3].map(|()| {
         let size = draw.edge(0..=MAX_COMPONENT as u64) as i32;
         if draw.once_in(2) {
             size
         } else {
             -size
         }
-    });
-    Node {
-        day,
-        rate: draw.edge(0..=MAX_RATE) as u32,
-        components,
-    }
+    })
 }

@@ -1,28 +1,36 @@
-//! Books, records and calls drawn at random, the same from the same seed,
+//! Books, records, quotes and calls drawn at random, the same from the same seed,
 //! and the books of document 01's examples.
 
 #![forbid(unsafe_code)]
 
 pub mod book;
+pub mod bootstrap;
 pub mod call;
 pub mod curve;
 pub mod damage;
 pub mod demand_3;
 pub mod doubles;
 pub mod draw;
+pub mod ending;
 pub mod examples;
 pub mod near_ties;
+pub mod quote;
+pub mod quote_damage;
 pub mod record;
 pub mod record_damage;
 pub mod timing;
 
 pub use book::{assemble, draw_book};
+pub use bootstrap::draw_bootstrap_case;
 pub use call::{draw_case, Call, Case, Engine, Model, Outcome};
 pub use damage::{book_grounds, damage_anywhere, damage_book, draw_bad_used};
 pub use demand_3::assert_demand_3;
 pub use draw::Draw;
+pub use ending::{added_node, Ending};
 pub use examples::{buyer, seller};
 pub use near_ties::{draw_near_ties, NearTies};
+pub use quote::draw_quote;
+pub use quote_damage::{damage_quote, QuoteDamage};
 pub use record::draw_record;
 pub use record_damage::{damage_record, record_grounds};
 pub use timing::{

@@ -73,7 +73,8 @@ fn draw_price(draw: &mut Draw, record: &mut Record) {
     }
 }
 
-fn draw_security(draw: &mut Draw, record: &mut Record, most_payments: u64) {
+/// What the security pays, after the value day.
+pub(crate) fn draw_security(draw: &mut Draw, record: &mut Record, most_payments: u64) {
     record.nominal = draw.edge(AMOUNTS);
     if record.has_coupons() {
         draw_schedule(draw, record, most_payments);

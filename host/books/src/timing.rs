@@ -78,7 +78,7 @@ fn far_payment(curve: &Curve) -> Record {
         security: SINGLE_PAYMENT,
         security_curve: curve.id,
         cash_curve: curve.id,
-        first_payment_day: curve.nodes()[curve.nodes().len() - 1].day,
+        first_payment_day: curve.last_node().day,
         nominal: 150,
         price_or_rate: ONE as u32,
         ..Record::default()

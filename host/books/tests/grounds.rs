@@ -109,7 +109,7 @@ fn drawn_calls_are_done_by_each_call() {
             *done.entry(outcome.after.call.name()).or_insert(0) += 1;
         }
     }
-    assert_eq!(done.len(), 6);
+    assert_eq!(done.len(), 7);
     assert!(done.values().all(|&count| count >= 20), "{done:?}");
 }
 

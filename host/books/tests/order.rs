@@ -5,7 +5,7 @@ use seddolki_model::accept::Book;
 use seddolki_model::block::{seal, BLOCK};
 use seddolki_model::limits::FULL_BLOCK;
 use seddolki_model::record::RECORD;
-use seddolki_model::{append, check, margin, read, strike, Answer, Ground};
+use seddolki_model::{append, bootstrap, check, margin, read, strike, Answer, Ground, Quote};
 
 /// A drawn book with two full blocks of trades.
 fn book() -> Book {
@@ -85,10 +85,14 @@ fn the_book_answers_before_what_is_asked_of_it() {
     assert_eq!(read(&bytes, used, 18, &mut [0; RECORD]), position);
     let space = refused(Ground::ReportSpace, 0);
     assert_eq!(margin(&bytes, used, &mut [0; BLOCK - 1]), space);
+    let quote = Quote::default();
+    let form = refused(Ground::Form, 0);
+    assert_eq!(bootstrap(&mut bytes, used, &quote), form);
     bytes[0] = 2;
     let first = refused(Ground::Check, 0);
     assert_eq!(append(&mut bytes, used, &wrong), first);
     assert_eq!(strike(&mut bytes, used, 18), first);
     assert_eq!(read(&bytes, used, 18, &mut [0; RECORD]), first);
     assert_eq!(margin(&bytes, used, &mut []), first);
+    assert_eq!(bootstrap(&mut bytes, used, &quote), first);
 }

@@ -3,6 +3,7 @@
 use seddolki::{lent, Answer};
 use seddolki_books::Engine;
 use seddolki_model::record::RECORD;
+use seddolki_model::Quote;
 
 /// The proved engine.
 pub struct Proved;
@@ -30,5 +31,9 @@ impl Engine for Proved {
 
     fn present_value(&self, amount: u64, rate: u64, day: u64, tolerance: &mut u64) -> Answer {
         lent::present_value(amount, rate, day, tolerance)
+    }
+
+    fn bootstrap(&self, book: &mut [u8], used: usize, quote: &Quote) -> Answer {
+        lent::bootstrap(book, used, quote)
     }
 }

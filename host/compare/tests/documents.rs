@@ -42,7 +42,11 @@ fn has_name(text: &str, name: &str) -> bool {
 
 /// The names in a piece of a cell, each between two back ticks; of `Factor::power` the last part.
 fn names(piece: &str) -> impl Iterator<Item = &str> {
-    piece.split('`').skip(1).step_by(2).map(|name| name.rsplit("::").next().unwrap_or(name))
+    piece
+        .split('`')
+        .skip(1)
+        .step_by(2)
+        .map(|name| name.rsplit("::").next().unwrap_or(name))
 }
 
 /// What is wrong with a piece of a cell: a file that is not there, or a name that it does not have.
@@ -53,32 +57,54 @@ fn faults(piece: &str) -> Vec<String> {
     let Ok(text) = fs::read_to_string(&file) else {
         return vec![format!("no {}", file.display())];
     };
-    names(piece).filter(|name| !has_name(&text, name)).map(|name| format!("no {name} in {}", file.display())).collect()
+    names(piece)
+        .filter(|name| !has_name(&text, name))
+        .map(|name| format!("no {name} in {}", file.display()))
+        .collect()
 }
 
 fn edits() -> BTreeSet<String> {
     let mut found = BTreeSet::new();
     for entry in fs::read_dir(root().join("crates")).expect("the crates") {
-        let name = entry.expect("a crate").file_name().into_string().expect("a crate's name");
+        let name = entry
+            .expect("a crate")
+            .file_name()
+            .into_string()
+            .expect("a crate's name");
         let Ok(folder) = fs::read_dir(root().join("crates").join(&name).join("must-fail")) else {
             continue;
         };
         for edit in folder {
-            let edit = edit.expect("an edit").file_name().into_string().expect("an edit's name");
-            found.insert(format!("{name}/must-fail/{}", edit.trim_end_matches(".edit")));
+            let edit = edit
+                .expect("an edit")
+                .file_name()
+                .into_string()
+                .expect("an edit's name");
+            found.insert(format!(
+                "{name}/must-fail/{}",
+                edit.trim_end_matches(".edit")
+            ));
         }
     }
     found
 }
 
 fn pieces(text: &str) -> impl Iterator<Item = &str> {
-    text.lines().filter(|line| line.starts_with('|')).flat_map(|line| line.split(['|', ';']))
+    text.lines()
+        .filter(|line| line.starts_with('|'))
+        .flat_map(|line| line.split(['|', ';']))
 }
 
 #[test]
 fn files_and_names_of_the_trace_are_there() {
     let trace = document("TRACE.md");
-    let named = pieces(&trace).filter(|piece| piece.split_whitespace().any(|word| named_file(word).is_some())).count();
+    let named = pieces(&trace)
+        .filter(|piece| {
+            piece
+                .split_whitespace()
+                .any(|word| named_file(word).is_some())
+        })
+        .count();
     assert!(named > 200, "the trace names {named} files");
     let faults: Vec<String> = pieces(&trace).flat_map(faults).collect();
     assert_eq!(faults, Vec::<String>::new());
@@ -91,6 +117,9 @@ fn every_edit_is_a_wrong_answer_and_every_wrong_answer_has_its_edit() {
     assert_eq!(faults, Vec::<String>::new());
     let edits = edits();
     assert!(edits.len() > 40);
-    let unnamed: Vec<&String> = edits.iter().filter(|edit| !has_name(&wrong, edit)).collect();
+    let unnamed: Vec<&String> = edits
+        .iter()
+        .filter(|edit| !has_name(&wrong, edit))
+        .collect();
     assert_eq!(unnamed, Vec::<&String>::new());
 }

@@ -2,9 +2,11 @@
 
 use seddolki_books::{assemble, draw_book, full_book, typical_book, Call, Draw};
 use seddolki_compare::{whole_case, Proved};
-use seddolki_model::block::BLOCK;
-use seddolki_model::limits::MAX_BLOCKS;
-use seddolki_model::record::RECORD;
+use seddolki_model::block::{Curve, BLOCK};
+use seddolki_model::bootstrap::bond_value;
+use seddolki_model::limits::{MAX_BLOCKS, PAYMENTS};
+use seddolki_model::quote::{bond_of, Quote};
+use seddolki_model::record::{Record, RECORD};
 use std::thread;
 
 /// What the header promises.
@@ -57,4 +59,31 @@ fn a_margin_of_all_scenarios_keeps_to_its_stack() {
         let report = vec![0; BLOCK];
         assert_eq!(number(assemble(&book), Call::Margin { report }), 0);
     }
+}
+
+/// For the first curve, with as many payments as a bond can have.
+fn long_quote(curve: &Curve) -> Quote {
+    let bond = Record {
+        first_payment_day: 90,
+        period: 91,
+        payments: *PAYMENTS.end(),
+        coupon: 30_000,
+        nominal: 100_000_000,
+        ..Record::default()
+    };
+    let mut quote = Quote {
+        curve: 1,
+        bond: bond_of(&bond),
+        cash: 1,
+        components: [20_000, 0, 0],
+    };
+    quote.cash = bond_value(curve, &quote, 132_500);
+    quote
+}
+
+#[test]
+fn a_bootstrap_with_all_payments_keeps_to_its_stack() {
+    let book = full_book();
+    let quote = long_quote(&book.curves[0]);
+    assert_eq!(number(assemble(&book), Call::Bootstrap { quote }), 0);
 }

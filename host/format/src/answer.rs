@@ -31,11 +31,13 @@ pub enum Ground {
     Position,
     BookSpace,
     ValueRange,
+    CurveEnd,
+    RateRange,
 }
 
 impl Ground {
     /// In the order of their numbers, from 1.
-    pub const ALL: [Ground; 16] = [
+    pub const ALL: [Ground; 18] = [
         Ground::Length,
         Ground::Check,
         Ground::Place,
@@ -52,9 +54,11 @@ impl Ground {
         Ground::Position,
         Ground::BookSpace,
         Ground::ValueRange,
+        Ground::CurveEnd,
+        Ground::RateRange,
     ];
 
-    /// The ground of a number; none for 0 and above 16.
+    /// The ground of a number; none for 0 and above 18.
     pub fn from_number(number: u64) -> Option<Ground> {
         let place = usize::try_from(number).ok()?.checked_sub(1)?;
         Ground::ALL.get(place).copied()
@@ -83,6 +87,8 @@ impl Ground {
             Ground::Position => "position",
             Ground::BookSpace => "book space",
             Ground::ValueRange => "value range",
+            Ground::CurveEnd => "curve end",
+            Ground::RateRange => "rate range",
         }
     }
 
@@ -120,6 +126,12 @@ impl Ground {
             Ground::ValueRange => {
                 "the amount exceeds 10,000,000,000.00, the rate 100% or the day 10,950"
             }
+            Ground::CurveEnd => {
+                "the curve has 24 nodes, or the bond's last payment is not after the last node"
+            }
+            Ground::RateRange => {
+                "the bond is worth more than the cash even at rate 100%, or less even at rate 0%"
+            }
         }
     }
 
@@ -130,29 +142,32 @@ impl Ground {
         }
     }
 
-    /// For the grounds that name no block.
+    /// Found in no block.
     pub fn alone(self) -> Refusal {
         self.in_block(0)
-    }
-
-    /// Whether a refusal by this ground names a block.
-    pub fn names_block(self) -> bool {
-        (Ground::Check..=Ground::FlowLimit).contains(&self)
     }
 }
 
 /// The first ground that applies, and the block that it was found in; block
-/// 0 for a ground that names none.
+/// 0 where it was found in none.
 #[derive(Clone, Copy, Debug, PartialEq, Eq)]
 pub struct Refusal {
     pub ground: Ground,
     pub block: usize,
 }
 
+impl Refusal {
+    /// Whether the ground was found in a block. In block 0, the header, that
+    /// is so for three grounds alone.
+    pub fn names_block(self) -> bool {
+        self.block > 0 || (Ground::Check..=Ground::Header).contains(&self.ground)
+    }
+}
+
 impl Display for Refusal {
     fn fmt(&self, f: &mut Formatter<'_>) -> fmt::Result {
         write!(f, "refused by ground {}", self.ground.number())?;
-        if self.ground.names_block() {
+        if self.names_block() {
             write!(f, " in block {}", self.block)?;
         }
         write!(f, ": {}", self.ground.sentence())
@@ -174,12 +189,43 @@ impl From<Result<u64, Refusal>> for Answer {
 }
 
 impl From<Answer> for Result<u64, Refusal> {
-    /// Panics on a number above 16, which no call answers.
+    /// Panics on a number above 18, which no call answers.
     fn from(answer: Answer) -> Self {
         if answer.number == 0 {
             return Ok(answer.value);
         }
-        let ground = Ground::from_number(answer.number).expect("a ground has number 1 to 16");
+        let ground = Ground::from_number(answer.number).expect("a ground has number 1 to 18");
         Err(ground.in_block(answer.value as usize))
+    }
+}
+
+#[cfg(test)]
+mod tests {
+    use super::*;
+
+    #[test]
+    fn grounds_are_numbered_from_one() {
+        for (number, ground) in (1..).zip(Ground::ALL) {
+            assert_eq!(ground.number(), number);
+            assert_eq!(Ground::from_number(number), Some(ground));
+        }
+        assert_eq!(Ground::from_number(0), None);
+        assert_eq!(Ground::from_number(19), None);
+    }
+
+    #[test]
+    fn a_refusal_names_the_block_that_the_ground_was_found_in() {
+        for (refusal, named) in [
+            (Ground::Length.alone(), false),
+            (Ground::Check.in_block(0), true),
+            (Ground::Header.in_block(0), true),
+            (Ground::Form.in_block(4), true),
+            (Ground::Form.alone(), false),
+            (Ground::Node.alone(), false),
+            (Ground::RateRange.alone(), false),
+        ] {
+            assert_eq!(refusal.names_block(), named, "{refusal:?}");
+            assert_eq!(refusal.to_string().contains(" in block "), named);
+        }
     }
 }

@@ -57,6 +57,11 @@ impl Curve {
     pub fn nodes(&self) -> &[Node] {
         &self.places[..self.places.len().min(self.node_count.into())]
     }
+
+    /// The last node in use; there is one at least.
+    pub fn last_node(&self) -> &Node {
+        &self.nodes()[self.nodes().len() - 1]
+    }
 }
 
 layout! {

@@ -1,6 +1,6 @@
-//! The forms of document 01: the bytes of books, records and reports, the
-//! limits of their fields, and the grounds of refusal. No rule is tested
-//! here and nothing is valued.
+//! The forms of documents 01 and 02: the bytes of books, records, quotes and
+//! reports, the limits of their fields, and the grounds of refusal. No rule
+//! is tested here and nothing is valued.
 
 #![forbid(unsafe_code)]
 
@@ -8,11 +8,13 @@ pub mod answer;
 pub mod block;
 pub mod layout;
 pub mod limits;
+pub mod quote;
 pub mod record;
 pub mod report;
 pub mod text;
 
 pub use answer::{Answer, Ground, Refusal};
 pub use block::assemble;
+pub use quote::Quote;
 pub use record::Record;
 pub use report::Report;

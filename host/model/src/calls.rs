@@ -1,15 +1,17 @@
-//! The six calls over lent bytes.
+//! The seven calls over lent bytes.
 
 use crate::accept::{accept, Book};
 use crate::answer::{Answer, Ground, Refusal};
 use crate::block::{sealed, BLOCK};
+use crate::bootstrap::new_node;
 use crate::discount;
-use crate::edit::rewrite;
+use crate::edit::{add_node, rewrite};
 use crate::layout::Layout;
 use crate::limits::{FULL_BLOCK, MAX_AMOUNT, MAX_BLOCKS, MAX_DAY, MAX_RATE};
 use crate::margin::report;
+use crate::quote::Quote;
 use crate::record::{Record, RECORD};
-use crate::rules::accept_record;
+use crate::rules::{accept_quote, accept_record};
 
 /// Whether the book is accepted.
 pub fn check(book: &[u8], used: usize) -> Answer {
@@ -68,6 +70,20 @@ pub fn read(book: &[u8], used: usize, position: usize, record: &mut [u8; RECORD]
 fn trade_at(book: &Book, position: usize) -> Result<Record, Refusal> {
     let trade = book.trades.get(position).copied();
     trade.ok_or(Ground::Position.alone())
+}
+
+/// Adds a node to a curve, at the rate that a bond's price calls for; the
+/// value is 0.
+pub fn bootstrap(book: &mut [u8], used: usize, quote: &Quote) -> Answer {
+    try_bootstrap(book, used, quote).into()
+}
+
+fn try_bootstrap(lent: &mut [u8], used: usize, quote: &Quote) -> Result<u64, Refusal> {
+    let book = accept(lent, used)?;
+    accept_quote(quote, &book.curves).map_err(Ground::alone)?;
+    let curve = &book.curves[quote.curve - 1];
+    add_node(lent, curve, new_node(curve, quote));
+    Ok(0)
 }
 
 /// One present value and its tolerance; tolerance 0 if refused.

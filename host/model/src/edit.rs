@@ -1,7 +1,7 @@
 //! Writing an edited book back.
 
 use crate::accept::Book;
-use crate::block::{sealed, Header, TradeBlock, BLOCK};
+use crate::block::{sealed, Curve, Header, Node, TradeBlock, BLOCK};
 use crate::layout::Layout;
 use crate::limits::FULL_BLOCK;
 
@@ -19,4 +19,13 @@ pub fn rewrite(lent: &mut [u8], used: usize, book: &Book) -> u64 {
     }
     lent[end..used.max(end)].fill(0);
     end as u64
+}
+
+/// Writes a curve with one node more, for which it has room.
+pub fn add_node(lent: &mut [u8], curve: &Curve, node: Node) {
+    let mut longer = *curve;
+    longer.places[curve.nodes().len()] = node;
+    longer.node_count += 1;
+    let start = usize::from(curve.id) * BLOCK;
+    lent[start..start + BLOCK].copy_from_slice(&sealed(&longer));
 }

@@ -2,11 +2,11 @@
 
 use crate::answer::Ground;
 use crate::fields::{
-    ACCRUED, BLOCK_KIND, CASH_CURVE, CHECK, CLEAN_PRICE, COMPONENTS, COUNT, COUPON, CURRENCY,
+    ACCRUED, BLOCK_KIND, CASH, CASH_CURVE, CHECK, CLEAN_PRICE, COMPONENTS, COUNT, COUPON, CURRENCY,
     CURVE_COUNT, DAY, FIRST_PAYMENT_DAY, ID, ISSUE_INDEX, KIND, NODE_COUNT, NOMINAL, NUMBER,
-    PAYMENT_COUNT, PERIOD, PHASE, RANGES, RATE, REPO_CASH, REPO_RATE, SECURITY, SECURITY_CURVE,
-    SETTLEMENT_INDEX, SIDE, STEPS, TERM, TRADE_BLOCKS, UNNAMED, USED, VALUE_DAY_1, VALUE_DAY_2,
-    ZERO,
+    PAYMENT_COUNT, PERIOD, PHASE, QUOTED_CURVE, RANGES, RATE, REPO_CASH, REPO_RATE, SECURITY,
+    SECURITY_CURVE, SETTLEMENT_INDEX, SIDE, STEPS, TERM, TRADE_BLOCKS, UNNAMED, USED, VALUE_DAY_1,
+    VALUE_DAY_2, ZERO,
 };
 use crate::flows::TABLE;
 use crate::found::About;
@@ -44,7 +44,15 @@ fn fields_of(ground: Ground) -> &'static [&'static About] {
         Ground::Curve => abouts![ID, CURRENCY, NODE_COUNT, STEPS, RANGES, UNNAMED],
         Ground::Node => abouts![DAY, RATE, COMPONENTS],
         Ground::TradeBlock => abouts![COUNT, UNNAMED],
-        Ground::Form => abouts![KIND, SIDE, PHASE, SECURITY, CASH_CURVE, SECURITY_CURVE],
+        Ground::Form => abouts![
+            KIND,
+            SIDE,
+            PHASE,
+            SECURITY,
+            CASH_CURVE,
+            SECURITY_CURVE,
+            QUOTED_CURVE
+        ],
         Ground::Days => abouts![
             VALUE_DAY_1,
             VALUE_DAY_2,
@@ -62,10 +70,13 @@ fn fields_of(ground: Ground) -> &'static [&'static About] {
             ACCRUED,
             SETTLEMENT_INDEX,
             ISSUE_INDEX,
-            ZERO
+            ZERO,
+            CASH
         ],
         Ground::Currency => abouts![SECURITY_CURVE, CASH_CURVE],
         Ground::FlowLimit => abouts![NOMINAL, REPO_CASH],
+        Ground::CurveEnd => abouts![NODE_COUNT, FIRST_PAYMENT_DAY, PERIOD, PAYMENT_COUNT],
+        Ground::RateRange => abouts![CASH, RATE],
         _ => &[],
     }
 }
@@ -85,10 +96,12 @@ fn more_on(ground: Ground) -> Vec<String> {
             reasons::SETTLED.into(),
             reasons::OUTRIGHT_PAYMENTS.into(),
             reasons::REPO_PAYMENTS.into(),
+            reasons::BOND_PAYMENTS.into(),
             format!("no payment falls after day {}", Unit::Whole.words(MAX_DAY)),
         ],
         Ground::Amounts => said(&[
             reasons::NO_SECOND_LEG,
+            reasons::NO_TERM,
             reasons::NO_ACCRUED,
             reasons::NO_FIRST_LEG,
             reasons::NO_SECURITY,
@@ -120,7 +133,7 @@ fn advice(ground: Ground) -> &'static str {
         }
         Ground::Curve | Ground::Node => "correct the curve and put the curves in again",
         Ground::Form | Ground::Days | Ground::Amounts => {
-            "correct the field that is named, and enter the trade again"
+            "correct the field that is named, and enter the trade or the bond again"
         }
         Ground::Currency => "choose a security curve in the currency of the cash curve",
         Ground::FlowLimit => {
@@ -132,5 +145,9 @@ fn advice(ground: Ground) -> &'static str {
             "strike trades or begin another book; a caller in C may lend more bytes"
         }
         Ground::ValueRange => "ask within these limits",
+        Ground::CurveEnd => {
+            "take a bond with a later last payment, or take a node from the curve first"
+        }
+        Ground::RateRange => "correct the bond or the cash: no rate makes the one worth the other",
     }
 }

@@ -7,6 +7,7 @@ use crate::limits::{
     MAX_COUPON, MAX_CURRENCIES, MAX_DAY, MAX_RANGE, MAX_RATE, MAX_STEPS, NODES, PAYMENTS, PERIODS,
     TERMS,
 };
+use crate::quote::Quote;
 use crate::record::{
     Record, FIRST_SIDE, INDEXED_COUPONS, NO_SECURITY, OUTRIGHT, SECOND_SIDE, SPECIFIED,
 };
@@ -14,7 +15,7 @@ use crate::report::CURRENCIES;
 use crate::words::Unit::{self, Coefficient, Money, Percent, Whole};
 use std::ops::RangeInclusive;
 
-/// A field of a record, a block or a node.
+/// A field of a record, a block, a node or a quote.
 pub struct Field<T> {
     pub about: &'static About,
     read: fn(&T) -> i128,
@@ -116,6 +117,14 @@ fields! { Node;
 
 fields! { TradeBlock;
     COUNT = count, Whole, (1..=FULL_BLOCK), "trades of the block";
+}
+
+fields! { Quote, |quote| quote.curve as i128;
+    QUOTED_CURVE = "curve", Whole, CURVES, "the curve that the bond lengthens";
+}
+
+fields! { Quote;
+    CASH = cash, Money, AMOUNTS, "what the bond costs today";
 }
 
 fields! { Record;

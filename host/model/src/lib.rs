@@ -1,11 +1,13 @@
-//! Second implementation of the cash flow margin, written from document 01
-//! alone. Simple before fast; the exact values of demand 3 are here as well.
+//! Second implementation of the cash flow margin, written from documents 01
+//! and 02 alone. Simple before fast; the exact values of demand 3 are here as
+//! well.
 
 #![forbid(unsafe_code)]
 #![deny(missing_docs)]
 
 pub mod accept;
 pub mod big;
+pub mod bootstrap;
 pub mod bounds;
 pub mod calls;
 pub mod curve;
@@ -30,10 +32,10 @@ pub mod valuation;
 pub mod words;
 
 pub use accept::book_fault;
-pub use calls::{append, check, margin, present_value, read, strike};
+pub use calls::{append, bootstrap, check, margin, present_value, read, strike};
 pub use explain::rule;
 pub use fault::{BookFault, Fault, Part};
 pub use list::list;
-pub use rules::record_fault;
-pub use seddolki_format::{answer, block, layout, limits, record, report};
-pub use seddolki_format::{Answer, Ground, Refusal};
+pub use rules::{quote_fault, record_fault};
+pub use seddolki_format::{answer, block, layout, limits, quote, record, report};
+pub use seddolki_format::{Answer, Ground, Quote, Refusal};

@@ -8,8 +8,10 @@ pub const TERM: &str = "the days from value day 1 to value day 2";
 pub const SETTLED: &str = "where the first leg has settled, value day 2 is at most the term";
 pub const OUTRIGHT_PAYMENTS: &str = "an outright's payments fall after value day 1";
 pub const REPO_PAYMENTS: &str = "a repo's payments fall after value day 2";
+pub const BOND_PAYMENTS: &str = "a quoted bond's payments fall after day 0";
 
 pub const NO_SECOND_LEG: &str = "an outright has no value day 2, term or repo cash";
+pub const NO_TERM: &str = "a quoted bond has no term";
 pub const NO_ACCRUED: &str = "a repo has no accrued";
 pub const NO_FIRST_LEG: &str = "where the first leg has settled, value day 1 is unused";
 pub const NO_SECURITY: &str = "a trade without security has no first payment day or nominal";

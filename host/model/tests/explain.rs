@@ -28,6 +28,12 @@ fn a_rule_has_the_limits_of_its_fields() {
         (Ground::Amounts, "price_or_rate: 0.0001% to 400.0000%, the"),
         (Ground::Amounts, "price_or_rate: 0.0000% to 100.0000%, the"),
         (Ground::Amounts, "a repo has no accrued\n"),
+        (Ground::Form, "curve: 1 to 8, the curve that the bond"),
+        (Ground::Days, "a quoted bond's payments fall after day 0\n"),
+        (Ground::Amounts, "a quoted bond has no term\n"),
+        (Ground::CurveEnd, "node_count: 2 to 24, nodes of"),
+        (Ground::RateRange, "cash: 0.01 to 10,000,000,000.00, what"),
+        (Ground::RateRange, "rate: 0.0000% to 100.0000%, the rate"),
     ] {
         let rule = rule(ground);
         assert!(rule.contains(&format!("\n  {line}")), "{rule}");

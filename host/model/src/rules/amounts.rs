@@ -5,7 +5,7 @@ use crate::fields::{
     Field, ACCRUED, CLEAN_PRICE, COUPON, FIRST_PAYMENT_DAY, ISSUE_INDEX, NOMINAL, PAYMENT_COUNT,
     PERIOD, REPO_CASH, REPO_RATE, SETTLEMENT_INDEX, TERM, VALUE_DAY_1, VALUE_DAY_2, ZERO,
 };
-use crate::flows::{named_flows, Leg};
+use crate::flows::{named_flows, payments, Leg};
 use crate::found::{Kept, Tell};
 use crate::limits::MAX_AMOUNT;
 use crate::reasons;
@@ -21,6 +21,11 @@ pub fn hold<W: Tell>(record: &Record) -> Kept<W> {
         CLEAN_PRICE.of(record).within_limits()?;
         ACCRUED.of(record).within_limits()?;
     }
+    security_holds(record)
+}
+
+/// The same, on those of the security.
+pub fn security_holds<W: Tell>(record: &Record) -> Kept<W> {
     if record.has_security() {
         NOMINAL.of(record).within_limits()?;
     }
@@ -60,6 +65,11 @@ pub fn unused_are_zero<W: Tell>(record: &Record) -> Kept<W> {
     Ok(())
 }
 
+/// Ground 10, on the term of a quoted bond.
+pub fn has_no_term<W: Tell>(bond: &Record) -> Kept<W> {
+    all_zero(bond, &[TERM], reasons::NO_TERM)
+}
+
 fn all_zero<W: Tell>(record: &Record, fields: &[Field<Record>], why: &str) -> Kept<W> {
     let mut found = fields.iter().map(|field| field.of(record));
     found.try_for_each(|found| found.is_zero(why))
@@ -67,18 +77,27 @@ fn all_zero<W: Tell>(record: &Record, fields: &[Field<Record>], why: &str) -> Ke
 
 /// Ground 12.
 pub fn flows_within_limit<W: Tell>(record: &Record) -> Kept<W> {
-    named_flows(record).into_iter().try_for_each(|(leg, flow)| {
-        let (field, name) = made_by(leg, record);
-        let unit = field.about.unit;
-        let why = format_args!(
-            "it makes a {name} of {} on day {}, and a flow is {} at most",
-            unit.words(flow.amount as i128),
-            Unit::Whole.words(flow.day),
-            unit.words(MAX_AMOUNT)
-        );
-        let holds = flow.amount <= MAX_AMOUNT.into();
-        field.of(record).require(holds, "less", why)
-    })
+    let mut flows = named_flows(record).into_iter();
+    flows.try_for_each(|(leg, flow)| within_limit(record, leg, flow.day, flow.amount))
+}
+
+/// Ground 12, on the security's payments alone.
+pub fn payments_within_limit<W: Tell>(record: &Record) -> Kept<W> {
+    let mut payments = payments(record).into_iter();
+    payments.try_for_each(|(day, amount)| within_limit(record, Leg::Payment, day, amount))
+}
+
+fn within_limit<W: Tell>(record: &Record, leg: Leg, day: u64, amount: u128) -> Kept<W> {
+    let (field, name) = made_by(leg, record);
+    let unit = field.about.unit;
+    let why = format_args!(
+        "it makes a {name} of {} on day {}, and a flow is {} at most",
+        unit.words(amount as i128),
+        Unit::Whole.words(day),
+        unit.words(MAX_AMOUNT)
+    );
+    let holds = amount <= MAX_AMOUNT.into();
+    field.of(record).require(holds, "less", why)
 }
 
 /// The amount that a flow comes from, and the flow's name.

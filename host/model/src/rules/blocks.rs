@@ -5,7 +5,7 @@ use crate::fields::{
     BLOCK_KIND, CHECK, COMPONENTS, COUNT, CURRENCY, CURVE_COUNT, DAY, ID, NODE_COUNT, NUMBER,
     RANGES, RATE, STEPS, TRADE_BLOCKS, UNNAMED, USED,
 };
-use crate::found::Kept;
+use crate::found::{Kept, Tell};
 use crate::layout::Layout;
 use crate::limits::FULL_BLOCK;
 use crate::record::Record;
@@ -79,7 +79,12 @@ pub fn node(nodes: &[Node], place: usize) -> Kept {
     let next = before.map_or(0, |day| i128::from(day) + 1);
     DAY.of(node).within(next..=latest, rising(place, before))?;
     RATE.of(node).within_limits()?;
-    for (number, component) in (1..).zip(&node.components) {
+    components(&node.components)
+}
+
+/// Ground 6, of the components of a node.
+pub fn components<W: Tell>(components: &[i32; 3]) -> Kept<W> {
+    for (number, component) in (1..).zip(components) {
         let why = format_args!("how far component {number} moves the node");
         COMPONENTS.of(component).within(COMPONENTS.limits(), why)?;
     }

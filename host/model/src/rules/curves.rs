@@ -1,8 +1,10 @@
-//! The curves that a record stands on, grounds 8 and 11.
+//! The curves that a record stands on and that a quote lengthens, grounds 8
+//! and 11.
 
 use crate::block::Curve;
-use crate::fields::{CASH_CURVE, SECURITY_CURVE};
-use crate::found::{Kept, Tell};
+use crate::fields::{CASH_CURVE, QUOTED_CURVE, SECURITY_CURVE};
+use crate::found::{Found, Kept, Tell};
+use crate::quote::Quote;
 use crate::reasons;
 use crate::record::Record;
 use crate::report::CURRENCIES;
@@ -11,15 +13,22 @@ use std::fmt::{from_fn, Display};
 
 /// Ground 8: the ids are those of curves that the book has.
 pub fn of_the_book<W: Tell>(record: &Record, curves: &[Curve]) -> Kept<W> {
-    let ids = 1..=curves.len() as u8;
-    let cash_curve = CASH_CURVE.of(record);
-    cash_curve.one_of(ids.clone(), all(curves))?;
+    one_of_all(CASH_CURVE.of(record), curves)?;
     let security_curve = SECURITY_CURVE.of(record);
     if record.has_security() {
-        security_curve.one_of(ids, all(curves))
+        one_of_all(security_curve, curves)
     } else {
         security_curve.is_zero(reasons::NO_SECURITY_CURVE)
     }
+}
+
+/// Ground 8, of the curve that a quote lengthens.
+pub fn has_quoted<W: Tell>(quote: &Quote, curves: &[Curve]) -> Kept<W> {
+    one_of_all(QUOTED_CURVE.of(quote), curves)
+}
+
+fn one_of_all<W: Tell>(id: Found, curves: &[Curve]) -> Kept<W> {
+    id.one_of(1..=curves.len() as u8, all(curves))
 }
 
 /// Ground 11: where a record uses both curves, they are of one currency.

@@ -21,11 +21,21 @@ pub fn hold<W: Tell>(record: &Record) -> Kept<W> {
     } else {
         legs_hold(record)?;
     }
+    let after = if record.is_repo() {
+        reasons::REPO_PAYMENTS
+    } else {
+        reasons::OUTRIGHT_PAYMENTS
+    };
+    payments_hold(record, after)
+}
+
+/// Of the security, if any; `after` says which day it pays after.
+pub fn payments_hold<W: Tell>(record: &Record, after: &str) -> Kept<W> {
     if record.has_coupons() {
         payments_have_room(record)?;
     }
     if record.has_security() {
-        first_payment_holds(record)?;
+        first_payment_holds(record, after)?;
     }
     Ok(())
 }
@@ -65,20 +75,15 @@ fn payments_have_room<W: Tell>(record: &Record) -> Kept<W> {
     PAYMENT_COUNT.of(record).within(1..=most, why)
 }
 
-fn first_payment_holds<W: Tell>(record: &Record) -> Kept<W> {
+fn first_payment_holds<W: Tell>(record: &Record, after: &str) -> Kept<W> {
     let first = i128::from(record.value_day()) + 1;
     let mut latest = i128::from(MAX_DAY);
     if record.has_coupons() {
         latest -= i128::from(record.payment_span());
     }
-    let payments = if record.is_repo() {
-        reasons::REPO_PAYMENTS
-    } else {
-        reasons::OUTRIGHT_PAYMENTS
-    };
     FIRST_PAYMENT_DAY
         .of(record)
-        .within(first..=latest, in_time(payments))
+        .within(first..=latest, in_time(after))
 }
 
 /// What falls after a day falls on the last day of all at the latest.

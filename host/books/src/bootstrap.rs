@@ -1,0 +1,44 @@
+//! Bootstraps drawn at random.
+
+use crate::call::{draw_case_of, Call, Case};
+use crate::draw::Draw;
+use crate::quote::draw_quote;
+use crate::quote_damage::{damage_quote, QuoteDamage};
+use seddolki_model::accept::Book;
+use seddolki_model::quote::{Quote, BOND};
+
+/// A bootstrap on any book, whole or spoiled. `work` is as in `draw_book`.
+pub fn draw_bootstrap_case(draw: &mut Draw, work: usize) -> Case {
+    draw_case_of(draw, work, draw_bootstrap)
+}
+
+/// With a quote accepted, spoiled, or of random numbers.
+pub(crate) fn draw_bootstrap(draw: &mut Draw, book: &Book) -> Call {
+    let whole = draw_quote(draw, &book.curves);
+    let quote = match draw.within(0..=7) {
+        0..=3 => whole,
+        4..=6 => {
+            let damage = draw.pick(&QuoteDamage::ALL);
+            damage_quote(draw, &whole, &book.curves, damage).unwrap_or(whole)
+        }
+        _ => draw_noise(draw, &whole),
+    };
+    Call::Bootstrap { quote }
+}
+
+/// The bond's bytes from a place on, or all but the bond.
+fn draw_noise(draw: &mut Draw, whole: &Quote) -> Quote {
+    if draw.once_in(4) {
+        return Quote {
+            curve: draw.number() as usize,
+            cash: draw.number(),
+            components: [(); 3].map(|()| draw.number() as i32),
+            ..*whole
+        };
+    }
+    let mut quote = *whole;
+    let start = draw.place(BOND);
+    let random = draw.bytes(BOND - start);
+    quote.bond[start..].copy_from_slice(&random);
+    quote
+}

@@ -1,0 +1,84 @@
+//! Bootstraps alone: every ending of one, and curves that grow node by node.
+
+use seddolki_books::{
+    added_node, assemble, draw_book, draw_bootstrap_case, draw_quote, Call, Case, Draw, Ending,
+    Outcome,
+};
+use seddolki_compare::{assert_alike, calls, is_whole, margin_case, whole_case, Seeds};
+use seddolki_model::accept::accept;
+use seddolki_model::bootstrap::bond_value;
+use std::collections::BTreeMap;
+
+/// Bounds the time of a margin.
+const WORK: usize = 300;
+
+/// By the model's valuation the rate that was written fits, and the one below
+/// it does not.
+fn assert_smallest(case: &Case, outcome: &Outcome) {
+    let Call::Bootstrap { quote } = &case.call else {
+        panic!("{} is no bootstrap", case.call.name());
+    };
+    let before = accept(&case.lent, case.used).expect("a done call had a book");
+    let curve = &before.curves[quote.curve - 1];
+    let rate = u64::from(added_node(outcome, quote).rate);
+    let value = |rate| bond_value(curve, quote, rate);
+    assert!(value(rate) <= quote.cash, "{quote:?}: {rate}");
+    assert!(
+        rate == 0 || value(rate - 1) > quote.cash,
+        "{quote:?}: {rate}"
+    );
+}
+
+#[test]
+fn bootstraps_are_the_same_and_reach_every_ending() {
+    let seeds = Seeds::of_this_run();
+    let mut reached = BTreeMap::new();
+    for number in 0..calls() / 4 {
+        let case = draw_bootstrap_case(&mut seeds.draw(number), WORK);
+        let outcome = assert_alike(&case, number);
+        if outcome.answer.number == 0 {
+            assert_smallest(&case, &outcome);
+        }
+        let ending = Ending::of(&case, &outcome).expect("the call is a bootstrap");
+        *reached.entry(ending).or_insert(0) += 1;
+    }
+    println!("{reached:?}");
+    if is_whole() {
+        for ending in Ending::all() {
+            assert!(reached.contains_key(&ending), "{ending:?}");
+        }
+    }
+}
+
+/// Lengthens curves of one book until a quote is refused; gives the number of
+/// nodes added. The book is then margined alike.
+fn grow(draw: &mut Draw, number: u64) -> usize {
+    let mut bytes = assemble(&draw_book(draw, WORK));
+    let mut added = 0;
+    loop {
+        let book = accept(&bytes, bytes.len()).expect("a lengthened curve is accepted");
+        let quote = draw_quote(draw, &book.curves);
+        let case = whole_case(bytes, Call::Bootstrap { quote });
+        let outcome = assert_alike(&case, number);
+        bytes = outcome.after.lent.clone();
+        if outcome.answer.number != 0 {
+            break;
+        }
+        assert_smallest(&case, &outcome);
+        added += 1;
+    }
+    let outcome = assert_alike(&margin_case(draw, bytes), number);
+    assert_eq!(outcome.answer.number, 0);
+    added
+}
+
+#[test]
+fn curves_grow_alike_until_they_have_no_room() {
+    let seeds = Seeds::of_this_run();
+    let books = calls() / 200;
+    let added: usize = (0..books)
+        .map(|number| grow(&mut seeds.draw(number), number))
+        .sum();
+    println!("{books} books, {added} nodes added");
+    assert!(added as u64 >= 5 * books);
+}
