@@ -5,6 +5,10 @@
 #include <stdio.h>
 #include <stdlib.h>
 
+#if SEDDOLKI_VERSION != 1
+#error "this program is written for version 1 of seddolki.h"
+#endif
+
 /* A file that is longer than the largest book is refused by its length. */
 static uint8_t book[SEDDOLKI_LARGEST_BOOK + 1];
 

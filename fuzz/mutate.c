@@ -1,13 +1,14 @@
 /*
  * Changes inputs so that many get past the length, the checks and the rules
- * of a book: one time in four any bytes change, otherwise a field in its
- * place or a whole record. The checks of the blocks are then mended.
+ * of a book: one time in five any bytes change, otherwise a field in its
+ * place, a whole record, or the bond and its cash. The checks of the blocks
+ * are then mended.
  */
+#include "bond.h"
+#include "input.h"
 #include "seddolki.h"
 
 #include <string.h>
-
-enum { HEAD = 96 };
 
 size_t LLVMFuzzerMutate(uint8_t *data, size_t size, size_t most);
 
@@ -50,7 +51,7 @@ static void change_some_field(uint8_t *data, size_t blocks, uint64_t *state) {
 static void move_record(uint8_t *data, size_t blocks, uint64_t *state) {
     if (!blocks) return;
     seddolki_trade_block *last = &block_at(data, blocks - 1)->trades;
-    uint8_t *record = data + 32;
+    seddolki_record *record = &((input_head *)data)->record;
     if (last->kind != SEDDOLKI_TRADES_KIND) return;
     if (last->count < SEDDOLKI_FULL_BLOCK && draw(state, 4))
         memcpy(&last->places[last->count++], record, SEDDOLKI_RECORD);
@@ -58,12 +59,49 @@ static void move_record(uint8_t *data, size_t blocks, uint64_t *state) {
         memcpy(record, &last->places[draw(state, SEDDOLKI_FULL_BLOCK)], SEDDOLKI_RECORD);
 }
 
+/* A bond that ends after a curve does. */
+static seddolki_bond draw_bond(const seddolki_curve *curve, uint64_t *state) {
+    size_t end = last_node_day(curve), most = draw(state, 8) ? 8 : SEDDOLKI_MAX_PAYMENTS;
+    size_t later = end < SEDDOLKI_MAX_DAY ? SEDDOLKI_MAX_DAY - end : 1;
+    size_t last = end + 1 + draw(state, later < 2000 ? later : 2000);
+    size_t payments = 1 + draw(state, last < most ? last : most);
+    size_t room = payments > 1 ? (last - 1) / (payments - 1) : SEDDOLKI_MAX_PERIOD;
+    size_t period = 1 + draw(state, room < SEDDOLKI_MAX_PERIOD ? room : SEDDOLKI_MAX_PERIOD);
+    seddolki_bond bond;
+    seddolki_set_u16(&bond.first_payment_day, (uint16_t)(last - (payments - 1) * period));
+    seddolki_set_u16(&bond.period, (uint16_t)period);
+    seddolki_set_u16(&bond.payments, (uint16_t)payments);
+    seddolki_set_u16(&bond.term, 0);
+    seddolki_set_u32(&bond.coupon, (uint32_t)draw(state, 200000));
+    seddolki_set_u64(&bond.nominal, 1 + draw(state, 1000000000));
+    return bond;
+}
+
+/* Puts a bond into the head that lengthens a curve of the book, at the cash of some rate. */
+static void quote_bond(uint8_t *data, size_t blocks, uint64_t *state) {
+    input_head *head = (input_head *)data;
+    size_t curves = blocks ? seddolki_get_u16(&block_at(data, 0)->header.curves) : 0;
+    if (curves == 0 || curves >= blocks) return;
+    uint32_t id = 1 + (uint32_t)draw(state, curves);
+    const seddolki_curve *curve = &block_at(data, id)->curve;
+    if (curve->node_count < SEDDOLKI_MIN_NODES || curve->node_count >= SEDDOLKI_MAX_NODES) return;
+    head->bond = draw_bond(curve, state);
+    uint32_t rate = (uint32_t)draw(state, SEDDOLKI_MAX_RATE + 1);
+    seddolki_curve longer = lengthened(curve, &head->bond, rate);
+    seddolki_set_u32(&head->curve, id);
+    seddolki_set_u64(&head->cash, value_of(&head->bond, &longer));
+    for (int i = 0; i < SEDDOLKI_COMPONENTS; i++)
+        seddolki_set_i32(&head->components[i],
+                         (int32_t)draw(state, 2 * SEDDOLKI_MAX_COMPONENT) - SEDDOLKI_MAX_COMPONENT);
+}
+
 size_t LLVMFuzzerCustomMutator(uint8_t *data, size_t size, size_t most, unsigned seed) {
     uint64_t state = seed;
-    size_t way = size < HEAD ? 0 : draw(&state, 4);
+    size_t way = size < HEAD ? 0 : draw(&state, 5);
     size_t blocks = size < HEAD ? 0 : (size - HEAD) / SEDDOLKI_BLOCK;
     if (way == 0) size = LLVMFuzzerMutate(data, size, most);
     else if (way == 1) move_record(data, blocks, &state);
+    else if (way == 2) quote_bond(data, blocks, &state);
     else change_some_field(data, blocks, &state);
     size_t mends = draw(&state, 16);
     if (size < HEAD || mends == 0) return size;

@@ -3,6 +3,7 @@
  * whose stack was painted, and what is no longer paint was used.
  */
 #define _GNU_SOURCE
+#include "bond.h"
 #include "seddolki.h"
 
 #include <pthread.h>
@@ -11,7 +12,7 @@
 #include <string.h>
 #include <sys/mman.h>
 
-enum { STACK = 4 << 20, PAINT = 0xa5, CALLS = 6 };
+enum { STACK = 4 << 20, PAINT = 0xa5, CALLS = 7 };
 
 static uint8_t book[SEDDOLKI_LARGEST_BOOK + SEDDOLKI_BLOCK];
 static size_t used;
@@ -52,6 +53,27 @@ static void *present_value(void *unused) {
     return unused;
 }
 
+/* A bond with as many payments as can be, the last behind the first curve's last node. */
+static seddolki_bond longest_bond(const seddolki_curve *curve) {
+    enum { GAPS = SEDDOLKI_MAX_PAYMENTS - 1 };
+    seddolki_bond bond;
+    memset(&bond, 0, sizeof bond);
+    seddolki_set_u16(&bond.first_payment_day, 1);
+    seddolki_set_u16(&bond.period, (uint16_t)(last_node_day(curve) / GAPS + 1));
+    seddolki_set_u16(&bond.payments, SEDDOLKI_MAX_PAYMENTS);
+    seddolki_set_u32(&bond.coupon, 10000);
+    seddolki_set_u64(&bond.nominal, 1000000000);
+    return bond;
+}
+
+static seddolki_bond bond;
+static uint64_t cash;
+
+static void *bootstrap_first(void *unused) {
+    seddolki_bootstrap(book, sizeof book, used, 1, (const uint8_t *)&bond, cash, 0, 0, 0);
+    return unused;
+}
+
 /* Bytes of the stack that a call has touched, the thread's own included. */
 static size_t touched(void *(*call)(void *)) {
     static uint8_t *stack;
@@ -75,12 +97,18 @@ static void load(const char *name) {
     if (!file) perror(name), exit(1);
     used = fread(book, 1, SEDDOLKI_LARGEST_BOOK, file);
     fclose(file);
+    const seddolki_curve *curve = &((const seddolki_block *)book)[1].curve;
+    if (curve->node_count < SEDDOLKI_MIN_NODES || curve->node_count >= SEDDOLKI_MAX_NODES) return;
+    bond = longest_bond(curve);
+    seddolki_curve longer = lengthened(curve, &bond, 132500);
+    cash = value_of(&bond, &longer);
 }
 
 int main(int count, char **names) {
-    static const char *words[] = {"check", "margin", "read", "append", "strike", "present value"};
-    void *(*const calls[])(void *) = {check,     margin,       read_first,
-                                      append_it, strike_first, present_value};
+    static const char *words[CALLS] = {"check",  "margin",        "read",     "append",
+                                       "strike", "present value", "bootstrap"};
+    void *(*const calls[CALLS])(void *) = {check,        margin,        read_first,     append_it,
+                                           strike_first, present_value, bootstrap_first};
     size_t deepest[CALLS] = {0}, thread = touched(none);
     for (int i = 1; i < count; i++) {
         for (int call = 0; call < CALLS; call++) {

@@ -12,8 +12,8 @@
  * file, or holds state between calls. Calls on different bytes may run at
  * the same time. No call needs more than 1 MiB of stack. A pointer must be
  * valid for its length; bytes that are written must not overlap the others
- * of the same call. Any value of `used`, `position`, `amount`, `rate` and
- * `day` may be passed.
+ * of the same call. Any value of `used`, `position`, `amount`, `rate`, `day`,
+ * `curve`, `cash` and of the components may be passed.
  *
  * Every function that is lent a book looks at all of it first, and refuses
  * it by the first of grounds 1 to 12 that applies.
@@ -29,6 +29,18 @@
 extern "C" {
 #endif
 
+/*
+ * The number of the last request of document 02 that this header has. Where
+ * the parameters of a function change, the version does. A program that says
+ *
+ *     #if SEDDOLKI_VERSION != 1
+ *     #error "this program is written for version 1 of seddolki.h"
+ *     #endif
+ *
+ * does not compile with another.
+ */
+#define SEDDOLKI_VERSION 1
+
 /* Bytes of a block, and of a report. */
 #define SEDDOLKI_BLOCK 512
 
@@ -38,13 +50,17 @@ extern "C" {
 /* Bytes of a record. */
 #define SEDDOLKI_RECORD 56
 
+/* Bytes of a coupon bond. */
+#define SEDDOLKI_BOND 20
+
 /*
  * The answer of a call.
  *
  * number  0: done. Otherwise the ground on which the call was refused.
  * value   If done: the result that the function names, else 0. If refused:
  *         the block that the ground was found in, counted from 0; for a new
- *         record, the block that it would take; 0 for grounds 1 and 13 to 16.
+ *         record, the block that it would take; 0 for grounds 1 and 13 to 18,
+ *         and for what a bootstrap is given beside the book.
  */
 typedef struct {
     uint64_t number;
@@ -54,7 +70,8 @@ typedef struct {
 /*
  * The grounds of refusal, in the order in which they are tried: the length
  * first, then block by block, and in a trade block record by record; then a
- * new record, by 8 to 12; then 13 to 15. 16 is of the present value alone.
+ * new record, by 8 to 12; then 13 to 15. 16 is of the present value alone, 17
+ * and 18 are of the bootstrap, which says its own order.
  */
 enum {
     SEDDOLKI_DONE = 0,
@@ -89,7 +106,11 @@ enum {
     /* A new block is needed, and the book has 128 or the lent bytes end before it does. */
     SEDDOLKI_BOOK_SPACE = 15,
     /* The amount is above 10^12, the rate above 1,000,000 or the day above 10,950. */
-    SEDDOLKI_VALUE_RANGE = 16
+    SEDDOLKI_VALUE_RANGE = 16,
+    /* The curve has 24 nodes, or the bond's last payment is not after its last node. */
+    SEDDOLKI_CURVE_END = 17,
+    /* Even at rate 1,000,000 the bond is worth more than the cash, or even at 0 less. */
+    SEDDOLKI_RATE_RANGE = 18
 };
 
 /*
@@ -153,6 +174,24 @@ seddolki_answer seddolki_read(const uint8_t *book, size_t len, size_t used, size
 seddolki_answer seddolki_present_value(uint64_t amount, uint64_t rate, uint64_t day,
                                        uint64_t *tolerance);
 
+/*
+ * Lengthens a curve by a coupon bond's price: adds a node on the day of the
+ * bond's last payment. `bond` is bytes 12 to 31 of a record, `cash` what the
+ * bond settles for today in hundredths; `first`, `second` and `third` are the
+ * node's components. Its rate is the smallest, from 0 to 1,000,000, at which
+ * the present values of the bond's payments, at the rates of the curve with
+ * the new node, add up to at most the cash.
+ *
+ * Done: value 0. Written are the node, the node count and the check in the
+ * block of the curve, and nothing else.
+ * Refused: 1 to 12 for the book; then 8 for a curve that it lacks, 9, 10 and
+ * 12 for the bond, 6 for the components, 10 for the cash, 17, 18, each of
+ * these with block 0. Nothing is written. `bond` is never written.
+ */
+seddolki_answer seddolki_bootstrap(uint8_t *book, size_t len, size_t used, size_t curve,
+                                   const uint8_t bond[SEDDOLKI_BOND], uint64_t cash, int32_t first,
+                                   int32_t second, int32_t third);
+
 #ifdef __cplusplus
 }
 #endif
@@ -196,8 +235,8 @@ enum {
 };
 
 /*
- * Limits. What has no lower limit starts at 0. An amount is a nominal or a
- * repo cash; a component may be as far below 0 as above.
+ * Limits. What has no lower limit starts at 0. An amount is a nominal, a repo
+ * cash or what a bond settles for; a component may be as far below 0 as above.
  */
 #define SEDDOLKI_MAX_BLOCKS 128
 #define SEDDOLKI_MIN_CURVES 1
@@ -366,6 +405,21 @@ typedef struct {
     seddolki_u32 issue_index;       /* 52: MIN_INDEX to MAX_INDEX */
 } seddolki_record;
 
+/*
+ * A coupon bond: bytes 12 to 31 of a record as they stand. It pays as such a
+ * record does, on day 1 at the earliest and MAX_DAY at the latest, and no
+ * payment is above MAX_AMOUNT. What is wrong in a day, the period or the
+ * payments is ground 9, in anything else 10.
+ */
+typedef struct {
+    seddolki_u16 first_payment_day; /* 0: 1 to MAX_DAY */
+    seddolki_u16 period;            /* 2: in days, MIN_PERIOD to MAX_PERIOD */
+    seddolki_u16 payments;          /* 4: MIN_PAYMENTS to MAX_PAYMENTS */
+    seddolki_u16 term;              /* 6: 0, a bond has none */
+    seddolki_u32 coupon;            /* 8: of a period in millionths, 0 to MAX_COUPON */
+    seddolki_u64 nominal;           /* 12: in hundredths, MIN_AMOUNT to MAX_AMOUNT */
+} seddolki_bond;
+
 /* Trades. Blocks behind the curves, all full but the last, none empty. */
 typedef struct {
     uint8_t kind;                                /* 0: TRADES_KIND */
@@ -482,6 +536,18 @@ SEDDOLKI_INLINE void seddolki_set_i64(seddolki_i64 *field, int64_t number) {
     uint64_t bits;
     memcpy(&bits, &number, sizeof bits);
     seddolki_set_bytes(field->bytes, sizeof field->bytes, bits);
+}
+
+/* The bond of a record, its bytes 12 to 31 as they stand. */
+SEDDOLKI_INLINE seddolki_bond seddolki_bond_of(const seddolki_record *record) {
+    seddolki_bond bond;
+    bond.first_payment_day = record->first_payment_day;
+    bond.period = record->period;
+    bond.payments = record->payments;
+    bond.term = record->term;
+    bond.coupon = record->coupon;
+    bond.nominal = record->nominal;
+    return bond;
 }
 
 /* The check that the other bytes of a block call for. */

@@ -4,7 +4,7 @@ pub mod peer;
 mod timing;
 mod whole;
 
-pub use timing::{best_time, middle, processor_time, ratio, repeats, shown, turn_time};
+pub use timing::{best_time, best_turn, middle, processor_time, ratio, repeats, shown, turn_time};
 pub use whole::{margin, work, Work};
 
 mod ffi {

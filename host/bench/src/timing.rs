@@ -37,7 +37,13 @@ pub fn turn_time<T>(mut work: impl FnMut() -> T) -> Duration {
     start.elapsed() / repeats
 }
 
-/// The same in time of the processor, which others that run do not lengthen much.
+/// The best of several turns.
+pub fn best_turn<T>(mut work: impl FnMut() -> T) -> Duration {
+    let turns = (0..ROUNDS).map(|_| turn_time(&mut work));
+    turns.min().unwrap_or_default()
+}
+
+/// A turn in time of the processor, which others that run do not lengthen much.
 pub fn processor_time<T>(mut work: impl FnMut() -> T) -> Duration {
     let start = processor();
     let mut repeats = 0;

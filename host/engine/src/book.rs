@@ -5,13 +5,13 @@ use crate::ffi;
 use seddolki_format::block::{trades, BLOCK};
 use seddolki_format::layout::Layout;
 use seddolki_format::record::RECORD;
-use seddolki_format::{Answer, Record, Refusal, Report};
+use seddolki_format::{Answer, Quote, Record, Refusal, Report};
 
 /// The bytes of a book, and how many of them it uses.
 ///
 /// Any bytes can be held. Each call looks at all of them first and is
-/// refused, nothing changed, where a rule is broken. An append or a strike
-/// leaves an accepted book accepted.
+/// refused, nothing changed, where a rule is broken. An append, a strike or a
+/// bootstrap leaves an accepted book accepted.
 ///
 /// ```
 /// use seddolki::{Book, Record};
@@ -104,6 +104,52 @@ impl Book {
         let answer = ffi::strike(&mut self.bytes, self.used, position);
         self.used = used_of(answer)?;
         Ok(())
+    }
+
+    /// Lengthens a curve by a coupon bond's price: adds a node on the bond's
+    /// last payment day, at the smallest rate at which the bond is worth at
+    /// most its cash today.
+    ///
+    /// ```
+    /// use seddolki::{bond_of, Book, Ground, Quote, Record};
+    /// # let bytes = include_bytes!("../../../examples/buyer.book");
+    ///
+    /// // a curve at 25% up to day 730, and a bond that pays as much each year
+    /// let mut book = Book::from_bytes(bytes.to_vec());
+    /// let bond = Record {
+    ///     first_payment_day: 365,
+    ///     period: 365,
+    ///     payments: 3,
+    ///     coupon: 250_000,
+    ///     nominal: 100_000_000,
+    ///     ..Record::default()
+    /// };
+    /// let quote = Quote {
+    ///     curve: 1,
+    ///     bond: bond_of(&bond),
+    ///     cash: 100_000_000,
+    ///     components: [250_000, 0, 0],
+    /// };
+    /// book.bootstrap(&quote)?;
+    /// book.check()?;
+    ///
+    /// // the third node of block 1: its day, and its rate in millionths
+    /// let node = &book.as_bytes()[512 + 20 + 2 * 20..];
+    /// assert_eq!(node[..2], 1_095_u16.to_le_bytes());
+    /// assert_eq!(node[4..8], 250_000_u32.to_le_bytes());
+    ///
+    /// // now the bond's last payment is not after the last node
+    /// let refusal = book.bootstrap(&quote).unwrap_err();
+    /// assert_eq!(refusal.ground, Ground::CurveEnd);
+    /// # Ok::<(), seddolki::Refusal>(())
+    /// ```
+    ///
+    /// # Errors
+    /// Without a block: ground 8 where the book has no such curve, 9, 10 and
+    /// 12 for the bond, 6 for the components, 10 for the cash, 17 where the
+    /// curve takes no node there, 18 where no rate fits.
+    pub fn bootstrap(&mut self, quote: &Quote) -> Result<(), Refusal> {
+        done(ffi::bootstrap(&mut self.bytes, self.used, quote))
     }
 
     /// The trade at a position, counted from 0.

@@ -1,10 +1,11 @@
 //! The functions of the archive, each behind a safe one.
 
+use seddolki_format::quote::BOND;
 use seddolki_format::record::RECORD;
-use seddolki_format::Answer;
+use seddolki_format::{Answer, Quote};
 
 mod archive {
-    use super::{Answer, RECORD};
+    use super::{Answer, BOND, RECORD};
 
     unsafe extern "C" {
         pub unsafe fn seddolki_check(book: *const u8, len: usize, used: usize) -> Answer;
@@ -40,12 +41,23 @@ mod archive {
             day: u64,
             tolerance: *mut u64,
         ) -> Answer;
+        pub unsafe fn seddolki_bootstrap(
+            book: *mut u8,
+            len: usize,
+            used: usize,
+            curve: usize,
+            bond: *const [u8; BOND],
+            cash: u64,
+            first: i32,
+            second: i32,
+            third: i32,
+        ) -> Answer;
     }
 }
 
 // SAFETY, of all below: a pointer and a length come from one slice, which is
 // borrowed mutably where the call writes; the call keeps no pointer, and takes
-// any used length and any position.
+// any number.
 
 /// Whether every rule of a book is kept, grounds 1 to 12.
 pub fn check(book: &[u8], used: usize) -> Answer {
@@ -76,4 +88,18 @@ pub fn read(book: &[u8], used: usize, position: usize, record: &mut [u8; RECORD]
 /// One present value, and its tolerance; tolerance 0 if refused.
 pub fn present_value(amount: u64, rate: u64, day: u64, tolerance: &mut u64) -> Answer {
     unsafe { archive::seddolki_present_value(amount, rate, day, tolerance) }
+}
+
+/// Adds a node to a curve, at the rate that a bond's cash today calls for.
+pub fn bootstrap(book: &mut [u8], used: usize, quote: &Quote) -> Answer {
+    let (bytes, length) = (book.as_mut_ptr(), book.len());
+    let Quote {
+        curve, bond, cash, ..
+    } = quote;
+    let [first, second, third] = quote.components;
+    unsafe {
+        archive::seddolki_bootstrap(
+            bytes, length, used, *curve, bond, *cash, first, second, third,
+        )
+    }
 }

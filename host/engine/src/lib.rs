@@ -1,9 +1,9 @@
 //! The cash flow margin of one account's book.
 //!
 //! A [`Book`] owns the bytes of an account's curves and trades. It answers
-//! whether they keep every rule, gives and takes single trades, and works
-//! out the margin. All of it is done by the proved engine; this crate lends
-//! it bytes and gives its answers names.
+//! whether they keep every rule, gives and takes single trades, lengthens a
+//! curve by a bond's price, and works out the margin. All of it is done by the
+//! proved engine; this crate lends it bytes and gives its answers names.
 //!
 //! Money is in hundredths of the currency, rates and prices are in
 //! millionths, days are counted from today, day 0.
@@ -46,15 +46,16 @@ mod doubles;
 mod ffi;
 mod value;
 
-/// The six calls as they are in C, over lent bytes. The caller lends the
+/// The seven calls as they are in C, over lent bytes. The caller lends the
 /// bytes, and says how many of them the book uses.
 pub mod lent {
-    pub use crate::ffi::{append, check, margin, present_value, read, strike};
+    pub use crate::ffi::{append, bootstrap, check, margin, present_value, read, strike};
 }
 
 pub use book::Book;
 pub use doubles::{doubles, doubles_among, doubles_at, doubles_of, stands_already};
 pub use doubles::{Double, Likeness, Placed, Standing};
+pub use seddolki_format::quote::bond_of;
 pub use seddolki_format::report::{CurrencyFigures, CurveFigures};
-pub use seddolki_format::{Answer, Ground, Record, Refusal, Report};
+pub use seddolki_format::{Answer, Ground, Quote, Record, Refusal, Report};
 pub use value::{present_value, PresentValue};

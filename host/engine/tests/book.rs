@@ -1,6 +1,6 @@
 //! A book that owns its bytes.
 
-use seddolki::{present_value, Book, Ground, Record};
+use seddolki::{present_value, Book, Ground, Quote, Record};
 use seddolki_books::{assemble, buyer, draw_book, draw_record, seller, Draw};
 use seddolki_model::limits::{FULL_BLOCK, MAX_BLOCKS};
 
@@ -68,6 +68,7 @@ fn any_bytes_can_be_held() {
         assert!(book.read(0).is_err());
         assert!(book.strike(0).is_err());
         assert!(book.append(&Record::default()).is_err());
+        assert!(book.bootstrap(&Quote::default()).is_err());
         assert_eq!(book.as_bytes(), vec![0; length]);
     }
 }
@@ -102,5 +103,5 @@ fn grounds_are_numbered_named_and_said() {
         assert!(!ground.name().is_empty() && !ground.sentence().is_empty());
     }
     assert_eq!(Ground::from_number(0), None);
-    assert_eq!(Ground::from_number(17), None);
+    assert_eq!(Ground::from_number(1 + Ground::ALL.len() as u64), None);
 }

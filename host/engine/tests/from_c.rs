@@ -78,6 +78,23 @@ fn document_01_example_is_built_by_the_names_of_the_header() {
     }
 }
 
+#[test]
+fn a_curve_is_lengthened_by_the_names_of_the_header() {
+    let expected = "a curve that the book lacks: refused by 8 in block 0\n\
+                    no payments: refused by 9 in block 0\n\
+                    a term: refused by 10 in block 0\n\
+                    a payment too large: refused by 12 in block 0\n\
+                    a component too large: refused by 6 in block 0\n\
+                    no cash: refused by 10 in block 0\n\
+                    an end within the curve: refused by 17 in block 0\n\
+                    too little cash: refused by 18 in block 0\n\
+                    3 nodes, the last on day 1095 at 250000, moved by 250000 -1 2\n";
+    for compiler in compilers() {
+        let program = Program::build(compiler, "host/engine/tests/c/bootstrap.c");
+        assert_eq!(program.prints(&["examples/buyer.book"]), expected);
+    }
+}
+
 /// A line of a type's name, a number, and its bytes.
 fn line(name: &str, number: i128, bytes: &[u8]) -> String {
     let bytes: String = bytes.iter().map(|byte| format!(" {byte:02x}")).collect();

@@ -15,7 +15,7 @@ use layouts::layouts;
 use std::collections::BTreeSet;
 
 #[test]
-fn the_six_functions_are_declared() {
+fn the_seven_functions_are_declared() {
     let functions = [
         "check",
         "margin",
@@ -23,6 +23,7 @@ fn the_six_functions_are_declared() {
         "strike",
         "read",
         "present_value",
+        "bootstrap",
     ];
     assert_eq!(Header::read().functions(), functions);
 }
@@ -132,6 +133,22 @@ fn compilers_place_the_fields_as_the_format_does() {
     let source = "#include \"seddolki.h\"\n".to_string() + &offsets() + &sizes() + &block;
     for compiler in compilers() {
         compiler.compile(&["-fsyntax-only", "-"], &source);
+    }
+}
+
+#[test]
+fn a_program_for_another_version_does_not_compile() {
+    let program = std::fs::read_to_string(format!("{ROOT}/examples/totals.c")).unwrap();
+    let header = "#include \"seddolki.h\"\n";
+    let other = format!("{header}#undef SEDDOLKI_VERSION\n#define SEDDOLKI_VERSION 0\n");
+    assert!(program.contains(header));
+    for compiler in compilers().into_iter().filter(|c| c.language == "c") {
+        compiler.compile(&["-fsyntax-only", "-"], &program);
+        let changed = program.replace(header, &other);
+        let output = compiler.run(&["-fsyntax-only", "-"], &changed);
+        let said = String::from_utf8_lossy(&output.stderr);
+        assert!(!output.status.success(), "{compiler:?}");
+        assert!(said.contains("written for version 1"), "{said}");
     }
 }
 

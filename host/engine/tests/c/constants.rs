@@ -3,6 +3,7 @@
 use crate::declared::Numbers;
 use seddolki::Ground;
 use seddolki_format::block::{Node, BLOCK};
+use seddolki_format::quote::BOND;
 use seddolki_format::record::RECORD;
 use seddolki_format::report::CURRENCIES;
 use seddolki_format::{block, limits, record, report};
@@ -62,15 +63,17 @@ pub fn limits() -> Constants {
     all
 }
 
-/// Numbers of bytes and of components.
+/// Numbers of bytes and of components, and the last request of document 02.
 pub fn add_sizes(all: &mut Constants) {
     let largest = BLOCK * limits::MAX_BLOCKS;
     let components = Node::default().components.len();
     let sizes = [
         ("BLOCK", BLOCK),
         ("RECORD", RECORD),
+        ("BOND", BOND),
         ("LARGEST_BOOK", largest),
         ("COMPONENTS", components),
+        ("VERSION", 1),
     ];
     for (name, size) in sizes {
         all.add_number(name, size as i128);

@@ -4,6 +4,8 @@
 use crate::declared::Field;
 use seddolki_format::block::{Curve, Head, Header, Node, TradeBlock, BLOCK};
 use seddolki_format::layout::Layout;
+use seddolki_format::quote::{bond_of, BOND};
+use seddolki_format::record::RECORD;
 use seddolki_format::report::{CurrencyFigures, CurveFigures};
 use seddolki_format::{Record, Report};
 use std::collections::BTreeMap;
@@ -79,7 +81,7 @@ macro_rules! forms {
 }
 
 pub fn layouts() -> BTreeMap<String, Form> {
-    forms! {
+    let mut all = forms! {
         Head = "head" { kind, number, check }
         Header = "header" { kind, number, account, curves, trade_blocks, check }
         Node = "node" { day, rate, components }
@@ -95,5 +97,28 @@ pub fn layouts() -> BTreeMap<String, Form> {
         CurveFigures = "curve_figures" { base, worst_loss, scenario, currency, tolerance }
         CurrencyFigures = "currency_figures" { initial, variation, total }
         Report = "report" { kind, number, account, curves, currencies, check }
+    };
+    let bond = bond(&all["record"]);
+    all.insert("bond".to_string(), bond);
+    all
+}
+
+/// A bond, by the fields of a record that it takes.
+fn bond(record: &Form) -> Form {
+    let taken = |(field, size): &(Field, usize)| {
+        let mut bytes = [0; RECORD];
+        bytes[field.offset..][..*size].fill(0xff);
+        let bond = bond_of(&Record::decode(&bytes));
+        let offset = bond.iter().position(|byte| *byte != 0)?;
+        let field = Field {
+            offset,
+            ..field.clone()
+        };
+        Some((field, *size))
+    };
+    Form {
+        name: record.name,
+        size: BOND,
+        fields: record.fields.iter().filter_map(taken).collect(),
     }
 }

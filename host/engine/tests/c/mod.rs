@@ -2,7 +2,7 @@
 
 use std::io::Write;
 use std::path::Path;
-use std::process::{Command, Stdio};
+use std::process::{Command, Output, Stdio};
 
 pub const ROOT: &str = concat!(env!("CARGO_MANIFEST_DIR"), "/../..");
 
@@ -45,6 +45,14 @@ impl Compiler {
     /// Compiles at the root of the repository. `-` among the arguments is
     /// the source. Panics unless it ends well and has nothing to say.
     pub fn compile(self, arguments: &[&str], source: &str) {
+        let output = self.run(arguments, source);
+        let said = String::from_utf8_lossy(&output.stderr);
+        assert!(output.status.success(), "{self:?}: {said}");
+        assert_eq!(said, "", "{self:?}");
+    }
+
+    /// The same, whatever becomes of it.
+    pub fn run(self, arguments: &[&str], source: &str) -> Output {
         let mut command = Command::new(self.program);
         command.current_dir(Path::new(ROOT)).args(WARNINGS);
         command.args([self.standard, "-Iinclude", "-x", self.language]);
@@ -54,9 +62,6 @@ impl Compiler {
         let mut input = running.stdin.take().unwrap();
         input.write_all(source.as_bytes()).unwrap();
         drop(input);
-        let output = running.wait_with_output().unwrap();
-        let said = String::from_utf8_lossy(&output.stderr);
-        assert!(output.status.success(), "{self:?}: {said}");
-        assert_eq!(said, "", "{self:?}");
+        running.wait_with_output().unwrap()
     }
 }
