@@ -5,9 +5,11 @@
 
 #![forbid(unsafe_code)]
 
+mod by_day;
 mod growth;
 mod heading;
 mod legend;
+mod lengthened;
 mod losses;
 mod numbers;
 mod page;
@@ -16,7 +18,9 @@ mod rates;
 mod scale;
 mod style;
 
+pub use by_day::{DayFlows, Node};
 pub use growth::Growth;
 pub use heading::Heading;
+pub use lengthened::Lengthened;
 pub use losses::Losses;
-pub use rates::{DayFlows, Node, Rates};
+pub use rates::Rates;

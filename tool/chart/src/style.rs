@@ -55,6 +55,17 @@ impl Look {
     }
 }
 
+/// A curve on which another may lie: wide, so that it shows under one that is
+/// the same.
+pub fn under() -> Look {
+    Look::new(BLACK, 6, Marker::Circle(6))
+}
+
+/// The curve that lies on it.
+pub fn over() -> Look {
+    Look::new(VERMILLION, 3, Marker::Triangle(8))
+}
+
 /// A text's width at most: no common sans-serif is wider than DejaVu.
 ///
 /// Without fonts plotters reckons every letter at less than DejaVu's digits.

@@ -1,6 +1,9 @@
 use seddolki_chart::{DayFlows, Heading, Node, Rates};
 
+mod given;
 mod svg;
+
+use given::{flows, nodes};
 use svg::{Picture, BLACK, BLUE, GREY, ORANGE, VERMILLION};
 
 const HEADING: Heading = Heading {
@@ -10,14 +13,6 @@ const HEADING: Heading = Heading {
     worst_loss: "1,000,000,000,000.00",
     worst: "worst of 343 scenarios: scenario 342, coefficients -100.00 -100.00 -100.00",
 };
-
-fn nodes(days_and_rates: &[(u32, u32)]) -> Vec<Node> {
-    let node = |(day, rate): &(u32, u32)| Node {
-        day: *day,
-        rate: *rate,
-    };
-    days_and_rates.iter().map(node).collect()
-}
 
 /// The nodes moved up, step by step.
 fn stressed(nodes: &[Node], count: u32) -> Vec<Vec<Node>> {
@@ -42,14 +37,6 @@ fn drawn(base: &[Node], stressed: &[Vec<Node>], flows: &[DayFlows]) -> Picture {
         flows,
     };
     Picture::sound(&rates.draw())
-}
-
-fn flows(day: u32, incoming: u64, outgoing: u64) -> DayFlows {
-    DayFlows {
-        day,
-        incoming,
-        outgoing,
-    }
 }
 
 #[test]

@@ -50,6 +50,8 @@ pub enum Command {
     Strike(Strike),
     /// Replace the curves of a book, its trades kept
     Curves(Curves),
+    /// Lengthen a curve by what a coupon bond costs today
+    Bootstrap(Bootstrap),
     /// Say whether books keep every rule
     Check(Check),
     /// List the curves, the trades and their dated cash flows
@@ -76,7 +78,14 @@ pub enum Command {
 
 /// The columns of a trade, and which trades use them.
 fn columns() -> String {
-    format!("{}\n{}", seddolki_text::meanings(), seddolki_text::uses())
+    let meanings = seddolki_text::meanings(&seddolki_text::trade_columns());
+    format!("{meanings}\n{}", seddolki_text::uses())
+}
+
+/// The columns of a bond, and what becomes of it.
+fn bond_help() -> String {
+    let meanings = seddolki_text::meanings(&seddolki_text::bond_columns());
+    format!("{meanings}\n{}", crate::commands::bootstrap::FORM)
 }
 
 /// Of every command that writes into a folder.
@@ -200,6 +209,39 @@ pub struct Curves {
     pub waiting: Waiting,
 }
 
+#[derive(Args, Debug)]
+#[command(after_help = bond_help())]
+pub struct Bootstrap {
+    /// The book to change; in a dry run - is standard input
+    pub book: PathBuf,
+    /// Every column of the bond
+    #[arg(required = true, value_name = "COLUMN=VALUE")]
+    pub values: Vec<String>,
+    /// The id of the curve to lengthen
+    #[arg(long, value_name = "ID", value_parser = curve_id)]
+    pub curve: u8,
+    /// What the bond settles for today
+    #[arg(long, value_name = "AMOUNT", allow_negative_numbers = true)]
+    pub cash: String,
+    /// How far each component moves the new node, in percent
+    #[arg(long, required = true, num_args = 3, value_names = ["FIRST", "SECOND", "THIRD"])]
+    #[arg(allow_negative_numbers = true, action = clap::ArgAction::Set)]
+    pub components: Vec<String>,
+    /// Show the new node, and leave the book as it is
+    #[arg(long)]
+    pub dry_run: bool,
+    /// Draw the curve before and after, an SVG picture, in a dry run
+    #[arg(long, value_name = "FILE", requires = "dry_run")]
+    pub plot: Option<PathBuf>,
+    /// Write over a picture that is there already
+    #[arg(long, requires = "plot")]
+    pub force: bool,
+    #[command(flatten)]
+    pub waiting: Waiting,
+    #[command(flatten)]
+    pub form: Form,
+}
+
 /// Books to read.
 #[derive(Args, Clone, Debug)]
 pub struct Books {
@@ -313,8 +355,7 @@ pub struct Plot {
 
 #[derive(Args, Debug)]
 pub struct Explain {
-    /// The ground's number, 1 to 16
-    #[arg(value_parser = ground)]
+    #[arg(value_parser = ground, help = format!("The ground's number, 1 to {}", Ground::ALL.len()))]
     pub number: Ground,
     /// A book: whether the ground applies there, and where
     pub book: Option<PathBuf>,

@@ -53,12 +53,37 @@ fn the_readme_shows_the_margin_that_the_day_ends_with() {
 }
 
 #[test]
+fn the_readme_shows_the_node_that_its_bond_adds() {
+    let desk = Desk::new();
+    std::fs::create_dir(desk.path("examples")).unwrap();
+    let curve = "examples/handbook-curve.txt";
+    std::fs::copy(example("handbook-curve.txt"), desk.path(curve)).unwrap();
+    let joined = README.replace("\\\n", " ");
+    let run = |start: &str| {
+        let line = joined.lines().find(|line| line.starts_with(start));
+        let command = line.expect("the README has it");
+        desk.done(&command.split_whitespace().skip(1).collect::<Vec<_>>())
+    };
+    run("seddolki new handbook.book");
+    let printed = run("seddolki bootstrap handbook.book");
+    assert!(
+        README.contains(&format!("```text\n{printed}```")),
+        "{printed}"
+    );
+}
+
+#[test]
 fn the_examples_do_what_their_readme_shows() {
     let readme = std::fs::read_to_string(example("README.md")).unwrap();
     let (_, shown) = readme.split_once("```text\n").unwrap();
     let (shown, _) = shown.split_once("```").unwrap();
     let desk = Desk::new();
-    for name in ["curve.txt", "buyer.csv", "wrong-trades.csv"] {
+    for name in [
+        "curve.txt",
+        "buyer.csv",
+        "wrong-trades.csv",
+        "handbook-curve.txt",
+    ] {
         std::fs::copy(example(name), desk.path(name)).unwrap();
     }
     for step in shown.split("$ seddolki ").skip(1) {
@@ -81,7 +106,7 @@ fn every_command_has_help_a_place_in_the_manual_and_completions() {
         .take_while(|line| !line.is_empty())
         .filter_map(|line| line.split_whitespace().next())
         .collect();
-    assert_eq!(names.len(), 19, "{names:?}");
+    assert_eq!(names.len(), 20, "{names:?}");
     for name in names.iter().filter(|name| **name != "help") {
         assert!(desk
             .done(&[name, "--help"])

@@ -28,7 +28,7 @@ fn repo_with(changed: &[&str]) -> Vec<String> {
         .collect()
 }
 
-fn append<'a>(desk: &Desk, trade: &[String], more: &[&'a str]) -> tool::Run {
+fn append(desk: &Desk, trade: &[String], more: &[&str]) -> tool::Run {
     let mut arguments = vec!["append".to_owned(), "desk.book".to_owned()];
     arguments.extend(more.iter().map(|word| (*word).to_owned()));
     arguments.extend_from_slice(trade);

@@ -270,12 +270,12 @@ fn losses_are_those_of_the_margin() {
 #[test]
 fn grounds_are_explained() {
     let desk = Desk::with("buyer.book");
-    for number in 1..=16 {
+    for number in 1..=18 {
         let text = desk.done(&["explain", &number.to_string()]);
         assert!(text.lines().count() >= 2, "{text}");
     }
     assert!(desk.done(&["explain", "9"]).contains("730"));
-    assert_eq!(desk.run(&["explain", "17"]).status, tool::MISUSED);
+    assert_eq!(desk.run(&["explain", "19"]).status, tool::MISUSED);
     assert_eq!(desk.run(&["explain", "0"]).status, tool::MISUSED);
     assert!(desk
         .done(&["explain", "9", "buyer.book"])
@@ -309,6 +309,10 @@ fn a_refused_book_is_told_with_place_field_and_limit_by_every_command() {
     .map(|arguments| desk.run(arguments))
     .into();
     runs.push(desk.append("bad.book", &tool::outright(5)));
+    let mut lengthen = tool::LENGTHEN;
+    lengthen[1] = "bad.book";
+    runs.push(desk.run(&lengthen));
+    runs.push(desk.run(&[&lengthen[..], &["--dry-run"]].concat()));
     for run in runs {
         assert_eq!(run.status, tool::REFUSED, "{run:?}");
         assert!(

@@ -7,7 +7,7 @@ use std::fs::{self, Permissions};
 use std::os::unix::fs::{chown, symlink, MetadataExt, PermissionsExt};
 use std::os::unix::process::CommandExt;
 use std::process::Command;
-use tool::{example, finish, outright, Desk, Run, DONE, FAILED};
+use tool::{example, finish, outright, Desk, Run, DONE, FAILED, LENGTHEN};
 
 const NOBODY: u32 = 65534;
 
@@ -49,6 +49,8 @@ fn a_failed_write_leaves_the_book_and_nothing_else() {
         "amend desk.book 0 nominal=7".to_owned(),
         format!("curves desk.book '{}'", example("desk-curves.txt")),
         "plot desk.book 1 curve.svg".to_owned(),
+        LENGTHEN.join(" "),
+        format!("{} --dry-run --plot curve.svg", LENGTHEN.join(" ")),
         format!("new new.book '{}'", example("desk-curves.txt")),
     ] {
         let run = desk.shell(&format!("{NO_ROOM} \"$0\" {command}"));

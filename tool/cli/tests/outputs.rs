@@ -4,15 +4,23 @@ mod tool;
 
 use std::fs;
 use std::os::unix::fs::symlink;
-use tool::{Desk, DONE, FAILED};
+use tool::{Desk, DONE, FAILED, LENGTHEN};
 
-/// Each command that writes a file, with the file's name to come behind.
-const WRITERS: [&[&str]; 4] = [
-    &["plot", "desk.book", "1"],
-    &["export", "desk.book"],
-    &["export", "--curves", "desk.book"],
-    &["template", "curves"],
-];
+/// Each command that reads a book and writes a file, with the file's name to
+/// come behind.
+fn readers() -> Vec<Vec<&'static str>> {
+    vec![
+        vec!["plot", "desk.book", "1"],
+        vec!["export", "desk.book"],
+        vec!["export", "--curves", "desk.book"],
+        [&LENGTHEN[..], &["--dry-run", "--plot"]].concat(),
+    ]
+}
+
+/// The same of every command that writes a file.
+fn writers() -> Vec<Vec<&'static str>> {
+    [readers(), vec![vec!["template", "curves"]]].concat()
+}
 
 fn with_name<'a>(writer: &[&'a str], name: &'a str) -> Vec<&'a str> {
     [writer, &[name]].concat()
@@ -20,7 +28,7 @@ fn with_name<'a>(writer: &[&'a str], name: &'a str) -> Vec<&'a str> {
 
 #[test]
 fn a_file_that_is_there_is_kept_unless_force_is_said() {
-    for writer in WRITERS {
+    for writer in &writers() {
         let desk = Desk::with("desk.book");
         desk.write("out", "my notes");
         let reason = desk.ended(FAILED, &with_name(writer, "out"));
@@ -38,7 +46,7 @@ fn a_file_that_is_there_is_kept_unless_force_is_said() {
 
 #[test]
 fn an_input_is_never_written_over_by_any_name() {
-    for writer in &WRITERS[..3] {
+    for writer in &readers() {
         for force in [&[][..], &["--force"]] {
             let desk = Desk::with("desk.book");
             let before = desk.read("desk.book");
@@ -107,6 +115,7 @@ fn what_is_printed_does_not_go_into_a_book_that_is_read() {
         ("margin link", "desk.book"),
         ("export desk.book", "desk.book"),
         ("strike desk.book 0", "desk.book"),
+        (&LENGTHEN.join(" "), "desk.book"),
     ] {
         let run = desk.shell(&format!("\"$0\" {command} >> {output}"));
         assert_eq!(run.status, FAILED, "{command}");

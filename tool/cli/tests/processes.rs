@@ -3,7 +3,6 @@
 mod tool;
 
 use seddolki::Book;
-use std::fs::File;
 use std::io::{BufRead, BufReader};
 use std::process::Stdio;
 use std::time::{Duration, Instant};
@@ -39,8 +38,7 @@ fn edits_at_the_same_time_are_all_kept() {
 fn a_lock_is_waited_for_and_told_and_then_given_up() {
     let desk = Desk::with("buyer.book");
     let before = desk.read("buyer.book");
-    let held = File::open(desk.path(".")).unwrap();
-    held.lock().unwrap();
+    let held = desk.lock();
     let start = Instant::now();
     let run = desk.run(&["strike", "buyer.book", "0", "--wait", "1"]);
     assert!(start.elapsed() >= Duration::from_secs(1));
@@ -66,8 +64,7 @@ fn a_lock_is_waited_for_and_told_and_then_given_up() {
 #[test]
 fn a_lock_that_is_let_go_in_time_is_taken() {
     let desk = Desk::with("buyer.book");
-    let held = File::open(desk.path(".")).unwrap();
-    held.lock().unwrap();
+    let held = desk.lock();
     let mut command = desk.tool(&["strike", "buyer.book", "0"]);
     command.stdout(Stdio::null()).stderr(Stdio::piped());
     let mut child = command.spawn().unwrap();

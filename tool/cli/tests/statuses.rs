@@ -2,7 +2,7 @@
 
 mod tool;
 
-use tool::{outright, Desk, DONE, FAILED, MISUSED, REFUSED};
+use tool::{outright, Desk, DONE, FAILED, LENGTHEN, MISUSED, REFUSED};
 
 /// The values of a trade as a shell takes them.
 fn shell_words(values: &[String]) -> String {
@@ -23,6 +23,20 @@ fn an_edit_that_is_done_ends_so_though_it_cannot_be_told() {
         let run = desk.shell(&format!("\"$0\" strike buyer.book 1 {streams}"));
         assert_eq!(run.status, DONE, "{streams}: {}", run.err);
         assert_eq!(desk.trades("buyer.book"), 1);
+    }
+}
+
+#[test]
+fn a_curve_that_is_lengthened_is_so_though_its_table_cannot_be_printed() {
+    let lengthen = LENGTHEN.join(" ");
+    for form in ["", "--json", "--csv"] {
+        let desk = Desk::with("desk.book");
+        let run = desk.shell(&format!("\"$0\" {lengthen} {form} --dry-run >/dev/full"));
+        assert_eq!(run.status, FAILED, "{form}: {}", run.err);
+        let run = desk.shell(&format!("\"$0\" {lengthen} {form} >/dev/full"));
+        assert_eq!((run.status, run.err.as_str()), (DONE, ""), "{form}");
+        // a second time the bond ends with the curve
+        assert_eq!(desk.run(&LENGTHEN).status, REFUSED);
     }
 }
 

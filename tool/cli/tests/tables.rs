@@ -31,6 +31,7 @@ fn documented() -> BTreeMap<(String, String), Vec<String>> {
 /// The arguments of each command that prints a table with rows.
 fn commands() -> Vec<(&'static str, Vec<&'static str>)> {
     vec![
+        ("bootstrap", [&tool::LENGTHEN[..], &["--dry-run"]].concat()),
         ("check", vec!["check", "doubled.book"]),
         (
             "check --doubles",

@@ -1,6 +1,6 @@
 //! A named column of a trade.
 
-use crate::columns::{prices, COLUMNS};
+use crate::columns::{prices, trade_columns, COLUMNS};
 use crate::decimal::{plain, Decimals};
 use crate::fault::{shown, Fault};
 use crate::quantity::Quantity;
@@ -48,11 +48,16 @@ impl Column {
         COLUMNS.iter().find(|column| column.name == name)
     }
 
-    /// The column of a name, or a fault that names the column that may be
-    /// meant, or all.
+    /// The column of a trade with a name, or a fault that names the column
+    /// that may be meant, or all.
     pub fn find(name: &str) -> Result<&'static Column, Fault> {
-        let fault = || no_columns(&[name]).remove(0);
-        Column::named(name).ok_or_else(fault)
+        Column::find_among(&trade_columns(), name)
+    }
+
+    /// The same among some columns alone.
+    pub fn find_among(columns: &[&'static Column], name: &str) -> Result<&'static Column, Fault> {
+        let column = Column::named(name).filter(|column| columns.contains(column));
+        column.ok_or_else(|| no_columns(&[name], columns).remove(0))
     }
 
     /// The column that stands for a field of this record, by the field's

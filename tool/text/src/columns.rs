@@ -1,12 +1,11 @@
 //! The named columns of a trade.
 
 use crate::column::{Column, Unit};
-use crate::decimal::{MONEY, PERCENT};
+use crate::decimal::PERCENT;
 use crate::quantity::Quantity;
 use crate::words::{kinds, securities, sides};
 use seddolki_format::limits::{
-    AMOUNTS, CLEAN_PRICES, CURVES, INDICES, MAX_ACCRUED, MAX_COUPON, MAX_RATE, PAYMENTS, PERIODS,
-    TERMS,
+    CLEAN_PRICES, CURVES, INDICES, MAX_ACCRUED, MAX_COUPON, MAX_RATE, PAYMENTS, PERIODS, TERMS,
 };
 use seddolki_format::record::{OUTRIGHT, POOL, SPECIFIED};
 use seddolki_format::Record;
@@ -40,7 +39,7 @@ const CURVE: Unit = whole(*CURVES.start() as u64, *CURVES.end() as u64);
 const VALUE_DAY: Unit = Unit::Number(Quantity::day(0));
 const PAYMENT_DAY: Unit = Unit::Number(Quantity::day(1));
 const INDEX: Unit = whole(*INDICES.start() as u64, *INDICES.end() as u64);
-const AMOUNT: Unit = decimal(MONEY, *AMOUNTS.start(), *AMOUNTS.end());
+const AMOUNT: Unit = Unit::Number(Quantity::AMOUNT);
 const PRICE: Unit = decimal(
     PERCENT,
     *CLEAN_PRICES.start() as u64,
@@ -194,6 +193,25 @@ pub static COLUMNS: [Column; 20] = [
         Record::is_indexed,
         "of indexed coupons"
     ),
+];
+
+/// All columns, each of which some trade uses.
+pub fn trade_columns() -> Vec<&'static Column> {
+    COLUMNS.iter().collect()
+}
+
+/// The columns that a coupon bond has by itself, without a trade.
+pub fn bond_columns() -> Vec<&'static Column> {
+    let all = COLUMNS.iter();
+    all.filter(|column| BOND.contains(&column.field)).collect()
+}
+
+const BOND: [&str; 5] = [
+    "nominal",
+    "first_payment_day",
+    "period",
+    "payments",
+    "coupon",
 ];
 
 /// The columns that price a trade of a kind, and no trade of another; none

@@ -1,11 +1,11 @@
 //! A file of curves while it is read.
 
 use crate::curve_file::{CurveFile, CurveLines};
-use crate::decimal::{Decimals, COEFFICIENT, PERCENT};
-use crate::fault::{faultless, shown, Fault};
-use crate::quantity::Quantity;
+use crate::decimal::{COEFFICIENT, PERCENT};
+use crate::fault::{shown, Fault};
+use crate::quantity::{miscounted, numbers, Quantity};
 use seddolki_format::block::{Curve, Node, CURVE};
-use seddolki_format::limits::{CURVES, MAX_COMPONENT, MAX_RANGE, MAX_RATE, MAX_STEPS, NODES};
+use seddolki_format::limits::{CURVES, MAX_RANGE, MAX_RATE, MAX_STEPS, NODES};
 use seddolki_format::report::CURRENCIES;
 use seddolki_format::text::listed;
 
@@ -16,7 +16,6 @@ const STEPS: Quantity = Quantity::new(0, 0, MAX_STEPS as i64);
 const RANGE: Quantity = Quantity::new(COEFFICIENT, 0, MAX_RANGE as i64);
 const DAY: Quantity = Quantity::day(0);
 const RATE: Quantity = Quantity::new(PERCENT, 0, MAX_RATE as i64);
-const COMPONENT: Quantity = Quantity::new(PERCENT, -MAX_COMPONENT as i64, MAX_COMPONENT as i64);
 
 /// Everything that is wrong with a line.
 pub(crate) type Wrong = Vec<String>;
@@ -202,7 +201,7 @@ fn node(values: &[&str]) -> Result<Node, Wrong> {
     }
     let day = numbers(&values[..1], [DAY]);
     let rate = numbers(&values[1..2], [RATE]);
-    match (day, rate, numbers(&values[2..], [COMPONENT; 3])) {
+    match (day, rate, numbers(&values[2..], [Quantity::COMPONENT; 3])) {
         (Ok([day]), Ok([rate]), Ok(components)) => Ok(Node {
             day,
             rate,
@@ -213,28 +212,4 @@ fn node(values: &[&str]) -> Result<Node, Wrong> {
             Err(wrong.into_iter().flatten().flatten().collect())
         }
     }
-}
-
-fn miscounted(due: usize, values: &[&str]) -> String {
-    let plural = if due == 1 { "" } else { "s" };
-    format!("{due} number{plural} due, {} found", values.len())
-}
-
-/// As many numbers as there are quantities.
-fn numbers<T, const N: usize>(values: &[&str], quantities: [Quantity; N]) -> Result<[T; N], Wrong>
-where
-    T: TryFrom<i64> + Copy + Default,
-{
-    if values.len() != N {
-        return Err(wrong(miscounted(N, values)));
-    }
-    let mut all = [T::default(); N];
-    let mut wrong = vec![];
-    for ((number, text), quantity) in all.iter_mut().zip(values).zip(quantities) {
-        match quantity.read(text, Decimals::Point, |value| T::try_from(value).ok()) {
-            Ok(value) => *number = value,
-            Err(message) => wrong.push(message),
-        }
-    }
-    faultless(all, wrong)
 }

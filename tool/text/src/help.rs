@@ -1,7 +1,6 @@
 //! The columns as a help text tells them.
 
 use crate::column::Column;
-use crate::columns::COLUMNS;
 use crate::decimal::Decimals;
 use seddolki_format::record::{OUTRIGHT, POOL};
 use seddolki_format::Record;
@@ -12,10 +11,10 @@ const WIDTH: usize = 80;
 /// The characters before a meaning.
 const MARGIN: usize = 21;
 
-/// The names of the columns with their meanings and what is allowed, in lines
-/// of at most 80 characters.
-pub fn meanings() -> String {
-    COLUMNS.iter().map(meaning).collect()
+/// The names of columns with their meanings and what is allowed, in lines of
+/// at most 80 characters.
+pub fn meanings(columns: &[&Column]) -> String {
+    columns.iter().map(|column| meaning(column)).collect()
 }
 
 fn meaning(column: &Column) -> String {
@@ -96,6 +95,7 @@ A bond that is bought, and a pool repo before its security is known:
 #[cfg(test)]
 mod tests {
     use super::*;
+    use crate::columns::{trade_columns, COLUMNS};
     use crate::trade::{record_of, Value};
     use crate::{curve_file, template};
     use seddolki::{doubles, Book};
@@ -113,7 +113,7 @@ mod tests {
 
     #[test]
     fn meanings_name_what_is_allowed() {
-        let text = meanings();
+        let text = meanings(&trade_columns());
         assert_narrow(&text);
         for lines in [
             "\n  term               of a repo in days: 1 to 730\n",

@@ -42,10 +42,10 @@ mod unknown;
 mod words;
 
 pub use column::{Column, Unit};
-pub use columns::COLUMNS;
+pub use columns::{bond_columns, trade_columns, COLUMNS};
 pub use decimal::Decimals;
 pub use fault::{shown, Fault};
 pub use help::{meanings, uses};
-pub use quantity::Quantity;
+pub use quantity::{numbers, Quantity};
 pub use separator::Separator;
 pub use words::{a_trade_of, Word};

@@ -1,9 +1,9 @@
 //! Numbers of one kind: their decimal places, and the limits that a book
 //! sets them.
 
-use crate::decimal::{self, Decimals};
-use crate::fault::shown;
-use seddolki_format::limits::MAX_DAY;
+use crate::decimal::{self, Decimals, MONEY, PERCENT};
+use crate::fault::{faultless, shown};
+use seddolki_format::limits::{AMOUNTS, MAX_COMPONENT, MAX_DAY};
 
 /// What numbers of one kind look like. The limits are told where a text is
 /// refused; the engine judges by them.
@@ -39,6 +39,14 @@ impl Quantity {
         }
     }
 
+    /// A nominal, a repo's cash, or what a bond settles for.
+    pub const AMOUNT: Quantity =
+        Quantity::new(MONEY, *AMOUNTS.start() as i64, *AMOUNTS.end() as i64);
+
+    /// How far a component moves a node.
+    pub const COMPONENT: Quantity =
+        Quantity::new(PERCENT, -MAX_COMPONENT as i64, MAX_COMPONENT as i64);
+
     /// The limits in words, as `1 to 730`, or `0 to 10,950 days from today`.
     pub fn allowed(&self, decimals: Decimals) -> String {
         let [low, high] =
@@ -64,4 +72,36 @@ impl Quantity {
             format!("{} is too {size}: {}", shown(text), allowed())
         })
     }
+}
+
+/// As many numbers as there are quantities, with decimal points, each in units
+/// of its last place.
+///
+/// # Errors
+/// All that is wrong, or that there are fewer or more.
+pub fn numbers<T, const N: usize>(
+    texts: &[&str],
+    quantities: [Quantity; N],
+) -> Result<[T; N], Vec<String>>
+where
+    T: TryFrom<i64> + Copy + Default,
+{
+    if texts.len() != N {
+        return Err(vec![miscounted(N, texts)]);
+    }
+    let mut all = [T::default(); N];
+    let mut wrong = vec![];
+    for ((number, text), quantity) in all.iter_mut().zip(texts).zip(quantities) {
+        match quantity.read(text, Decimals::Point, |value| T::try_from(value).ok()) {
+            Ok(value) => *number = value,
+            Err(message) => wrong.push(message),
+        }
+    }
+    faultless(all, wrong)
+}
+
+/// How many numbers are due, and how many there are.
+pub(crate) fn miscounted(due: usize, texts: &[&str]) -> String {
+    let plural = if due == 1 { "" } else { "s" };
+    format!("{due} number{plural} due, {} found", texts.len())
 }

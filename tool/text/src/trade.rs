@@ -1,12 +1,12 @@
-//! A trade from named values, and back.
+//! A trade from named values, and back; a bond from named values.
 
 use crate::column::Column;
-use crate::columns::COLUMNS;
+use crate::columns::{bond_columns, trade_columns, COLUMNS};
 use crate::decimal::Decimals;
 use crate::fault::{faultless, shown, Fault};
 use crate::words::{a_trade_of, phases};
 use seddolki_format::text::listed;
-use seddolki_format::Record;
+use seddolki_format::{Quote, Record};
 
 /// A column and what is written there.
 pub type Value<'a> = (&'static Column, &'a str);
@@ -19,29 +19,57 @@ pub type Value<'a> = (&'static Column, &'a str);
 pub fn record_of(values: &[Value], decimals: Decimals) -> Result<Record, Vec<Fault>> {
     let mut record = Record::default();
     // the kind comes first, and the other columns are judged by it
-    let read = |column| read_column(column, &mut record, values, decimals);
-    let given: Vec<Given> = COLUMNS.iter().map(read).collect();
-    let meant = trades_meant(&record, &given);
+    let read = read_columns(&trade_columns(), &mut record, values, decimals);
+    let meant = trades_meant(&record, &read);
+    faultless(record, faults(read, &meant, decimals))
+}
+
+/// The bond that named values make, as the record of its purchase today has
+/// it. Every column of a bond has to be given; no other is looked at.
+///
+/// # Errors
+/// All faults of the values, in the order of the columns.
+pub fn purchase_of(values: &[Value], decimals: Decimals) -> Result<Record, Vec<Fault>> {
+    let mut bond = Quote::default().purchase();
+    let read = read_columns(&bond_columns(), &mut bond, values, decimals);
+    faultless(bond, faults(read, &[bond], decimals))
+}
+
+/// A column, and how reading it went; none where nothing is given.
+type Read = (&'static Column, Option<Result<(), String>>);
+
+fn read_columns(
+    columns: &[&'static Column],
+    record: &mut Record,
+    values: &[Value],
+    decimals: Decimals,
+) -> Vec<Read> {
+    let read = |column: &&'static Column| {
+        let given = read_column(column, record, values, decimals);
+        (*column, given)
+    };
+    columns.iter().map(read).collect()
+}
+
+/// What is wrong with the columns, those included that were left empty.
+fn faults(read: Vec<Read>, meant: &[Record], decimals: Decimals) -> Vec<Fault> {
     let mut faults = vec![];
-    for (column, given) in COLUMNS.iter().zip(given) {
+    for (column, given) in read {
         let wrong = match given {
             Some(filled) => filled.err(),
-            None => missing(column, &meant, decimals),
+            None => missing(column, meant, decimals),
         };
         faults.extend(wrong.map(|message| Fault::new(message).in_column(column.name)));
     }
-    faultless(record, faults)
+    faults
 }
-
-/// How reading a column went; none where nothing is given.
-type Given = Option<Result<(), String>>;
 
 fn read_column(
     column: &Column,
     record: &mut Record,
     values: &[Value],
     decimals: Decimals,
-) -> Given {
+) -> Option<Result<(), String>> {
     match only_text(column, values) {
         Ok("") => None,
         Ok(text) => Some(column.fill(record, text, decimals)),
@@ -51,12 +79,12 @@ fn read_column(
 
 /// The record with each phase and security that may be meant, where they are
 /// not rightly given; none while the kind is not known.
-fn trades_meant(record: &Record, given: &[Given]) -> Vec<Record> {
+fn trades_meant(record: &Record, read: &[Read]) -> Vec<Record> {
     if a_trade_of(record.kind).is_none() {
         return vec![];
     }
-    let mut columns = COLUMNS.iter().zip(given);
-    let known = columns.any(|(column, given)| column.field == "security" && *given == Some(Ok(())));
+    let mut read = read.iter();
+    let known = read.any(|(column, given)| column.field == "security" && *given == Some(Ok(())));
     let securities = |trade: Record| {
         let own = trade.security..=trade.security;
         let securities = if known { own } else { trade.securities() };

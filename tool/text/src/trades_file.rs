@@ -1,7 +1,7 @@
 //! Files of trades, as spreadsheets read and write them.
 
 use crate::column::Column;
-use crate::columns::COLUMNS;
+use crate::columns::{trade_columns, COLUMNS};
 use crate::decimal::Decimals;
 use crate::fault::{faultless, shown, Fault};
 use crate::file::content;
@@ -89,7 +89,7 @@ fn named(names: &[&str]) -> Result<Vec<&'static Column>, Vec<Fault>> {
             None => unknown.push(*name),
         }
     }
-    faults.extend(no_columns(&unknown));
+    faults.extend(no_columns(&unknown, &trade_columns()));
     faultless(columns, faults)
 }
 

@@ -13,11 +13,10 @@ use seddolki_format::assemble;
 use seddolki_model::accept;
 use seddolki_store::shown;
 use seddolki_text::trade::amend;
-use seddolki_text::Column;
-use seddolki_text::Decimals;
+use seddolki_text::{trade_columns, Column, Decimals};
 
 pub fn run(arguments: &Amend) -> Result<u8, Ended> {
-    let given = named_values(&arguments.values)?;
+    let given = named_values(&trade_columns(), &arguments.values)?;
     let position = arguments.position;
     let name = shown(&arguments.book);
     let (record, notes) = edit(&arguments.book, arguments.waiting, |book, mut parts| {

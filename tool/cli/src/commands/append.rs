@@ -11,11 +11,11 @@ use crate::trades::words;
 use seddolki::{doubles_of, Placed};
 use seddolki_store::shown;
 use seddolki_text::trade::record_of;
-use seddolki_text::Decimals;
+use seddolki_text::{trade_columns, Decimals};
 
 pub fn run(arguments: &Append) -> Result<u8, Ended> {
     let name = shown(&arguments.book);
-    let given = named_values(&arguments.values)?;
+    let given = named_values(&trade_columns(), &arguments.values)?;
     let record = record_of(&given, Decimals::Point);
     let record = record.map_err(|faults| faults_told(&name, &faults))?;
     let (position, notes) = edit(&arguments.book, arguments.waiting, |book, parts| {

@@ -113,7 +113,7 @@ fn books_table(checked: &[Checked]) -> Table {
 }
 
 fn block(refusal: Refusal) -> Value {
-    if refusal.ground.names_block() {
+    if refusal.names_block() {
         Value::count(refusal.block)
     } else {
         Value::Nothing

@@ -2,6 +2,7 @@
 
 mod amend;
 mod append;
+pub mod bootstrap;
 mod check;
 mod completions;
 mod curves;
@@ -31,6 +32,7 @@ pub fn run(command: Command) -> Result<u8, Ended> {
         Command::Amend(arguments) => amend::run(&arguments),
         Command::Strike(arguments) => strike::run(&arguments),
         Command::Curves(arguments) => curves::run(&arguments),
+        Command::Bootstrap(arguments) => bootstrap::run(&arguments),
         Command::Check(arguments) => check::run(&arguments),
         Command::Show(arguments) => show::run(&arguments),
         Command::Margin(arguments) => margin::run(&arguments),

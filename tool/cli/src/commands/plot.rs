@@ -3,14 +3,14 @@
 use crate::arguments::Plot;
 use crate::ended::{Ended, DONE};
 use crate::figures::chosen::curve;
-use crate::figures::ladder::ladder;
+use crate::figures::drawn::{day_flows, nodes};
 use crate::figures::valued::{valued, Valued};
 use crate::files::books::{accepted, is_dash, BookFile};
 use crate::files::outputs;
 use crate::printed::print;
 use seddolki::CurveFigures;
-use seddolki_chart::{DayFlows, Heading, Losses, Node, Rates};
-use seddolki_format::block::{self, Curve};
+use seddolki_chart::{Heading, Losses, Node, Rates};
+use seddolki_format::block::Curve;
 use seddolki_format::report::currency_name;
 use seddolki_format::text::count;
 use seddolki_model::scenario::{scenarios, stressed_nodes, Scenario};
@@ -77,14 +77,7 @@ fn rates(file: &BookFile, curve: &Curve) -> Result<String, Ended> {
     let scenarios = scenarios(curve);
     let stressed = |scenario| nodes(&stressed_nodes(curve.nodes(), scenario));
     let stressed: Vec<Vec<Node>> = scenarios.iter().map(stressed).collect();
-    let days = ladder(&file.parts.flows_on(curve)).into_iter();
-    let flows: Vec<DayFlows> = days
-        .map(|(day, sums)| DayFlows {
-            day: day as u32,
-            incoming: sums.inwards as u64,
-            outgoing: sums.outwards as u64,
-        })
-        .collect();
+    let flows = day_flows(&file.parts.flows_on(curve));
     let words = Words::of(file.parts.account, curve, &figures, &scenarios);
     let picture = Rates {
         heading: words.heading(&figures),
@@ -94,14 +87,6 @@ fn rates(file: &BookFile, curve: &Curve) -> Result<String, Ended> {
         flows: &flows,
     };
     Ok(picture.draw())
-}
-
-fn nodes(nodes: &[block::Node]) -> Vec<Node> {
-    let node = |node: &block::Node| Node {
-        day: node.day.into(),
-        rate: node.rate,
-    };
-    nodes.iter().map(node).collect()
 }
 
 fn losses(file: &BookFile, curve: &Curve) -> Result<String, Ended> {

@@ -2,6 +2,7 @@
 
 use crate::arguments::Show;
 use crate::ended::{Ended, DONE};
+use crate::figures::node_table::of_curves;
 use crate::files::books::accepted;
 use crate::printed::table::{Table, Value};
 use crate::trades::keyed::cells;
@@ -13,14 +14,14 @@ use seddolki_format::text::count;
 use seddolki_model::accept::Book;
 use seddolki_model::flows::{named_flows, CashFlow};
 use seddolki_model::scenario::scenarios;
-use seddolki_text::decimal::{format as decimal, COEFFICIENT, MONEY, PERCENT};
+use seddolki_text::decimal::{format as decimal, COEFFICIENT, MONEY};
 use seddolki_text::COLUMNS;
 
 pub fn run(arguments: &Show) -> Result<u8, Ended> {
     let book = accepted(&arguments.one.book)?.parts;
     let tables = [
         curves(&book),
-        nodes(&book.curves),
+        of_curves(&book.curves),
         trades(&book),
         flows(&book),
     ];
@@ -54,7 +55,7 @@ fn show_curve(curve: &Curve) -> String {
         count(scenarios(curve).len(), "scenario"),
         components.join(", ")
     );
-    head + &nodes(std::slice::from_ref(curve)).text_without(&["curve"])
+    head + &of_curves(std::slice::from_ref(curve)).text_without(&["curve"])
 }
 
 fn show_trade(position: usize, record: &Record) -> String {
@@ -97,30 +98,6 @@ fn curves(book: &Book) -> Table {
                 .map(|range| Value::Decimal(range.into(), COEFFICIENT)),
         );
         table.push(row);
-    }
-    table
-}
-
-fn nodes(curves: &[Curve]) -> Table {
-    let columns = [
-        "curve",
-        "day",
-        "rate",
-        "component_1",
-        "component_2",
-        "component_3",
-    ];
-    let mut table = Table::new("nodes", &columns);
-    for curve in curves {
-        for node in curve.nodes() {
-            let mut row = vec![
-                Value::Id(curve.id.into()),
-                Value::Whole(node.day.into()),
-                Value::percent(node.rate),
-            ];
-            row.extend(node.components.map(|c| Value::Signed(c.into(), PERCENT)));
-            table.push(row);
-        }
     }
     table
 }

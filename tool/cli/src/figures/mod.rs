@@ -1,5 +1,8 @@
 //! Figures that are shown of a curve.
 
 pub mod chosen;
+pub mod drawn;
 pub mod ladder;
+pub mod lengthened;
+pub mod node_table;
 pub mod valued;

@@ -27,7 +27,16 @@ impl Form {
         tables: &[Table; N],
         text: impl FnOnce(&[Table; N]) -> String,
     ) -> Result<(), Ended> {
-        let printed = if self.json {
+        print::result(&self.written(tables, text))
+    }
+
+    /// What is to be printed of the tables.
+    pub fn written<const N: usize>(
+        self,
+        tables: &[Table; N],
+        text: impl FnOnce(&[Table; N]) -> String,
+    ) -> String {
+        if self.json {
             json(tables)
         } else if self.csv {
             csv(tables, Decimals::Point)
@@ -35,7 +44,6 @@ impl Form {
             csv(tables, Decimals::Comma)
         } else {
             text(tables)
-        };
-        print::result(&printed)
+        }
     }
 }

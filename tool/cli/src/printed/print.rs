@@ -17,7 +17,12 @@ pub fn result(text: &str) -> Result<(), Ended> {
 
 /// Word of an edit that is done, on standard output. It stays done where that cannot be written.
 pub fn notice(text: &str) {
-    let _ = store::print(format!("{}\n", visible(text)).as_bytes());
+    notice_lines(&format!("{}\n", visible(text)));
+}
+
+/// The same, of whole lines that are ready to be printed.
+pub fn notice_lines(lines: &str) {
+    let _ = store::print(lines.as_bytes());
 }
 
 /// A text with what is not seen as escapes; ends of lines stay.

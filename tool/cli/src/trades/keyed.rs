@@ -5,15 +5,18 @@ use crate::printed::table::Value;
 use seddolki::Record;
 use seddolki_text::{Column, Decimals, Fault, Unit, COLUMNS};
 
-/// What stands on each side of the equals signs.
-pub fn named_values(arguments: &[String]) -> Result<Vec<(&'static Column, &str)>, Ended> {
+/// What stands on each side of the equals signs, a column of these before it.
+pub fn named_values<'a>(
+    columns: &[&'static Column],
+    arguments: &'a [String],
+) -> Result<Vec<(&'static Column, &'a str)>, Ended> {
     let (mut values, mut unknown) = (vec![], vec![]);
     for argument in arguments {
         let Some((name, value)) = argument.split_once('=') else {
             let reason = format!("{argument}: a column and its value are written COLUMN=VALUE");
             return Err(Ended::Misused(reason));
         };
-        match Column::find(name) {
+        match Column::find_among(columns, name) {
             Ok(column) => values.push((column, value)),
             Err(fault) => unknown.push(fault.to_string()),
         }

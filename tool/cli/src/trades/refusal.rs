@@ -1,11 +1,11 @@
 //! Refusals in words: the verdict is the engine's, and the second
 //! implementation says where and why.
 
-use seddolki::{Book, Ground, Record, Refusal};
+use seddolki::{Book, Ground, Quote, Record, Refusal};
 use seddolki_format::block::Curve;
 use seddolki_format::limits::{FULL_BLOCK, MAX_BLOCKS};
 use seddolki_format::text::count;
-use seddolki_model::{book_fault, record_fault, BookFault, Fault};
+use seddolki_model::{book_fault, quote_fault, record_fault, BookFault, Fault};
 use seddolki_text::Column;
 
 /// Where a refused book breaks its rule, and why.
@@ -25,7 +25,7 @@ pub fn book_refused(book: &Book, refusal: Refusal) -> String {
 /// The ground and its block, without its sentence.
 pub fn by_ground(refusal: Refusal) -> String {
     let number = refusal.ground.number();
-    if refusal.ground.names_block() {
+    if refusal.names_block() {
         return format!("refused by ground {number} in block {}", refusal.block);
     }
     format!("refused by ground {number}")
@@ -39,21 +39,37 @@ pub fn record_refused(record: &Record, curves: &[Curve], refusal: Refusal) -> St
         let most = count(most, "trade");
         return format!("the book is full with {most}: {}", by_ground(refusal));
     }
-    let fault = record_fault(record, curves).filter(|fault| fault.ground == refusal.ground);
-    match fault {
-        Some(fault) => format!(
-            "{}: {}",
-            column_at_fault(record, &fault),
-            by_ground(refusal)
-        ),
+    let fault = record_fault(record, curves);
+    with_place(fault, refusal, |field| column_of(record, field))
+}
+
+/// A refused quote for a book with these curves: the option or the bond's
+/// column, what is there and what is due.
+pub fn quote_refused(quote: &Quote, curves: &[Curve], refusal: Refusal) -> String {
+    with_place(quote_fault(quote, curves), refusal, |field| match field {
+        "curve" | "cash" | "components" => format!("--{field}"),
+        _ => column_of(&quote.purchase(), field),
+    })
+}
+
+/// A fault behind the name of its place, if it is what was refused.
+fn with_place(
+    fault: Option<Fault>,
+    refusal: Refusal,
+    place: impl FnOnce(&str) -> String,
+) -> String {
+    match fault.filter(|fault| fault.ground == refusal.ground) {
+        Some(fault) => {
+            let sentence = without_codes(&fault.sentence());
+            format!("{}: {sentence}: {}", place(fault.field), by_ground(refusal))
+        }
         None => refusal.to_string(),
     }
 }
 
-fn column_at_fault(record: &Record, fault: &Fault) -> String {
-    let column = Column::of_field(record, fault.field);
-    let name = column.map_or(fault.field, |column| column.name);
-    format!("column {name}: {}", without_codes(&fault.sentence()))
+fn column_of(record: &Record, field: &str) -> String {
+    let column = Column::of_field(record, field);
+    format!("column {}", column.map_or(field, |column| column.name))
 }
 
 /// A sentence with words alone where it has `2 (coupons)`, as a column has.

@@ -76,7 +76,8 @@ fn repo(record: &Record) -> String {
     )
 }
 
-fn security(record: &Record) -> String {
+/// What the security of a trade pays.
+pub fn security(record: &Record) -> String {
     let nominal = money(record.nominal);
     let coupons = || {
         format!(

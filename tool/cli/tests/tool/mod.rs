@@ -2,7 +2,7 @@
 
 #![allow(dead_code)] // no test uses all of it
 
-use std::fs;
+use std::fs::{self, File};
 use std::os::unix::process::ExitStatusExt;
 use std::path::{Path, PathBuf};
 use std::process::{Command, Output, Stdio};
@@ -16,6 +16,16 @@ pub const FAILED: i32 = 3;
 /// A directory that goes with its test.
 pub struct Desk {
     directory: TempDir,
+}
+
+/// A folder's lock. A run that another test is just starting may have the
+/// folder open too, so that closing it would not end the lock.
+pub struct Locked(File);
+
+impl Drop for Locked {
+    fn drop(&mut self) {
+        self.0.unlock().unwrap();
+    }
 }
 
 /// What a run printed, and its exit status.
@@ -48,6 +58,25 @@ pub fn outright(nominal: u32) -> Vec<String> {
     words.map(str::to_owned).to_vec()
 }
 
+/// Lengthens the first curve of desk.book by a bond's price.
+pub const LENGTHEN: [&str; 15] = [
+    "bootstrap",
+    "desk.book",
+    "--curve",
+    "1",
+    "--cash",
+    "1040000",
+    "--components",
+    "2",
+    "-1.6",
+    "0",
+    "nominal=1000000",
+    "first_payment_day=120",
+    "period=182",
+    "payments=21",
+    "coupon=6",
+];
+
 impl Desk {
     pub fn new() -> Self {
         let directory = tempfile::tempdir().unwrap();
@@ -71,6 +100,13 @@ impl Desk {
 
     pub fn read(&self, name: impl AsRef<Path>) -> Vec<u8> {
         fs::read(self.path(name)).unwrap()
+    }
+
+    /// The lock of the folder as another command has it, until it is dropped.
+    pub fn lock(&self) -> Locked {
+        let folder = File::open(self.directory.path()).unwrap();
+        folder.lock().unwrap();
+        Locked(folder)
     }
 
     /// Names of all files, sorted.
