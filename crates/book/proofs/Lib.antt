@@ -9,3 +9,4 @@ pub mod TradeBlock
 pub mod Encoded
 pub mod Canonical
 pub mod Replaced
+pub mod Copied

@@ -12,8 +12,8 @@ use Rattle.book.specs.Parts.{Header}
 use Rattle.book.specs.Encode.{headerBlock, tradeBlock, blocksFor, recordsOfBlock, encode}
 use Rattle.book.proofs.HeaderBlock.{length-header}
 use Rattle.book.proofs.Encoded.{Encodable, length-nine, nine-each}
-use Rattle.edit.specs.Blocks.{withRecord, bareBlock, withTradeBlocks}
-use Rattle.edit.proofs.BlockLaws.{added, opened, recount}
+use Rattle.trade_edit.specs.Blocks.{withRecord, bareBlock, withTradeBlocks}
+use Rattle.trade_edit.proofs.BlockLaws.{added, opened, recount}
 use Rattle.edit.proofs.Books.{Whole, trade-changed, header-changed, trade-added, laid-same, tradesAt, encode-laid, length-tradesAt}
 
 pub encodable-whole : (header : Header) (cs rs : List (List ℕ)) → Encodable header cs rs

@@ -15,7 +15,7 @@ use Rattle.book.specs.Parts.{Header}
 use Rattle.book.specs.Encode.{headerBlock, tradeBlock, blocksFor, recordsOfBlock, tradeBlocksOf, bookBlocks, encode}
 use Rattle.book.proofs.Encoded.{length-nine, nine-each}
 use Rattle.book.proofs.TradeBlock.{length-trades}
-use Rattle.edit.proofs.Joined.{put-flatten, put-at-end}
+use Rattle.trade_edit.proofs.Joined.{put-flatten, put-at-end}
 
 -- ---- lists
 

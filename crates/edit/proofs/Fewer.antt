@@ -19,11 +19,11 @@ use Rattle.book.specs.Encode.{headerBlock, tradeBlock, blocksFor, recordsOfBloc
 use Rattle.book.proofs.HeaderBlock.{length-header}
 use Rattle.book.proofs.TradeBlock.{record-trades}
 use Rattle.book.proofs.Encoded.{Encodable, length-nine, nine-at, nine-each}
-use Rattle.edit.specs.Blocks.{withTradeBlocks, closedUp, movedUp, closedBlock, closedGap}
+use Rattle.trade_edit.specs.Blocks.{withTradeBlocks, closedUp, movedUp, closedBlock, closedGap}
+use Rattle.trade_edit.proofs.Joined.{flatten-none, flatten-cons, flatten-append}
+use Rattle.trade_edit.proofs.BlockLaws.{closed-full, closed-last, recount}
+use Rattle.trade_edit.proofs.StepLaws.{curves-kept}
 use Rattle.edit.specs.Edits.{without}
-use Rattle.edit.proofs.Joined.{flatten-none, flatten-cons, flatten-append}
-use Rattle.edit.proofs.BlockLaws.{closed-full, closed-last, recount}
-use Rattle.edit.proofs.StepLaws.{curves-kept}
 use Rattle.edit.proofs.Books.{laidOut, Whole, trade-read, trade-changed, trade-put, header-changed, laid-more, laid-same, tradesAt, encode-laid, length-tradesAt}
 
 -- ---- a list without the element at a position

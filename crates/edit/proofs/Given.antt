@@ -1,15 +1,18 @@
 -- What a verdict that refuses nothing says, of an append and of a position.
-use mathlib.Core.Path.{_≡_}
+use mathlib.Core.Path.{_≡_, refl}
 use mathlib.Core.Logic.{_⊎_, inl, inr}
-use mathlib.Core.Bool.{true, false, _||_}
+use mathlib.Core.Bool.{Bool, true, false, _||_}
 use mathlib.Core.List.{List}
 use Prim.Native.Nat.{ℕ, _+_, _/_, _%_, _≤_, _<_}
-use borrow.Author.Tests.{eq-eqb, eqb-false, eqb-true, ltb-true, ltb-false, not-false}
+use native.Mathlib.Decide.{ℕ-discrete}
+use native.Mathlib.Omega.{arith}
+use borrow.Author.Tests.{eq-eqb, ne-eqb, eqb-false, eqb-true, lt-ltb, le-ltb, ltb-true, ltb-false, not-false}
 use lib.Dec.{eqb, ltb}
 use lib.ListN.{length}
 use Rattle.laws.proofs.Bools.{both, either, neither}
+use Rattle.ground.specs.declared.Ground.{Ground}
 use Rattle.ground.specs.declared.Ground.the-variants.{Position, BookSpace}
-use Rattle.ground.specs.declared.Verdict.the-variants.{Accepted}
+use Rattle.ground.specs.declared.Verdict.the-variants.{Accepted, Refused}
 use Rattle.book.specs.Parts.{curvesOf, tradeCount}
 use Rattle.book.specs.Verdict.{bytesVerdict, verdict}
 use Rattle.ground.proofs.Verdicts.{unless-accepted, orElse-accepted}
@@ -55,6 +58,18 @@ room trades used lent h e =
     let p = neither (eqb (used / 512) 128) (ltb lent (used + 512)) (rw full at h) in
     record { few = eqb-false (used / 512) 128 (p .0); within = ltb-false lent (used + 512) (p .1) }
 
+-- so there is room in as many bytes as the largest book has
+pub roomier : (trades used lent wide : ℕ) → breaksBookSpace trades used lent ≡ false → used % 512 ≡ 0 → used ≤ 65536 → 65536 ≤ wide → breaksBookSpace trades used wide ≡ false
+unfolding breaksBookSpace
+roomier trades used lent wide h whole most wider = go (ℕ-discrete (trades % 9) 0)
+  where
+    go : Dec (trades % 9 ≡ 0) → breaksBookSpace trades used wide ≡ false
+    go (no e) = rw (ne-eqb (trades % 9) 0 e)
+    go (yes e) =
+        let r = room trades used lent h e in
+        let below : used / 512 < 128 = omega (arith, r .few) in
+        rw (eq-eqb (trades % 9) 0 e, ne-eqb (used / 512) 128 (r .few), le-ltb wide (used + 512) (omega arith))
+
 -- and ground 15 says that there is none
 pub no-room : (trades used lent : ℕ) → breaksBookSpace trades used lent ≡ true → (trades % 9 ≡ 0) × ((used / 512 ≡ 128) ⊎ (lent < used + 512))
 unfolding breaksBookSpace
@@ -65,3 +80,25 @@ no-room trades used lent h =
     go : (eqb (used / 512) 128 ≡ true) ⊎ (ltb lent (used + 512) ≡ true) → (used / 512 ≡ 128) ⊎ (lent < used + 512)
     go (inl e) = inl (eqb-true (used / 512) 128 e)
     go (inr e) = inr (ltb-true lent (used + 512) e)
+
+-- which it says wherever there is none
+pub space-broken : (trades used lent : ℕ) → trades % 9 ≡ 0 → (used / 512 ≡ 128) ⊎ (lent < used + 512) → breaksBookSpace trades used lent ≡ true
+unfolding breaksBookSpace
+space-broken trades used lent full (inl e) = rw (eq-eqb (trades % 9) 0 full, eq-eqb (used / 512) 128 e)
+space-broken trades used lent full (inr l) = rw (eq-eqb (trades % 9) 0 full, lt-ltb lent (used + 512) l) (go (eqb (used / 512) 128))
+  where
+    go : (b : Bool) → (b || true) ≡ true
+    go true = refl
+    go false = refl
+
+-- ---- of an accepted book, what an append answers
+
+module _ (s : List ℕ) (used : ℕ) (r : List ℕ) (ok : verdict s used ≡ Accepted) where
+  pub record-refused : (g : Ground) (k : ℕ) → bytesVerdict (curvesOf s) r (blockOf s (tradeCount s)) ≡ Refused g k → appendVerdict s used r ≡ Refused g k
+  unfolding appendVerdict newRecordVerdict
+  record-refused g k e = rw (ok, e)
+
+  pub space-refused : bytesVerdict (curvesOf s) r (blockOf s (tradeCount s)) ≡ Accepted → breaksBookSpace (tradeCount s) used (length s) ≡ true
+      → appendVerdict s used r ≡ Refused BookSpace 0
+  unfolding appendVerdict newRecordVerdict
+  space-refused judged broken = rw (ok, judged, broken)

@@ -16,10 +16,10 @@ use Rattle.book.proofs.Places.{length-curveBlocks, length-records}
 use Rattle.book.proofs.Accepted.{sound, blocks-for}
 use Rattle.book.proofs.Encoded.{Encodable, length-encode}
 use Rattle.book.proofs.Canonical.{sound-encodable, accepted-lent}
+use Rattle.trade_edit.specs.Blocks.{withRecord, bareBlock, withTradeBlocks, lengthened, shrunk, closedGap}
+use Rattle.trade_edit.proofs.StepLaws.{trades-kept}
 use Rattle.edit.specs.Refusals.{breaksBookSpace}
-use Rattle.edit.specs.Blocks.{withRecord, bareBlock, withTradeBlocks, lengthened, shrunk, closedGap}
 use Rattle.edit.specs.Edits.{appendedBook, without, struckBook}
-use Rattle.edit.proofs.StepLaws.{trades-kept}
 use Rattle.edit.proofs.Added.{length-one-more, each-more, filled-book, lengthened-book}
 use Rattle.edit.proofs.Fewer.{length-without, each-without, during, closed-gap, kept-blocks, emptied}
 use Rattle.edit.proofs.Given.{Room, room}

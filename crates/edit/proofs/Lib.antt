@@ -1,7 +1,3 @@
-pub mod Joined
-pub mod Resealed
-pub mod BlockLaws
-pub mod StepLaws
 pub mod Books
 pub mod Added
 pub mod Fewer
@@ -10,3 +6,4 @@ pub mod Lent
 pub mod Theorems
 pub mod Space
 pub mod ReadBack
+pub mod Copies

@@ -26,7 +26,7 @@ use Rattle.book.proofs.Canonical.{sound-encodable, sound-acceptable, accepted-e
 use Rattle.edit.specs.declared.Edited.the-variants as edited
 use Rattle.edit.specs.declared.Found.{Found}
 use Rattle.edit.specs.Refusals.{blockOf, breaksPosition, positionVerdict, appendVerdict}
-use Rattle.edit.specs.Edits.{usedAfter, found, appendedBook, appendAnswer, appended, without, struckBook, strikeAnswer, struck}
+use Rattle.edit.specs.Edits.{usedAfter, usedAppended, BookAppended, found, appendedBook, appendAnswer, appended, without, struckBook, strikeAnswer, struck}
 use Rattle.edit.proofs.Added.{length-one-more}
 use Rattle.edit.proofs.Fewer.{length-without, without-before, without-behind}
 use Rattle.edit.proofs.Given.{has-trade, admitted}
@@ -84,7 +84,7 @@ module _ (header : Header) (cs rs : List (List ℕ)) (rest : List ℕ) (fine : E
 -- ---- a refused call: the bytes and the used length stay
 
 pub refused-append : (s : List ℕ) (used : ℕ) (r : List ℕ) (g : Ground) (k : ℕ) → appendVerdict s used r ≡ Refused g k
-    → (appended s used r ≡ s) × (usedAfter (appendAnswer s used r) used ≡ used)
+    → (appended s used r ≡ s) × (usedAppended s used r ≡ used)
 unfolding appended appendAnswer
 refused-append s used r g k e = (rw e, rw e)
 
@@ -170,26 +170,35 @@ module _ (s : List ℕ) (used : ℕ) (bytes : AreBytes s) where
       unfolding appended appendedBook
       appended-is = rw ok
 
-      pub append-used : usedAfter (appendAnswer s used r) used ≡ length (encode header cs more)
+      pub append-used : usedAppended s used r ≡ length (encode header cs more)
       unfolding appendAnswer appendedBook
       append-used = rw ok
 
-      found-more : (i : ℕ) → found (appended s used r) (usedAfter (appendAnswer s used r) used) i ≡ foundIn more i
+      found-more : (i : ℕ) → found (appended s used r) (usedAppended s used r) i ≡ foundIn more i
       found-more i = rw (appended-is, append-used) (found-encoded header cs more (drop (length (encode header cs more)) s) more-fine more-good i)
 
       -- after an append the last position gives the record
-      pub append-read-last : found (appended s used r) (usedAfter (appendAnswer s used r) used) (tradeCount s) ≡ record { verdict = Accepted; bytes = r }
+      pub append-read-last : found (appended s used r) (usedAppended s used r) (tradeCount s) ≡ record { verdict = Accepted; bytes = r }
       append-read-last =
-          ap (found (appended s used r) (usedAfter (appendAnswer s used r) used)) (sym (length-records s)) ∙ found-more (length rs) ∙ found-last rs r
+          ap (found (appended s used r) (usedAppended s used r)) (sym (length-records s)) ∙ found-more (length rs) ∙ found-last rs r
 
       -- and every earlier one what it gave before
-      pub append-read-earlier : (i : ℕ) → i < tradeCount s → found (appended s used r) (usedAfter (appendAnswer s used r) used) i ≡ found s used i
+      pub append-read-earlier : (i : ℕ) → i < tradeCount s → found (appended s used r) (usedAppended s used r) i ≡ found s used i
       append-read-earlier i l =
           found-more i
           ∙ found-earlier rs r i (rw (length-records s) l)
           ∙ sym (found-accepted (admitted s used r ok .accepted) i)
 
-      appended-accepted : verdict (appended s used r) (usedAfter (appendAnswer s used r) used) ≡ Accepted
+      pub book-appended : BookAppended s (appended s used r) r
+      book-appended =
+          let rest = drop (length (encode header cs more)) s in
+          record {
+            header = ap headerOf appended-is ∙ header-encoded header cs more more-fine rest;
+            curves = ap curveBlocks appended-is ∙ curves-encoded header cs more more-fine rest;
+            trades = ap records appended-is ∙ records-encoded header cs more more-fine rest;
+          }
+
+      pub appended-accepted : verdict (appended s used r) (usedAppended s used r) ≡ Accepted
       appended-accepted = rw (appended-is, append-used) (encoded-accepted header cs more more-fine (drop (length (encode header cs more)) s) more-good)
 
       -- struck again, the book is as it was
@@ -202,24 +211,24 @@ module _ (s : List ℕ) (used : ℕ) (bytes : AreBytes s) where
       last-in : length rs < length more
       last-in = omega (arith, length-one-more rs r)
 
-      pub append-strike-answer : strikeAnswer (appended s used r) (usedAfter (appendAnswer s used r) used) (tradeCount s) ≡ edited.Used used
+      pub append-strike-answer : strikeAnswer (appended s used r) (usedAppended s used r) (tradeCount s) ≡ edited.Used used
       append-strike-answer =
           rw (appended-is, append-used, ← length-records s)
           (strike-answer header cs more (drop (length (encode header cs more)) s) more-fine more-good (length rs) last-in
           ∙ ap (λ (l : List (List ℕ)). edited.Used (length (encode header cs l))) taken-back
           ∙ ap edited.Used old-size)
 
-      pub append-strike : take used (struck (appended s used r) (usedAfter (appendAnswer s used r) used) (tradeCount s)) ≡ take used s
+      pub append-strike : take used (struck (appended s used r) (usedAppended s used r) (tradeCount s)) ≡ take used s
       append-strike =
           let back = struck-start header cs more (drop (length (encode header cs more)) s) more-fine more-good (length rs) last-in in
           rw (appended-is, append-used, ← length-records s)
           ((rw (taken-back, old-size) at back) ∙ sym (accepted-encoded s used bytes (admitted s used r ok .accepted)))
 
     -- an append to an accepted book leaves an accepted book, refused or not
-    pub append-accepted : verdict s used ≡ Accepted → verdict (appended s used r) (usedAfter (appendAnswer s used r) used) ≡ Accepted
+    pub append-accepted : verdict s used ≡ Accepted → verdict (appended s used r) (usedAppended s used r) ≡ Accepted
     append-accepted ok = go (appendVerdict s used r) refl
       where
-        go : (v : Verdict) → appendVerdict s used r ≡ v → verdict (appended s used r) (usedAfter (appendAnswer s used r) used) ≡ Accepted
+        go : (v : Verdict) → appendVerdict s used r ≡ v → verdict (appended s used r) (usedAppended s used r) ≡ Accepted
         go Accepted e = appended-accepted e
         go (Refused g k) e = rw (refused-append s used r g k e .0, refused-append s used r g k e .1) ok
 

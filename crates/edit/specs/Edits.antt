@@ -1,4 +1,5 @@
 -- What a read, an append and a strike answer, and every lent byte afterwards (document 01, "Editing and smaller entries").
+use mathlib.Core.Path.{_≡_}
 use Prim.Native.Nat.{ℕ, _+_, _-_}
 use mathlib.Core.List.{List, [], _∷_, _++_}
 use lib.ListN.{length, take, drop, replicate}
@@ -47,9 +48,19 @@ appendedBook s r = bookOf s (records s ++ r ∷ [])
 unfoldable pub appendAnswer : List ℕ → ℕ → List ℕ → Edited
 appendAnswer s used r = answerOf (appendVerdict s used r) (length (appendedBook s r))
 
+-- the used length after an append, refused or not
+abbrev pub usedAppended : List ℕ → ℕ → List ℕ → ℕ
+usedAppended s used r = usedAfter (appendAnswer s used r) used
+
 -- "bytes behind the book, save a new block's, stay"
 unfoldable pub appended : List ℕ → ℕ → List ℕ → List ℕ
 appended s used r = bytesAfter (appendVerdict s used r) s (appendedBook s r ++ drop (length (appendedBook s r)) s)
+
+-- the book after it: as it was, and the record behind the others
+pub record BookAppended (s t r : List ℕ) : Type 0 where
+  pub header : headerOf t ≡ headerOf s
+  pub curves : curveBlocks t ≡ curveBlocks s
+  pub trades : records t ≡ records s ++ r ∷ []
 
 -- ---- strike
 

@@ -1,4 +1,3 @@
 pub mod Refusals
-pub mod Blocks
 pub mod Edits
 pub mod ReadBack

@@ -15,7 +15,7 @@ use Rattle.book.specs.Parts.{curvesOf, tradeCount}
 use Rattle.book.specs.Verdict.{verdict}
 use Rattle.edit.specs.declared.Found.{Found}
 use Rattle.edit.specs.Refusals.{blockOf, breaksBookSpace, appendVerdict}
-use Rattle.edit.specs.Edits.{usedAfter, found, appendAnswer, appended}
+use Rattle.edit.specs.Edits.{usedAppended, found, appended}
 
 -- a trade as the 56 bytes of a record, and a record's bytes as a trade
 abbrev pub recordOfTrade : Trade → List ℕ
@@ -38,7 +38,7 @@ abbrev pub bookWith : List ℕ → ℕ → Trade → List ℕ
 bookWith s used t = appended s used (recordOfTrade t)
 
 abbrev pub foundWith : List ℕ → ℕ → Trade → ℕ → Found
-foundWith s used t position = found (bookWith s used t) (usedAfter (appendAnswer s used (recordOfTrade t)) used) position
+foundWith s used t position = found (bookWith s used t) (usedAppended s used (recordOfTrade t)) position
 
 -- "reads back as the same trade"
 pub record ReadsBack (s : List ℕ) (used : ℕ) (t : Trade) : Type 0 where

@@ -1,13 +1,15 @@
 // Reading, appending and striking records of a book. First it is decided whether a call is refused, from the bytes as they are; then it is
 // done. A refusal writes nothing.
-mod blocks;
-mod refusals;
-mod steps;
+pub mod refusals;
 
 use book::parts::record_at;
 use book::parts::trade_count;
 use ground::Ground;
 use ground::Verdict;
+use trade_edit::blocks::put_record;
+use trade_edit::steps::close_gap;
+use trade_edit::steps::grow;
+use trade_edit::steps::shrink;
 ghost use mathlib.Core.Path.{_≡_};
 ghost use mathlib.Core.List.{_++_};
 ghost use Prim.Native.Nat.{_-_};
@@ -49,17 +51,17 @@ pub fn read(book: &[u8], used: usize, position: usize) -> Found
 }
 
 // Adds a record behind the last of a book that takes it: in the last block, or in a new one if that is full or there is none.
-fn add(book: &mut [u8], used: usize, r: [u8; 56]) -> usize
+pub fn add(book: &mut [u8], used: usize, r: [u8; 56]) -> usize
     requires { ⌜ appendVerdict (now book) used r ≡ Accepted ⌝ }
     ensures { λ n. ⌜ n ≡ length (appendedBook (now (book .entry)) r) ⌝ }
     ensures { λ _. ⌜ now (book .exit) ≡ appendedBook (now (book .entry)) r ++ drop (length (appendedBook (now (book .entry)) r)) (now (book .entry)) ⌝ }
 {
     let place = trade_count(&book[..]) % 9;
     if place == 0 {
-        steps::grow(book, used, r);
+        grow(book, used, r);
         return used + 512;
     }
-    blocks::put_record(&mut book[used - 512..used], place, r);
+    put_record(&mut book[used - 512..used], place, r);
     used
 }
 
@@ -82,9 +84,9 @@ fn remove(book: &mut [u8], used: usize, position: usize) -> usize
     ensures { λ _. ⌜ now (book .exit) ≡ struckBook (now (book .entry)) position ++ replicate (used - length (struckBook (now (book .entry)) position)) 0 ++ drop used (now (book .entry)) ⌝ }
 {
     let left = trade_count(&book[..]) - 1;
-    steps::close_gap(book, position, left);
+    close_gap(book, position, left);
     if left % 9 == 0 {
-        steps::shrink(book, used);
+        shrink(book, used);
         return used - 512;
     }
     used

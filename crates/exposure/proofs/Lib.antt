@@ -3,3 +3,4 @@ pub mod Gathered
 pub mod Growing
 pub mod Collected
 pub mod Fitting
+pub mod Parts

@@ -72,7 +72,7 @@ fn breaks_report_space(space: usize) -> bool
 }
 
 // Writes the report of an accepted book, where there is space for it.
-fn fill_report(book: &[u8], used: usize, out: &mut [u8]) -> Verdict
+pub fn fill_report(book: &[u8], used: usize, out: &mut [u8]) -> Verdict
     requires { ⌜ verdict (now book) used ≡ Accepted ⌝ }
     ensures { λ r. ⌜ r ≡ marginVerdict (now (book .entry)) used (length (now (out .entry))) ⌝ }
     ensures { λ _. ⌜ now (out .exit) ≡ marginBytes (now (book .entry)) used (now (out .entry)) ⌝ }

@@ -14,6 +14,7 @@ ghost use Rattle.bootstrap.specs.Bought.{quoteOf};
 ghost use Rattle.bootstrap.specs.Refusals.{bootstrapVerdict};
 ghost use Rattle.discount.specs.Valued.{valuedOf};
 ghost use Rattle.edit.specs.Edits.{found, appendAnswer, appended, strikeAnswer, struck};
+ghost use Rattle.preview.specs.Preview.{previewVerdict, previewBytes};
 ghost use Rattle.report.specs.Bounded.{Bounded};
 ghost use Rattle.report.specs.Entry.{marginVerdict, marginBytes};
 ghost use Rattle.seddolki.specs.Answers.{verdictAnswer, editedAnswer, valuedAnswer, valuedTolerance};
@@ -41,6 +42,22 @@ pub extern "C" fn seddolki_margin(book: &[u8], used: usize, report: &mut [u8]) -
     ensures { λ r. ⌜ (r .number ≡ 0 → Bounded (now (book .entry)) (now (report .exit))) ⌝ }
 {
     verdict_answer(report::margin(book, used, report))
+}
+
+// Writes the report of a book's margin as it would be after the append of a record; the book is not written.
+#[no_mangle]
+pub extern "C" fn seddolki_preview(
+    book: &[u8],
+    used: usize,
+    record: &[u8; 56],
+    report: &mut [u8],
+) -> Answer
+    ensures { λ r. ⌜ r ≡ verdictAnswer (previewVerdict (now (book .entry)) used (now («record» .entry)) (length (now (report .entry)))) ⌝ }
+    ensures { λ _. ⌜ now (report .exit) ≡ previewBytes (now (book .entry)) used (now («record» .entry)) (now (report .entry)) ⌝ }
+    ensures { λ r. ⌜ (r .number ≡ 0 → Bounded (appended (now (book .entry)) used (now («record» .entry))) (now (report .exit))) ⌝ }
+{
+    let bytes = *record;
+    verdict_answer(preview::preview(book, used, bytes, report))
 }
 
 // Appends a record; the value is the new used length.

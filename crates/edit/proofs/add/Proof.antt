@@ -7,9 +7,9 @@ use lib.ListN.{length, drop}
 use Rattle.layout.specs.Bytes.{AreBytes}
 use Rattle.book.specs.Parts.{tradeCount}
 use Rattle.book.proofs.Accepted.{sound}
+use Rattle.trade_edit.proofs.StepLaws.{fill-left}
 use Rattle.edit.specs.Edits.{appendedBook}
 use Rattle.edit.proofs.Given.{admitted, room}
-use Rattle.edit.proofs.StepLaws.{fill-left}
 use Rattle.edit.proofs.Lent.{length-filled, filled-lent, length-lengthened, lengthened-lent}
 use borrow.Author.Needs.{needs}
 use Rattle.edit.proofs.add.Statement.{statement}

@@ -6,9 +6,9 @@ use native.Mathlib.Omega.{arith}
 use Rattle.layout.specs.Bytes.{AreBytes}
 use Rattle.book.specs.Parts.{tradeBlocks, tradeCount}
 use Rattle.book.proofs.Accepted.{sound, blocks-for, trade-count-most}
-use Rattle.edit.specs.Blocks.{shrunk}
+use Rattle.trade_edit.specs.Blocks.{shrunk}
+use Rattle.trade_edit.proofs.StepLaws.{trades-kept}
 use Rattle.edit.proofs.Given.{has-trade}
-use Rattle.edit.proofs.StepLaws.{trades-kept}
 use Rattle.edit.proofs.Lent.{length-kept, kept-lent, length-emptied, emptied-lent}
 use borrow.Author.Needs.{needs}
 use Rattle.edit.proofs.remove.Statement.{statement}

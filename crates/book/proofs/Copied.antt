@@ -1,0 +1,53 @@
+-- A copy of an accepted book, whatever stands behind it: it is accepted, and its parts are the book's.
+use mathlib.Core.Path.{_≡_, sym, ap, _∙_}
+use mathlib.Core.List.{List, _++_}
+use Prim.Native.Nat.{ℕ}
+use lib.ListN.{length, take, drop, take-append-drop}
+use Rattle.ground.specs.declared.Verdict.the-variants.{Accepted}
+use Rattle.layout.specs.Bytes.{AreBytes}
+use Rattle.book.specs.Parts.{headerOf, curveCount, curveBlocks, tradeCount, records}
+use Rattle.book.specs.Verdict.{verdict}
+use Rattle.book.specs.Encode.{encode}
+use Rattle.book.proofs.Places.{length-curveBlocks, length-records}
+use Rattle.book.proofs.Accepted.{sound}
+use Rattle.book.proofs.Encoded.{header-encoded, curves-encoded, records-encoded, encoded-accepted}
+use Rattle.book.proofs.Canonical.{sound-encodable, sound-acceptable, accepted-encoded, length-accepted}
+
+-- t has the parts of s
+pub record SameBook (s t : List ℕ) : Type 0 where
+  pub header : headerOf t ≡ headerOf s
+  pub curves : curveBlocks t ≡ curveBlocks s
+  pub trades : records t ≡ records s
+
+module _ (s t : List ℕ) where
+  pub same-curve-count : curveBlocks t ≡ curveBlocks s → curveCount t ≡ curveCount s
+  same-curve-count same = sym (length-curveBlocks t) ∙ ap length same ∙ length-curveBlocks s
+
+  pub same-trade-count : records t ≡ records s → tradeCount t ≡ tradeCount s
+  same-trade-count same = sym (length-records t) ∙ ap length same ∙ length-records s
+
+  module _ (used : ℕ) (bytes : AreBytes s) (ok : verdict s used ≡ Accepted) (same : take used t ≡ take used s) where
+    abbrev book : List ℕ
+    book = encode (headerOf s) (curveBlocks s) (records s)
+
+    abbrev rest : List ℕ
+    rest = drop used t
+
+    lent : t ≡ book ++ rest
+    lent = sym (take-append-drop used t) ∙ ap (λ (x : List ℕ). x ++ rest) (same ∙ accepted-encoded s used bytes ok)
+
+    pub same-book : SameBook s t
+    same-book =
+        let fine = sound-encodable s used bytes (sound s used ok) in
+        record {
+          header = ap headerOf lent ∙ header-encoded (headerOf s) (curveBlocks s) (records s) fine rest;
+          curves = ap curveBlocks lent ∙ curves-encoded (headerOf s) (curveBlocks s) (records s) fine rest;
+          trades = ap records lent ∙ records-encoded (headerOf s) (curveBlocks s) (records s) fine rest;
+        }
+
+    pub copy-accepted : verdict t used ≡ Accepted
+    copy-accepted =
+        let b = sound s used ok in
+        ap (λ (x : List ℕ). verdict x used) lent
+        ∙ ap (verdict (book ++ rest)) (sym (length-accepted s used bytes ok))
+        ∙ encoded-accepted (headerOf s) (curveBlocks s) (records s) (sound-encodable s used bytes b) rest (sound-acceptable s used bytes b)

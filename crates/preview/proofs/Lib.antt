@@ -1,0 +1,3 @@
+pub mod Theorems
+pub mod Edges
+pub mod Copy

@@ -1,0 +1,4 @@
+pub mod Joined
+pub mod Resealed
+pub mod BlockLaws
+pub mod StepLaws
