@@ -4,7 +4,9 @@ use crate::book::{assemble, draw_book};
 use crate::bootstrap::draw_bootstrap;
 use crate::damage::{book_grounds, damage_anywhere, damage_book, draw_bad_used};
 use crate::draw::Draw;
+use crate::engine::Engine;
 use crate::near_ties::{draw_near_ties, NearTies};
+use crate::preview::draw_preview;
 use crate::record::draw_record;
 use crate::record_damage::{damage_record, record_grounds};
 use seddolki_model::accept::Book;
@@ -14,55 +16,15 @@ use seddolki_model::limits::{MAX_AMOUNT, MAX_BLOCKS, MAX_DAY, MAX_RATE, PAYMENTS
 use seddolki_model::record::RECORD;
 use seddolki_model::{Answer, Quote};
 
-/// The seven calls, so that two engines can be given the same case.
-pub trait Engine {
-    fn check(&self, book: &[u8], used: usize) -> Answer;
-    fn margin(&self, book: &[u8], used: usize, report: &mut [u8]) -> Answer;
-    fn append(&self, book: &mut [u8], used: usize, record: &[u8; RECORD]) -> Answer;
-    fn strike(&self, book: &mut [u8], used: usize, position: usize) -> Answer;
-    fn read(&self, book: &[u8], used: usize, position: usize, record: &mut [u8; RECORD]) -> Answer;
-    fn present_value(&self, amount: u64, rate: u64, day: u64, tolerance: &mut u64) -> Answer;
-    fn bootstrap(&self, book: &mut [u8], used: usize, quote: &Quote) -> Answer;
-}
-
-/// The second implementation.
-pub struct Model;
-
-impl Engine for Model {
-    fn check(&self, book: &[u8], used: usize) -> Answer {
-        seddolki_model::check(book, used)
-    }
-
-    fn margin(&self, book: &[u8], used: usize, report: &mut [u8]) -> Answer {
-        seddolki_model::margin(book, used, report)
-    }
-
-    fn append(&self, book: &mut [u8], used: usize, record: &[u8; RECORD]) -> Answer {
-        seddolki_model::append(book, used, record)
-    }
-
-    fn strike(&self, book: &mut [u8], used: usize, position: usize) -> Answer {
-        seddolki_model::strike(book, used, position)
-    }
-
-    fn read(&self, book: &[u8], used: usize, position: usize, record: &mut [u8; RECORD]) -> Answer {
-        seddolki_model::read(book, used, position, record)
-    }
-
-    fn present_value(&self, amount: u64, rate: u64, day: u64, tolerance: &mut u64) -> Answer {
-        seddolki_model::present_value(amount, rate, day, tolerance)
-    }
-
-    fn bootstrap(&self, book: &mut [u8], used: usize, quote: &Quote) -> Answer {
-        seddolki_model::bootstrap(book, used, quote)
-    }
-}
-
 /// A call with what it is given beside the book, lent bytes included.
 #[derive(Clone, Debug, PartialEq, Eq)]
 pub enum Call {
     Check,
     Margin {
+        report: Vec<u8>,
+    },
+    Preview {
+        record: [u8; RECORD],
         report: Vec<u8>,
     },
     Append {
@@ -91,6 +53,7 @@ impl Call {
         match self {
             Call::Check => "check",
             Call::Margin { .. } => "margin",
+            Call::Preview { .. } => "preview",
             Call::Append { .. } => "append",
             Call::Strike { .. } => "strike",
             Call::Read { .. } => "read",
@@ -122,6 +85,7 @@ impl Case {
         let answer = match &mut after.call {
             Call::Check => engine.check(lent, used),
             Call::Margin { report } => engine.margin(lent, used, report),
+            Call::Preview { record, report } => engine.preview(lent, used, record, report),
             Call::Append { record } => engine.append(lent, used, record),
             Call::Strike { position } => engine.strike(lent, used, *position),
             Call::Read { position, record } => engine.read(lent, used, *position, record),
@@ -149,16 +113,31 @@ pub(crate) fn draw_case_of(
     work: usize,
     draw_call: impl Fn(&mut Draw, &Book) -> Call,
 ) -> Case {
-    let book = if draw.once_in(8) {
+    let book = draw_any_book(draw, work);
+    let behind = draw.within(0..=2 * BLOCK as u64) as usize;
+    let behind = draw.pick(&[0, BLOCK - 1, BLOCK, BLOCK + 1, behind]);
+    draw_case_on(draw, &book, behind, draw_call)
+}
+
+/// An accepted book, now and then one whose losses are near each other.
+pub(crate) fn draw_any_book(draw: &mut Draw, work: usize) -> Book {
+    if draw.once_in(8) {
         let ties = draw.pick(&NearTies::ALL);
         draw_near_ties(draw, ties, work)
     } else {
         draw_book(draw, work)
-    };
-    let mut lent = draw_bytes(draw, &book);
+    }
+}
+
+/// A call on this book, whole or spoiled, with so many lent bytes behind it.
+pub(crate) fn draw_case_on(
+    draw: &mut Draw,
+    book: &Book,
+    behind: usize,
+    draw_call: impl Fn(&mut Draw, &Book) -> Call,
+) -> Case {
+    let mut lent = draw_bytes(draw, book);
     let length = lent.len();
-    let behind = draw.within(0..=2 * BLOCK as u64) as usize;
-    let behind = draw.pick(&[0, BLOCK - 1, BLOCK, BLOCK + 1, behind]);
     lent.extend(draw.bytes(behind));
     let used = match draw.within(0..=19) {
         0 => draw_bad_used(draw, lent.len()),
@@ -166,7 +145,7 @@ pub(crate) fn draw_case_of(
         2 => draw.place(lent.len() + BLOCK),
         _ => length,
     };
-    let call = draw_call(draw, &book);
+    let call = draw_call(draw, book);
     Case { lent, used, call }
 }
 
@@ -204,7 +183,7 @@ fn draw_noise(draw: &mut Draw) -> Vec<u8> {
 }
 
 fn draw_call(draw: &mut Draw, book: &Book) -> Call {
-    match draw.within(0..=6) {
+    match draw.within(0..=7) {
         0 => Call::Check,
         1 => Call::Margin {
             report: draw_report_space(draw),
@@ -220,11 +199,12 @@ fn draw_call(draw: &mut Draw, book: &Book) -> Call {
             record: [draw.number() as u8; RECORD],
         },
         5 => draw_present_value(draw),
+        6 => draw_preview(draw, book),
         _ => draw_bootstrap(draw, book),
     }
 }
 
-fn draw_report_space(draw: &mut Draw) -> Vec<u8> {
+pub(crate) fn draw_report_space(draw: &mut Draw) -> Vec<u8> {
     let length = draw.pick(&[BLOCK, BLOCK, BLOCK + 1, 2 * BLOCK, BLOCK - 1, 1, 0]);
     draw.bytes(length)
 }
@@ -238,7 +218,7 @@ fn draw_position(draw: &mut Draw, book: &Book) -> usize {
 }
 
 /// A record accepted, spoiled, or of random bytes.
-fn draw_record_bytes(draw: &mut Draw, book: &Book) -> [u8; RECORD] {
+pub(crate) fn draw_record_bytes(draw: &mut Draw, book: &Book) -> [u8; RECORD] {
     let mut record = draw_record(draw, &book.curves, (*PAYMENTS.end()).into());
     match draw.within(0..=7) {
         0..=3 => record.to_bytes(),

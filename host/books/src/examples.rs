@@ -1,4 +1,4 @@
-//! The books of document 01's list examples.
+//! The books of document 01's list examples, and one to work out by hand.
 
 use crate::book::assemble;
 use seddolki_model::accept::Book;
@@ -7,20 +7,33 @@ use seddolki_model::record::{Record, FIRST_SIDE, OUTRIGHT, SECOND_SIDE, SINGLE_P
 
 /// The book of the buyer's example.
 pub fn buyer() -> Vec<u8> {
-    example(FIRST_SIDE)
+    assemble(&example(FIRST_SIDE))
 }
 
 /// The same trade of the seller.
 pub fn seller() -> Vec<u8> {
-    example(SECOND_SIDE)
+    assemble(&example(SECOND_SIDE))
 }
 
-fn example(side: u8) -> Vec<u8> {
-    assemble(&Book {
+/// The buyer's book at rate 0, where an amount is worth itself on every day.
+/// In scenario 2 the rate is 100%: what falls in a year is worth half, in two
+/// years a quarter. In the others it stays at 0.
+pub fn undiscounted_book() -> Book {
+    let mut book = example(FIRST_SIDE);
+    let curve = &mut book.curves[0];
+    curve.ranges[0] = 400;
+    for node in &mut curve.places[..2] {
+        node.rate = 0;
+    }
+    book
+}
+
+fn example(side: u8) -> Book {
+    Book {
         account: 7,
         curves: vec![curve()],
         trades: vec![trade(side)],
-    })
+    }
 }
 
 fn curve() -> Curve {

@@ -2,8 +2,8 @@
 //! answers where none is.
 
 use seddolki_books::{
-    added_node, assemble, damage_book, damage_quote, draw_book, draw_case, draw_quote, Call, Case,
-    Draw, Ending, Model, Outcome, QuoteDamage,
+    added_node, assemble, damage_book, damage_quote, draw_book, draw_case, draw_quote,
+    BootstrapEnding, Call, Case, Draw, Endings, Model, Outcome, QuoteDamage,
 };
 use seddolki_model::accept::{accept, Book};
 use seddolki_model::block::Curve;
@@ -135,7 +135,10 @@ fn a_spoiled_quote_is_refused_by_its_ground_and_writes_nothing() {
             let (case, outcome) = run(&mut draw, &book, quote);
             assert_eq!(outcome.answer, refused(damage), "{quote:?}");
             assert_eq!(outcome.after, case);
-            assert_eq!(Ending::of(&case, &outcome), Some(Ending::Quote(damage)));
+            assert_eq!(
+                BootstrapEnding::of(&case, &outcome),
+                Some(BootstrapEnding::Quote(damage))
+            );
             *spoiled.entry(damage).or_insert(0) += 1;
         }
     }
@@ -213,17 +216,13 @@ const CALLS: u64 = 20_000;
 #[test]
 fn drawn_calls_reach_every_ending_of_a_bootstrap() {
     let first = Draw::new(1).number();
-    let mut reached = BTreeMap::new();
+    let mut reached = Endings::default();
     for number in 0..CALLS {
         let case = draw_case(&mut Draw::new(first.wrapping_add(number)), WORK);
         if let Call::Bootstrap { .. } = case.call {
-            let ending = Ending::of(&case, &case.run(&Model));
-            *reached.entry(ending.unwrap()).or_insert(0) += 1;
+            let ending = BootstrapEnding::of(&case, &case.run(&Model));
+            reached.add(ending.unwrap());
         }
     }
-    println!("{reached:?}");
-    for ending in Ending::all() {
-        let count = reached.get(&ending).copied().unwrap_or(0);
-        assert!(count >= 5, "{ending:?}: {count}");
-    }
+    reached.assert_all(BootstrapEnding::all(), 5);
 }

@@ -8,7 +8,7 @@ use seddolki_model::block::BLOCK;
 use seddolki_model::layout::Layout;
 use seddolki_model::limits::{FULL_BLOCK, MAX_BLOCKS};
 use seddolki_model::record::RECORD;
-use seddolki_model::{append, check, list, Answer, Ground};
+use seddolki_model::{append, check, list, preview, Answer, Ground};
 use std::collections::BTreeMap;
 
 const WORK: usize = 1_000;
@@ -61,6 +61,8 @@ fn a_spoiled_record_is_refused_for_the_block_it_would_take() {
             if let Some(record) = damage_record(&mut draw, &record, &book.curves, ground) {
                 let answer = append(&mut bytes, before.len(), &record.to_bytes());
                 assert_eq!(answer, refused(ground, block), "seed {seed} {record:?}");
+                let shown = preview(&bytes, before.len(), &record.to_bytes(), &mut []);
+                assert_eq!(shown, answer, "seed {seed} {record:?}");
                 assert_eq!(bytes, before);
                 *spoiled.entry(ground).or_insert(0) += 1;
             }
@@ -103,13 +105,13 @@ fn drawn_calls_reach_every_ground_and_refusals_write_nothing() {
 #[test]
 fn drawn_calls_are_done_by_each_call() {
     let mut done = BTreeMap::new();
-    for seed in 0..1_000 {
+    for seed in 0..2_000 {
         let outcome = draw_case(&mut Draw::new(seed), WORK).run(&Model);
         if outcome.answer.number == 0 {
             *done.entry(outcome.after.call.name()).or_insert(0) += 1;
         }
     }
-    assert_eq!(done.len(), 7);
+    assert_eq!(done.len(), 8);
     assert!(done.values().all(|&count| count >= 20), "{done:?}");
 }
 

@@ -5,7 +5,8 @@ use seddolki_model::accept::Book;
 use seddolki_model::block::{seal, BLOCK};
 use seddolki_model::limits::FULL_BLOCK;
 use seddolki_model::record::RECORD;
-use seddolki_model::{append, bootstrap, check, margin, read, strike, Answer, Ground, Quote};
+use seddolki_model::{append, bootstrap, check, margin, preview, read, strike};
+use seddolki_model::{Answer, Ground, Quote};
 
 /// A drawn book with two full blocks of trades.
 fn book() -> Book {
@@ -76,10 +77,9 @@ fn the_book_answers_before_what_is_asked_of_it() {
     let used = bytes.len();
     let wrong = [u8::MAX; RECORD];
     let block = used / BLOCK;
-    assert_eq!(
-        append(&mut bytes, used, &wrong),
-        refused(Ground::Form, block)
-    );
+    let wrong_record = refused(Ground::Form, block);
+    assert_eq!(append(&mut bytes, used, &wrong), wrong_record);
+    assert_eq!(preview(&bytes, used, &wrong, &mut []), wrong_record);
     let position = refused(Ground::Position, 0);
     assert_eq!(strike(&mut bytes, used, 18), position);
     assert_eq!(read(&bytes, used, 18, &mut [0; RECORD]), position);
@@ -94,5 +94,6 @@ fn the_book_answers_before_what_is_asked_of_it() {
     assert_eq!(strike(&mut bytes, used, 18), first);
     assert_eq!(read(&bytes, used, 18, &mut [0; RECORD]), first);
     assert_eq!(margin(&bytes, used, &mut []), first);
+    assert_eq!(preview(&bytes, used, &wrong, &mut []), first);
     assert_eq!(bootstrap(&mut bytes, used, &quote), first);
 }

@@ -17,6 +17,16 @@ impl Engine for Proved {
         lent::margin(book, used, report)
     }
 
+    fn preview(
+        &self,
+        book: &[u8],
+        used: usize,
+        record: &[u8; RECORD],
+        report: &mut [u8],
+    ) -> Answer {
+        lent::preview(book, used, record, report)
+    }
+
     fn append(&self, book: &mut [u8], used: usize, record: &[u8; RECORD]) -> Answer {
         lent::append(book, used, record)
     }

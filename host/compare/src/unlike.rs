@@ -31,6 +31,7 @@ fn difference(case: &Case, proved: &Outcome, model: &Outcome) -> String {
 fn lent_bytes(case: &Case) -> Vec<u8> {
     let beside = match &case.call {
         Call::Margin { report } => report.clone(),
+        Call::Preview { record, report } => [&record[..], report].concat(),
         Call::Read { record, .. } => record.to_vec(),
         Call::PresentValue { tolerance, .. } => tolerance.to_le_bytes().to_vec(),
         _ => vec![],

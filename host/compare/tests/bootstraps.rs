@@ -1,13 +1,12 @@
 //! Bootstraps alone: every ending of one, and curves that grow node by node.
 
 use seddolki_books::{
-    added_node, assemble, draw_book, draw_bootstrap_case, draw_quote, Call, Case, Draw, Ending,
-    Outcome,
+    added_node, assemble, draw_book, draw_bootstrap_case, draw_quote, BootstrapEnding, Call, Case,
+    Draw, Endings, Outcome,
 };
 use seddolki_compare::{assert_alike, calls, is_whole, margin_case, whole_case, Seeds};
 use seddolki_model::accept::accept;
 use seddolki_model::bootstrap::bond_value;
-use std::collections::BTreeMap;
 
 /// Bounds the time of a margin.
 const WORK: usize = 300;
@@ -32,22 +31,17 @@ fn assert_smallest(case: &Case, outcome: &Outcome) {
 #[test]
 fn bootstraps_are_the_same_and_reach_every_ending() {
     let seeds = Seeds::of_this_run();
-    let mut reached = BTreeMap::new();
+    let mut reached = Endings::default();
     for number in 0..calls() / 4 {
         let case = draw_bootstrap_case(&mut seeds.draw(number), WORK);
         let outcome = assert_alike(&case, number);
         if outcome.answer.number == 0 {
             assert_smallest(&case, &outcome);
         }
-        let ending = Ending::of(&case, &outcome).expect("the call is a bootstrap");
-        *reached.entry(ending).or_insert(0) += 1;
+        let ending = BootstrapEnding::of(&case, &outcome).expect("the call is a bootstrap");
+        reached.add(ending);
     }
-    println!("{reached:?}");
-    if is_whole() {
-        for ending in Ending::all() {
-            assert!(reached.contains_key(&ending), "{ending:?}");
-        }
-    }
+    reached.assert_all(BootstrapEnding::all(), is_whole().into());
 }
 
 /// Lengthens curves of one book until a quote is refused; gives the number of

@@ -4,6 +4,7 @@ use seddolki_books::{assemble, draw_book, full_book, typical_book, Call, Draw};
 use seddolki_compare::{whole_case, Proved};
 use seddolki_model::block::{Curve, BLOCK};
 use seddolki_model::bootstrap::bond_value;
+use seddolki_model::layout::Layout;
 use seddolki_model::limits::{MAX_BLOCKS, PAYMENTS};
 use seddolki_model::quote::{bond_of, Quote};
 use seddolki_model::record::{Record, RECORD};
@@ -34,7 +35,10 @@ fn every_call_on_a_full_book_keeps_to_its_stack() {
     let report = vec![0; BLOCK];
     for call in [
         Call::Check,
-        Call::Margin { report },
+        Call::Margin {
+            report: report.clone(),
+        },
+        Call::Preview { record, report },
         Call::Read {
             position: 500,
             record,
@@ -58,6 +62,18 @@ fn a_margin_of_all_scenarios_keeps_to_its_stack() {
     for book in [typical_book(), full_book()] {
         let report = vec![0; BLOCK];
         assert_eq!(number(assemble(&book), Call::Margin { report }), 0);
+    }
+}
+
+#[test]
+fn a_preview_of_all_scenarios_keeps_to_its_stack() {
+    for mut book in [typical_book(), full_book()] {
+        let trade = book.trades.pop().expect("the book has trades");
+        let call = Call::Preview {
+            record: trade.to_bytes(),
+            report: vec![0; BLOCK],
+        };
+        assert_eq!(number(assemble(&book), call), 0);
     }
 }
 

@@ -1,4 +1,4 @@
-//! The seven calls over lent bytes.
+//! The eight calls over lent bytes.
 
 use crate::accept::{accept, Book};
 use crate::answer::{Answer, Ground, Refusal};
@@ -24,10 +24,29 @@ pub fn margin(book: &[u8], used: usize, report: &mut [u8]) -> Answer {
 }
 
 fn try_margin(lent: &[u8], used: usize, space: &mut [u8]) -> Result<u64, Refusal> {
-    let book = accept(lent, used)?;
+    write_report(&accept(lent, used)?, space)
+}
+
+fn write_report(book: &Book, space: &mut [u8]) -> Result<u64, Refusal> {
     let block = space.get_mut(..BLOCK).ok_or(Ground::ReportSpace.alone())?;
-    block.copy_from_slice(&sealed(&report(&book)));
+    block.copy_from_slice(&sealed(&report(book)));
     Ok(0)
+}
+
+/// Fills the report's first block as it would be after an append. The trade
+/// joins what the book holds, and no copy is written and read again: so an
+/// append that writes wrongly is found out where the two are compared.
+pub fn preview(book: &[u8], used: usize, record: &[u8; RECORD], report: &mut [u8]) -> Answer {
+    try_preview(book, used, record, report).into()
+}
+
+fn try_preview(
+    lent: &[u8],
+    used: usize,
+    record: &[u8; RECORD],
+    space: &mut [u8],
+) -> Result<u64, Refusal> {
+    write_report(&accept_append(lent, used, record)?, space)
 }
 
 /// Adds a record behind the last; the value is the new used length.
@@ -36,6 +55,13 @@ pub fn append(book: &mut [u8], used: usize, record: &[u8; RECORD]) -> Answer {
 }
 
 fn try_append(lent: &mut [u8], used: usize, record: &[u8; RECORD]) -> Result<u64, Refusal> {
+    let book = accept_append(lent, used, record)?;
+    Ok(rewrite(lent, used, &book))
+}
+
+/// What the book would hold with a record behind its last trade, or the first
+/// ground that refuses the append.
+fn accept_append(lent: &[u8], used: usize, record: &[u8; RECORD]) -> Result<Book, Refusal> {
     let mut book = accept(lent, used)?;
     let record = Record::decode(record);
     let needs_block = book.trades.len().is_multiple_of(FULL_BLOCK);
@@ -45,7 +71,7 @@ fn try_append(lent: &mut [u8], used: usize, record: &[u8; RECORD]) -> Result<u64
         return Err(Ground::BookSpace.alone());
     }
     book.trades.push(record);
-    Ok(rewrite(lent, used, &book))
+    Ok(book)
 }
 
 /// Removes a record; the value is the new used length.

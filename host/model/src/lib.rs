@@ -32,7 +32,7 @@ pub mod valuation;
 pub mod words;
 
 pub use accept::book_fault;
-pub use calls::{append, bootstrap, check, margin, present_value, read, strike};
+pub use calls::{append, bootstrap, check, margin, present_value, preview, read, strike};
 pub use explain::rule;
 pub use fault::{BookFault, Fault, Part};
 pub use list::list;

@@ -10,7 +10,7 @@ use seddolki_model::{quote_fault, Ground, Quote};
 
 /// An ending, told further apart than by the ground.
 #[derive(Clone, Copy, Debug, PartialEq, Eq, PartialOrd, Ord)]
-pub enum Ending {
+pub enum BootstrapEnding {
     /// The new node has rate 0.
     LowestRate,
     /// The new node has a rate between.
@@ -23,24 +23,24 @@ pub enum Ending {
     Quote(QuoteDamage),
 }
 
-impl Ending {
+impl BootstrapEnding {
     /// All that there are.
-    pub fn all() -> impl Iterator<Item = Ending> {
-        let done = [Ending::LowestRate, Ending::Rate, Ending::HighestRate];
-        let book = Ground::ALL[..12].iter().copied().map(Ending::Book);
-        let quote = QuoteDamage::ALL.into_iter().map(Ending::Quote);
+    pub fn all() -> impl Iterator<Item = Self> {
+        let done = [Self::LowestRate, Self::Rate, Self::HighestRate];
+        let book = Ground::ALL[..12].iter().copied().map(Self::Book);
+        let quote = QuoteDamage::ALL.into_iter().map(Self::Quote);
         done.into_iter().chain(book).chain(quote)
     }
 
     /// That of a case, by its outcome; none if the call is another.
-    pub fn of(case: &Case, outcome: &Outcome) -> Option<Ending> {
+    pub fn of(case: &Case, outcome: &Outcome) -> Option<Self> {
         let Call::Bootstrap { quote } = &case.call else {
             return None;
         };
         let ending = match accept(&case.lent, case.used) {
-            Err(refusal) => Ending::Book(refusal.ground),
+            Err(refusal) => Self::Book(refusal.ground),
             Ok(book) => match Ground::from_number(outcome.answer.number) {
-                Some(ground) => Ending::Quote(damage_of(ground, quote, &book)),
+                Some(ground) => Self::Quote(damage_of(ground, quote, &book)),
                 None => at_rate(added_node(outcome, quote).rate.into()),
             },
         };
@@ -48,11 +48,11 @@ impl Ending {
     }
 }
 
-fn at_rate(rate: u64) -> Ending {
+fn at_rate(rate: u64) -> BootstrapEnding {
     match rate {
-        0 => Ending::LowestRate,
-        MAX_RATE => Ending::HighestRate,
-        _ => Ending::Rate,
+        0 => BootstrapEnding::LowestRate,
+        MAX_RATE => BootstrapEnding::HighestRate,
+        _ => BootstrapEnding::Rate,
     }
 }
 

@@ -1,0 +1,96 @@
+//! Previews drawn at random, and what each of them is to equal.
+
+use crate::book::hold_to_work;
+use crate::call::{draw_any_book, draw_case_on, draw_record_bytes, draw_report_space};
+use crate::call::{Call, Case, Outcome};
+use crate::draw::Draw;
+use crate::engine::Engine;
+use crate::record::draw_record;
+use seddolki_model::accept::Book;
+use seddolki_model::block::BLOCK;
+use seddolki_model::limits::{FULL_BLOCK, MAX_BLOCKS};
+use seddolki_model::record::RECORD;
+
+/// A preview on any book, whole or spoiled, of a trade that goes into the last
+/// block or into a new one or has no room, in lent bytes up to more than any
+/// book takes. `work` is as in `draw_book`, the new trade left out.
+pub fn draw_preview_case(draw: &mut Draw, work: usize) -> Case {
+    let mut book = draw_any_book(draw, work);
+    let count = draw_trade_count(draw, &book);
+    repeat_trades(draw, &mut book, count);
+    hold_to_work(&mut book, work);
+    let blocks = 1 + book.curves.len() + count.div_ceil(FULL_BLOCK);
+    let to_longest = (MAX_BLOCKS - blocks) * BLOCK;
+    let behind = draw.pick(&[
+        0,
+        1,
+        BLOCK - 1,
+        BLOCK,
+        to_longest,
+        to_longest + 1,
+        to_longest + BLOCK,
+    ]);
+    draw_case_on(draw, &book, behind, |draw, book| {
+        if draw.once_in(6) {
+            all_wrong(draw)
+        } else {
+            draw_preview(draw, book)
+        }
+    })
+}
+
+/// About as many as the book has, the last block with room or full, or as many
+/// as a book takes.
+fn draw_trade_count(draw: &mut Draw, book: &Book) -> usize {
+    let most = (MAX_BLOCKS - 1 - book.curves.len()) * FULL_BLOCK;
+    let whole_blocks = book.trades.len().next_multiple_of(FULL_BLOCK);
+    let whole_blocks = whole_blocks.min(most - FULL_BLOCK);
+    match draw.within(0..=3) {
+        0 => whole_blocks + 1 + draw.place(FULL_BLOCK - 1),
+        1 | 2 => whole_blocks,
+        _ => most,
+    }
+}
+
+/// Gives the book so many trades, its own over and over.
+fn repeat_trades(draw: &mut Draw, book: &mut Book, count: usize) {
+    if book.trades.is_empty() {
+        book.trades = vec![draw_record(draw, &book.curves, 1)];
+    }
+    let own = std::mem::take(&mut book.trades);
+    book.trades = own.into_iter().cycle().take(count).collect();
+}
+
+/// With a record accepted, spoiled, or of random bytes.
+pub(crate) fn draw_preview(draw: &mut Draw, book: &Book) -> Call {
+    Call::Preview {
+        record: draw_record_bytes(draw, book),
+        report: draw_report_space(draw),
+    }
+}
+
+/// A record that no book takes, and too little space for a report.
+fn all_wrong(draw: &mut Draw) -> Call {
+    let space = draw.place(BLOCK);
+    Call::Preview {
+        record: [u8::MAX; RECORD],
+        report: draw.bytes(space),
+    }
+}
+
+/// What a preview is to come to, by the words of the wish: the append to a
+/// copy, in as many lent bytes, and then the margin of that copy. The call is
+/// a preview.
+pub fn append_then_margin(case: &Case, engine: &impl Engine) -> Outcome {
+    let mut after = case.clone();
+    let Call::Preview { record, report } = &mut after.call else {
+        panic!("{} is no preview", case.call.name());
+    };
+    let mut copy = case.lent.clone();
+    let appended = engine.append(&mut copy, case.used, record);
+    let answer = match appended.number {
+        0 => engine.margin(&copy, appended.value as usize, report),
+        _ => appended,
+    };
+    Outcome { answer, after }
+}
