@@ -11,8 +11,8 @@ typedef struct {
     seddolki_u64 rate;                            /* 16 */
     seddolki_u64 day;                             /* 24 */
     seddolki_record record;                       /* 32 */
-    uint8_t report_len[3];                        /* 88: the length of the report space */
-    uint8_t zero_after_report_len;                /* 91 */
+    seddolki_u16 report_len;                      /* 88: the length of the report space */
+    uint8_t zero_after_report_len[2];             /* 90 */
     seddolki_u32 curve;                           /* 92: that the bond is to lengthen */
     seddolki_bond bond;                           /* 96 */
     seddolki_u64 cash;                            /* 116 */
@@ -20,5 +20,12 @@ typedef struct {
 } input_head;
 
 enum { HEAD = sizeof(input_head) };
+
+/* What an input asks for. */
+typedef struct {
+    const input_head *head;
+    const uint8_t *record, *lent;
+    size_t len, used, position, report_len;
+} input;
 
 #endif

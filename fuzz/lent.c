@@ -24,3 +24,13 @@ uint8_t *lend(int place, const uint8_t *bytes, size_t len) {
     if (len) memcpy(start, bytes, len);
     return start;
 }
+
+static const uint8_t *paint(void) {
+    static uint8_t painted[PAINTED_MOST];
+    if (!painted[0]) memset(painted, 0xa5, sizeof painted);
+    return painted;
+}
+
+uint8_t *lend_painted(int place, size_t len) { return lend(place, paint(), len); }
+
+int is_painted(const uint8_t *bytes, size_t len) { return !memcmp(bytes, paint(), len); }

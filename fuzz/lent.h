@@ -5,10 +5,15 @@
 #include <stddef.h>
 #include <stdint.h>
 
-/* Most bytes that are lent at once. */
+/* Most bytes that are lent at once, and most that are painted. */
 #define LENT_MOST (1 << 20)
+#define PAINTED_MOST 2048
 
 /* Copies bytes to the end of one of four places and gives where they start. */
 uint8_t *lend(int place, const uint8_t *bytes, size_t len);
+
+/* The same with bytes that show where they were written. */
+uint8_t *lend_painted(int place, size_t len);
+int is_painted(const uint8_t *bytes, size_t len);
 
 #endif

@@ -1,11 +1,13 @@
 /*
  * Changes inputs so that many get past the length, the checks and the rules
- * of a book: one time in five any bytes change, otherwise a field in its
- * place, a whole record, or the bond and its cash. The checks of the blocks
- * are then mended.
+ * of a book: one time in eight any bytes change, otherwise a field in its
+ * place, a whole record, the bond and its cash, or the lengths that are lent.
+ * The length of the book, the places of its blocks and their checks are then
+ * mended.
  */
 #include "bond.h"
 #include "input.h"
+#include "mend.h"
 #include "seddolki.h"
 
 #include <string.h>
@@ -18,9 +20,22 @@ static size_t draw(uint64_t *state, size_t end) {
     return (size_t)(*state >> 33) % end;
 }
 
+static input_head *head_of(uint8_t *data) { return (input_head *)data; }
+
 /* A block of the book that an input holds. */
 static seddolki_block *block_at(uint8_t *data, size_t number) {
     return (seddolki_block *)(data + HEAD) + number;
+}
+
+/* The curves that the header of so many blocks counts. */
+static size_t curves_of(uint8_t *data, size_t blocks) {
+    return blocks ? seddolki_get_u16(&block_at(data, 0)->header.curves) : 0;
+}
+
+/* Lent bytes that the book uses; all of them where the head says too many are behind it. */
+static size_t used_of(uint8_t *data, size_t size) {
+    size_t len = size - HEAD, behind = seddolki_get_u32(&head_of(data)->behind);
+    return behind < len ? len - behind : len;
 }
 
 /* Gives a field of 1, 2 or 4 bytes a number near its own, a small one, or any. */
@@ -47,16 +62,23 @@ static void change_some_field(uint8_t *data, size_t blocks, uint64_t *state) {
     change_field(block_at(data, draw(state, blocks))->bytes + (within & ~(size_t)1), state);
 }
 
-/* Puts the head's record behind the last of the last block, or takes that block's first into the head. */
-static void move_record(uint8_t *data, size_t blocks, uint64_t *state) {
+/* Puts the head's record behind the last of the last block. */
+static void put_record(uint8_t *data, size_t blocks) {
     if (!blocks) return;
     seddolki_trade_block *last = &block_at(data, blocks - 1)->trades;
-    seddolki_record *record = &((input_head *)data)->record;
-    if (last->kind != SEDDOLKI_TRADES_KIND) return;
-    if (last->count < SEDDOLKI_FULL_BLOCK && draw(state, 4))
-        memcpy(&last->places[last->count++], record, SEDDOLKI_RECORD);
-    else
-        memcpy(record, &last->places[draw(state, SEDDOLKI_FULL_BLOCK)], SEDDOLKI_RECORD);
+    if (last->kind != SEDDOLKI_TRADES_KIND || last->count >= SEDDOLKI_FULL_BLOCK) return;
+    last->places[last->count++] = head_of(data)->record;
+}
+
+/* Takes a trade of the book into the head, at times for the other side. */
+static void take_record(uint8_t *data, size_t blocks, uint64_t *state) {
+    size_t first = 1 + curves_of(data, blocks);
+    if (first >= blocks) return;
+    const seddolki_trade_block *from = &block_at(data, first + draw(state, blocks - first))->trades;
+    if (!from->count || from->count > SEDDOLKI_FULL_BLOCK) return;
+    seddolki_record *record = &head_of(data)->record;
+    *record = from->places[draw(state, from->count)];
+    if (draw(state, 2)) record->side = SEDDOLKI_BUYER + SEDDOLKI_SELLER - record->side;
 }
 
 /* A bond that ends after a curve does. */
@@ -79,8 +101,8 @@ static seddolki_bond draw_bond(const seddolki_curve *curve, uint64_t *state) {
 
 /* Puts a bond into the head that lengthens a curve of the book, at the cash of some rate. */
 static void quote_bond(uint8_t *data, size_t blocks, uint64_t *state) {
-    input_head *head = (input_head *)data;
-    size_t curves = blocks ? seddolki_get_u16(&block_at(data, 0)->header.curves) : 0;
+    input_head *head = head_of(data);
+    size_t curves = curves_of(data, blocks);
     if (curves == 0 || curves >= blocks) return;
     uint32_t id = 1 + (uint32_t)draw(state, curves);
     const seddolki_curve *curve = &block_at(data, id)->curve;
@@ -95,18 +117,50 @@ static void quote_bond(uint8_t *data, size_t blocks, uint64_t *state) {
                          (int32_t)draw(state, 2 * SEDDOLKI_MAX_COMPONENT) - SEDDOLKI_MAX_COMPONENT);
 }
 
-size_t LLVMFuzzerCustomMutator(uint8_t *data, size_t size, size_t most, unsigned seed) {
-    uint64_t state = seed;
-    size_t way = size < HEAD ? 0 : draw(&state, 5);
-    size_t blocks = size < HEAD ? 0 : (size - HEAD) / SEDDOLKI_BLOCK;
-    if (way == 0) size = LLVMFuzzerMutate(data, size, most);
-    else if (way == 1) move_record(data, blocks, &state);
-    else if (way == 2) quote_bond(data, blocks, &state);
-    else change_some_field(data, blocks, &state);
-    size_t mends = draw(&state, 16);
-    if (size < HEAD || mends == 0) return size;
-    if (mends > 2) size -= (size - HEAD) % SEDDOLKI_BLOCK;
-    blocks = (size - HEAD) / SEDDOLKI_BLOCK;
+/* Gives what is lent behind the book, or for the report, a length at which an answer may change. */
+static size_t move_end(uint8_t *data, size_t size, size_t most, uint64_t *state) {
+    static const uint16_t ends[] = {0, 1, SEDDOLKI_BLOCK - 1, SEDDOLKI_BLOCK, SEDDOLKI_BLOCK + 1};
+    uint16_t length = ends[draw(state, sizeof ends / sizeof *ends)];
+    size_t end = HEAD + used_of(data, size) + length;
+    if (draw(state, 2) || end > most) {
+        seddolki_set_u16(&head_of(data)->report_len, length);
+        return size;
+    }
+    if (end > size) memset(data + size, 0, end - size);
+    seddolki_set_u32(&head_of(data)->behind, length);
+    return end;
+}
+
+/* Cuts the book to whole blocks. */
+static size_t cut(uint8_t *data, size_t size) {
+    size_t used = used_of(data, size), behind = size - HEAD - used, odd = used % SEDDOLKI_BLOCK;
+    uint8_t *end = data + HEAD + used;
+    memmove(end - odd, end, behind);
+    seddolki_set_u32(&head_of(data)->behind, (uint32_t)behind);
+    return size - odd;
+}
+
+/* Mends the length of the book, the places of its blocks and their checks, each most times. */
+static size_t mend(uint8_t *data, size_t size, uint64_t *state) {
+    if (draw(state, 8)) size = cut(data, size);
+    size_t blocks = used_of(data, size) / SEDDOLKI_BLOCK;
+    if (draw(state, 4)) mend_places(block_at(data, 0), blocks);
+    if (draw(state, 16) == 0) return size;
     for (size_t i = 0; i < blocks; i++) seddolki_seal(block_at(data, i));
     return size;
+}
+
+size_t LLVMFuzzerCustomMutator(uint8_t *data, size_t size, size_t most, unsigned seed) {
+    uint64_t state = seed;
+    size_t way = size < HEAD ? 0 : draw(&state, 8);
+    size_t blocks = size < HEAD ? 0 : used_of(data, size) / SEDDOLKI_BLOCK;
+    switch (way) {
+    case 0: size = LLVMFuzzerMutate(data, size, most); break;
+    case 1: put_record(data, blocks); break;
+    case 2: take_record(data, blocks, &state); break;
+    case 3: quote_bond(data, blocks, &state); break;
+    case 4: size = move_end(data, size, most, &state); break;
+    default: change_some_field(data, blocks, &state);
+    }
+    return size < HEAD ? size : mend(data, size, &state);
 }

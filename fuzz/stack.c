@@ -12,9 +12,9 @@
 #include <string.h>
 #include <sys/mman.h>
 
-enum { STACK = 4 << 20, PAINT = 0xa5, CALLS = 7 };
+enum { STACK = 4 << 20, PAINT = 0xa5, CALLS = 8 };
 
-static uint8_t book[SEDDOLKI_LARGEST_BOOK + SEDDOLKI_BLOCK];
+static uint8_t book[SEDDOLKI_LARGEST_BOOK + SEDDOLKI_BLOCK], report[SEDDOLKI_BLOCK];
 static size_t used;
 
 static void *none(void *unused) { return unused; }
@@ -25,7 +25,6 @@ static void *check(void *unused) {
 }
 
 static void *margin(void *unused) {
-    static uint8_t report[SEDDOLKI_BLOCK];
     seddolki_margin(book, sizeof book, used, report, sizeof report);
     return unused;
 }
@@ -44,6 +43,14 @@ static void *append_it(void *unused) {
 
 static void *strike_first(void *unused) {
     seddolki_strike(book, sizeof book, used, 0);
+    return unused;
+}
+
+/* The trade is struck before, which needs less, so that a full book has room for it. */
+static void *preview_first(void *unused) {
+    seddolki_answer struck = seddolki_strike(book, sizeof book, used, 0);
+    if (struck.number == SEDDOLKI_DONE)
+        seddolki_preview(book, sizeof book, struck.value, record, report, sizeof report);
     return unused;
 }
 
@@ -105,10 +112,11 @@ static void load(const char *name) {
 }
 
 int main(int count, char **names) {
-    static const char *words[CALLS] = {"check",  "margin",        "read",     "append",
-                                       "strike", "present value", "bootstrap"};
-    void *(*const calls[CALLS])(void *) = {check,        margin,        read_first,     append_it,
-                                           strike_first, present_value, bootstrap_first};
+    static const char *words[CALLS] = {"check",   "margin", "read",          "append",
+                                       "preview", "strike", "present value", "bootstrap"};
+    void *(*const calls[CALLS])(void *) = {check,         margin,         read_first,
+                                           append_it,     preview_first,  strike_first,
+                                           present_value, bootstrap_first};
     size_t deepest[CALLS] = {0}, thread = touched(none);
     for (int i = 1; i < count; i++) {
         for (int call = 0; call < CALLS; call++) {

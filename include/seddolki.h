@@ -33,13 +33,13 @@ extern "C" {
  * The number of the last request of document 02 that this header has. Where
  * the parameters of a function change, the version does. A program that says
  *
- *     #if SEDDOLKI_VERSION != 1
- *     #error "this program is written for version 1 of seddolki.h"
+ *     #if SEDDOLKI_VERSION != 2
+ *     #error "this program is written for version 2 of seddolki.h"
  *     #endif
  *
  * does not compile with another.
  */
-#define SEDDOLKI_VERSION 1
+#define SEDDOLKI_VERSION 2
 
 /* Bytes of a block, and of a report. */
 #define SEDDOLKI_BLOCK 512
@@ -70,8 +70,9 @@ typedef struct {
 /*
  * The grounds of refusal, in the order in which they are tried: the length
  * first, then block by block, and in a trade block record by record; then a
- * new record, by 8 to 12; then 13 to 15. 16 is of the present value alone, 17
- * and 18 are of the bootstrap, which says its own order.
+ * new record, by 8 to 12; then 13, 14 or 15, of which a preview alone has two,
+ * 15 before 13. 16 is of the present value alone, 17 and 18 are of the
+ * bootstrap, which says its own order.
  */
 enum {
     SEDDOLKI_DONE = 0,
@@ -143,6 +144,20 @@ seddolki_answer seddolki_margin(const uint8_t *book, size_t len, size_t used, ui
  */
 seddolki_answer seddolki_append(uint8_t *book, size_t len, size_t used,
                                 const uint8_t record[SEDDOLKI_RECORD]);
+
+/*
+ * The margin of a book as it would be with one more trade: what an append and
+ * then a margin give on a copy of the book, in as many lent bytes.
+ *
+ * Done: value 0, and the first 512 bytes of `report` are the report. Bytes of
+ * `report` past the 512th keep their values.
+ * Refused: as an append, by 1 to 12 for the book, 8 to 12 for the record and
+ * 15, although no new block is written here; then 13. Nothing is written. The
+ * book and `record` are never written.
+ */
+seddolki_answer seddolki_preview(const uint8_t *book, size_t len, size_t used,
+                                 const uint8_t record[SEDDOLKI_RECORD], uint8_t *report,
+                                 size_t report_len);
 
 /*
  * Removes the trade at a position, counted from 0; those behind it move up.

@@ -5,7 +5,7 @@ mod timing;
 mod whole;
 
 pub use timing::{best_time, best_turn, middle, processor_time, ratio, repeats, shown, turn_time};
-pub use whole::{margin, work, Work};
+pub use whole::{margin, sized_books, work, Work};
 
 mod ffi {
     unsafe extern "C" {

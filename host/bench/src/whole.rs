@@ -1,11 +1,22 @@
-//! A whole margin by the C interface, and how much work it is.
+//! Whole margins by the C interface, of which books they are taken, and how
+//! much work they are.
 
 use seddolki::{lent, Refusal, Report};
+use seddolki_books::{full_book, small_book, typical_book};
 use seddolki_model::accept::Book;
 use seddolki_model::block::BLOCK;
 use seddolki_model::layout::Layout;
 use seddolki_model::scenario::scenarios;
 use std::collections::BTreeSet;
+
+/// The generator's books of three sizes, by name.
+pub fn sized_books() -> [(&'static str, Book); 3] {
+    [
+        ("small", small_book()),
+        ("typical", typical_book()),
+        ("full", full_book()),
+    ]
+}
 
 /// The report of a book, every byte of which is used.
 pub fn margin(book: &[u8]) -> Result<Report, Refusal> {

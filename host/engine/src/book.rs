@@ -40,7 +40,18 @@ impl Book {
     pub fn from_bytes(bytes: impl Into<Vec<u8>>) -> Self {
         let bytes = bytes.into();
         let used = bytes.len();
-        Book { bytes, used }
+        let mut book = Book { bytes, used };
+        book.make_room();
+        book
+    }
+
+    /// Holds a block more than the book uses: an append, or its preview, may
+    /// need one.
+    fn make_room(&mut self) {
+        let room = self.used + BLOCK;
+        if self.bytes.len() < room {
+            self.bytes.resize(room, 0);
+        }
     }
 
     /// The bytes that the book uses.
@@ -75,9 +86,32 @@ impl Book {
     /// # Errors
     /// Grounds 1 to 12.
     pub fn margin(&self) -> Result<Report, Refusal> {
-        let mut space = [0; BLOCK];
-        done(ffi::margin(&self.bytes, self.used, &mut space))?;
-        Ok(Report::decode(&space))
+        reported(|report| ffi::margin(&self.bytes, self.used, report))
+    }
+
+    /// The margin of the book as it would be with one more trade. The book
+    /// stays as it is.
+    ///
+    /// ```
+    /// use seddolki::{Book, Record};
+    /// # let bytes = include_bytes!("../../../examples/buyer.book");
+    ///
+    /// let mut book = Book::from_bytes(bytes.to_vec());
+    /// let sale = Record { side: 2, ..book.read(0)? };
+    /// let shown = book.preview(&sale)?;
+    /// assert_eq!(book.as_bytes(), bytes);
+    ///
+    /// book.append(&sale)?;
+    /// assert_eq!(book.margin()?, shown);
+    /// # Ok::<(), seddolki::Refusal>(())
+    /// ```
+    ///
+    /// # Errors
+    /// As an append: grounds 8 to 12 for the record, with the block that it
+    /// would take; 15 where the book is full.
+    pub fn preview(&self, record: &Record) -> Result<Report, Refusal> {
+        let record: [u8; RECORD] = (*record).into();
+        reported(|report| ffi::preview(&self.bytes, self.used, &record, report))
     }
 
     /// Adds a trade behind the last and gives its position.
@@ -86,13 +120,10 @@ impl Book {
     /// Grounds 8 to 12 for the record, with the block that it would take; 15
     /// where the book is full.
     pub fn append(&mut self, record: &Record) -> Result<usize, Refusal> {
-        let room = self.used.saturating_add(BLOCK);
-        if self.bytes.len() < room {
-            self.bytes.resize(room, 0);
-        }
         let record: [u8; RECORD] = (*record).into();
         let answer = ffi::append(&mut self.bytes, self.used, &record);
         self.used = used_of(answer)?;
+        self.make_room();
         Ok(trades(self.as_bytes()).count() - 1)
     }
 
@@ -191,6 +222,13 @@ impl Book {
         let trades: Vec<Record> = self.records()?.collect();
         Ok(doubles(&trades))
     }
+}
+
+/// What a call writes that is lent the space of a report.
+fn reported(call: impl FnOnce(&mut [u8]) -> Answer) -> Result<Report, Refusal> {
+    let mut space = [0; BLOCK];
+    done(call(&mut space))?;
+    Ok(Report::decode(&space))
 }
 
 fn done(answer: Answer) -> Result<(), Refusal> {

@@ -22,6 +22,14 @@ mod archive {
             used: usize,
             record: *const [u8; RECORD],
         ) -> Answer;
+        pub unsafe fn seddolki_preview(
+            book: *const u8,
+            len: usize,
+            used: usize,
+            record: *const [u8; RECORD],
+            report: *mut u8,
+            report_len: usize,
+        ) -> Answer;
         pub unsafe fn seddolki_strike(
             book: *mut u8,
             len: usize,
@@ -73,6 +81,14 @@ pub fn margin(book: &[u8], used: usize, report: &mut [u8]) -> Answer {
 /// Adds a record behind the last; the value is the new used length.
 pub fn append(book: &mut [u8], used: usize, record: &[u8; RECORD]) -> Answer {
     unsafe { archive::seddolki_append(book.as_mut_ptr(), book.len(), used, record) }
+}
+
+/// Fills the first 512 bytes of the report as a margin would after an append
+/// of the record.
+pub fn preview(book: &[u8], used: usize, record: &[u8; RECORD], report: &mut [u8]) -> Answer {
+    let (bytes, length) = (book.as_ptr(), book.len());
+    let (space, space_length) = (report.as_mut_ptr(), report.len());
+    unsafe { archive::seddolki_preview(bytes, length, used, record, space, space_length) }
 }
 
 /// Removes a record; the value is the new used length.

@@ -2,8 +2,9 @@
 //!
 //! A [`Book`] owns the bytes of an account's curves and trades. It answers
 //! whether they keep every rule, gives and takes single trades, lengthens a
-//! curve by a bond's price, and works out the margin. All of it is done by the
-//! proved engine; this crate lends it bytes and gives its answers names.
+//! curve by a bond's price, and works out the margin, also as it would be with
+//! one more trade. All of it is done by the proved engine; this crate lends it
+//! bytes and gives its answers names.
 //!
 //! Money is in hundredths of the currency, rates and prices are in
 //! millionths, days are counted from today, day 0.
@@ -46,10 +47,10 @@ mod doubles;
 mod ffi;
 mod value;
 
-/// The seven calls as they are in C, over lent bytes. The caller lends the
+/// The eight calls as they are in C, over lent bytes. The caller lends the
 /// bytes, and says how many of them the book uses.
 pub mod lent {
-    pub use crate::ffi::{append, bootstrap, check, margin, present_value, read, strike};
+    pub use crate::ffi::{append, bootstrap, check, margin, present_value, preview, read, strike};
 }
 
 pub use book::Book;

@@ -33,11 +33,45 @@ fn a_book_is_filled_to_the_last_trade_and_emptied_again() {
     }
     let before = book.as_bytes().to_vec();
     assert_eq!(book.append(&trade), Err(Ground::BookSpace.alone()));
+    assert_eq!(book.preview(&trade), Err(Ground::BookSpace.alone()));
     assert_eq!(book.as_bytes(), before);
     for _ in 0..full {
         book.strike(0).unwrap();
     }
     assert_eq!(book.as_bytes(), empty);
+}
+
+#[test]
+fn a_preview_is_the_margin_after_an_append() {
+    for seed in 0..60 {
+        let mut draw = Draw::new(seed);
+        let drawn = draw_book(&mut draw, 100);
+        let trade = draw_record(&mut draw, &drawn.curves, 12);
+        let mut book = Book::from_bytes(assemble(&drawn));
+        let shown = book.preview(&trade);
+        assert_eq!(book.as_bytes(), assemble(&drawn), "seed {seed}");
+        let due = book.append(&trade).and_then(|_| book.margin());
+        assert_eq!(shown, due, "seed {seed}");
+    }
+}
+
+#[test]
+fn every_place_of_a_block_is_previewed() {
+    let mut book = Book::from_bytes(buyer());
+    let trade = book.read(0).unwrap();
+    book.strike(0).unwrap();
+    let places = 0..=2 * FULL_BLOCK;
+    for trades in places.clone() {
+        let shown = book.preview(&trade).unwrap();
+        assert_eq!(shown.curves[0].base, 10_000 * (trades as i64 + 1));
+        book.append(&trade).unwrap();
+        assert_eq!(book.margin().unwrap(), shown);
+    }
+    for last in places.rev() {
+        let shown = book.margin().unwrap();
+        book.strike(last).unwrap();
+        assert_eq!(book.preview(&trade).unwrap(), shown);
+    }
 }
 
 #[test]
@@ -50,6 +84,7 @@ fn a_refused_record_names_the_block_it_would_take() {
     };
     let refusal = book.append(&late).unwrap_err();
     assert_eq!(refusal, Ground::Days.in_block(2));
+    assert_eq!(book.preview(&late), Err(refusal));
     assert_eq!(book.as_bytes(), buyer());
     assert_eq!(
         refusal.to_string(),
@@ -64,6 +99,7 @@ fn any_bytes_can_be_held() {
         let mut book = Book::from_bytes(vec![0; length]);
         assert!(book.check().is_err());
         assert!(book.margin().is_err());
+        assert!(book.preview(&Record::default()).is_err());
         assert!(book.records().is_err());
         assert!(book.read(0).is_err());
         assert!(book.strike(0).is_err());

@@ -78,6 +78,29 @@ fn document_01_example_is_built_by_the_names_of_the_header() {
     }
 }
 
+/// That a program of the folder `c`, by each compiler, prints this for the buyer's book.
+fn assert_prints(program: &str, expected: &str) {
+    let source = format!("host/engine/tests/c/{program}");
+    for compiler in compilers() {
+        let program = Program::build(compiler, &source);
+        assert_eq!(program.prints(&["examples/buyer.book"]), expected);
+    }
+}
+
+#[test]
+fn a_trade_is_previewed_by_the_names_of_the_header() {
+    let expected = "a wrong check: refused by 2 in block 1\n\
+                    a day too late: refused by 9 in block 2\n\
+                    no space for a report: refused by 13 in block 0\n\
+                    a second trade: initial 60000 variation 20000 total -40000\n\
+                    a wrong check: refused by 2 in block 1\n\
+                    a day too late: refused by 9 in block 3\n\
+                    no room for a block: refused by 15 in block 0\n\
+                    no space for a report: refused by 13 in block 0\n\
+                    a tenth trade: initial 300000 variation 100000 total -200000\n";
+    assert_prints("preview.c", expected);
+}
+
 #[test]
 fn a_curve_is_lengthened_by_the_names_of_the_header() {
     let expected = "a curve that the book lacks: refused by 8 in block 0\n\
@@ -89,10 +112,7 @@ fn a_curve_is_lengthened_by_the_names_of_the_header() {
                     an end within the curve: refused by 17 in block 0\n\
                     too little cash: refused by 18 in block 0\n\
                     3 nodes, the last on day 1095 at 250000, moved by 250000 -1 2\n";
-    for compiler in compilers() {
-        let program = Program::build(compiler, "host/engine/tests/c/bootstrap.c");
-        assert_eq!(program.prints(&["examples/buyer.book"]), expected);
-    }
+    assert_prints("bootstrap.c", expected);
 }
 
 /// A line of a type's name, a number, and its bytes.

@@ -15,11 +15,12 @@ use layouts::layouts;
 use std::collections::BTreeSet;
 
 #[test]
-fn the_seven_functions_are_declared() {
+fn the_eight_functions_are_declared() {
     let functions = [
         "check",
         "margin",
         "append",
+        "preview",
         "strike",
         "read",
         "present_value",
@@ -140,6 +141,7 @@ fn compilers_place_the_fields_as_the_format_does() {
 fn a_program_for_another_version_does_not_compile() {
     let program = std::fs::read_to_string(format!("{ROOT}/examples/totals.c")).unwrap();
     let header = "#include \"seddolki.h\"\n";
+    let reason = format!("written for version {}", Header::read().macros()["VERSION"]);
     let other = format!("{header}#undef SEDDOLKI_VERSION\n#define SEDDOLKI_VERSION 0\n");
     assert!(program.contains(header));
     for compiler in compilers().into_iter().filter(|c| c.language == "c") {
@@ -148,7 +150,7 @@ fn a_program_for_another_version_does_not_compile() {
         let output = compiler.run(&["-fsyntax-only", "-"], &changed);
         let said = String::from_utf8_lossy(&output.stderr);
         assert!(!output.status.success(), "{compiler:?}");
-        assert!(said.contains("written for version 1"), "{said}");
+        assert!(said.contains(&reason), "{said}");
     }
 }
 

@@ -8,8 +8,8 @@
 //! `seddolki_margin`, which looks at the book and works out its flows too.
 
 use seddolki_bench::peer::Peer;
-use seddolki_bench::{margin, middle, ratio, repeats, shown, turn_time};
-use seddolki_books::{assemble, full_book, small_book, typical_book};
+use seddolki_bench::{margin, middle, ratio, repeats, shown, sized_books, turn_time};
+use seddolki_books::assemble;
 use seddolki_model::accept::accept;
 use std::error::Error;
 use std::path::Path;
@@ -46,11 +46,8 @@ fn main() -> Done<()> {
 
 fn books(files: &[String]) -> Done<Vec<(String, Vec<u8>)>> {
     if files.is_empty() {
-        return Ok(vec![
-            ("small".into(), assemble(&small_book())),
-            ("typical".into(), assemble(&typical_book())),
-            ("full".into(), assemble(&full_book())),
-        ]);
+        let all = sized_books().map(|(name, book)| (name.into(), assemble(&book)));
+        return Ok(all.into());
     }
     let read = |file: &String| {
         let bytes = std::fs::read(file).map_err(|error| format!("{file}: {error}"))?;

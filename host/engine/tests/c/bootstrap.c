@@ -2,7 +2,7 @@
  * Lengthens the curve of document 01's example, by the names of the header
  * alone, after calls that are refused: bootstrap BOOK
  */
-#include "expect.h"
+#include "load.h"
 #include "seddolki.h"
 
 #include <inttypes.h>
@@ -124,12 +124,8 @@ static void compare_bonds(void) {
 }
 
 int main(int count, char **names) {
-    FILE *file;
     expect(count == 2, "bootstrap BOOK");
-    file = fopen(names[1], "rb");
-    expect(file != NULL, names[1]);
-    expect(fread(book, 1, sizeof book, file) == sizeof book, "the file has 3 blocks");
-    fclose(file);
+    load(names[1], book, BLOCKS);
     memcpy(before, book, sizeof book);
     print_refusals();
     lengthen();

@@ -2,7 +2,7 @@
  * Document 01's example: its book built, margined and emptied again by the
  * names of the header alone, and compared with a file: example_book BOOK
  */
-#include "expect.h"
+#include "load.h"
 #include "seddolki.h"
 
 #include <inttypes.h>
@@ -60,12 +60,9 @@ static void append(seddolki_block book[3], const seddolki_record *trade) {
 }
 
 static void compare(const seddolki_block book[3], const char *name) {
-    static uint8_t bytes[SEDDOLKI_LARGEST_BOOK];
-    FILE *file = fopen(name, "rb");
-    expect(file != NULL, name);
-    expect(fread(bytes, 1, sizeof bytes, file) == 3 * sizeof *book, "the file has 3 blocks");
-    fclose(file);
-    expect(!memcmp(book, bytes, 3 * sizeof *book), "the book is that of the file");
+    seddolki_block file[3];
+    load(name, file, 3);
+    expect(!memcmp(book, file, sizeof file), "the book is that of the file");
 }
 
 static void print_curves(const seddolki_report *report) {
