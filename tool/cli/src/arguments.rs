@@ -14,7 +14,8 @@ pub const DAY: &str = "  seddolki template curves curves.txt
 
 /// What an exit status says.
 pub const STATUSES: &str = "  0  done
-  1  refused, by a ground of the engine or by a rule of what was put in
+  1  refused, by a ground of the engine, by a rule of what was put in, or by
+     whoever was asked
   2  wrong usage
   3  a file or the system failed; nothing has changed
 
@@ -44,6 +45,8 @@ pub enum Command {
     Append(Append),
     /// Add the trades of a CSV file, all of them or none
     Import(Import),
+    /// Show the margin before and after trades that are not added
+    Preview(Preview),
     /// Change columns of the trade at a position
     Amend(Amend),
     /// Remove the trade at a position
@@ -80,6 +83,11 @@ pub enum Command {
 fn columns() -> String {
     let meanings = seddolki_text::meanings(&seddolki_text::trade_columns());
     format!("{meanings}\n{}", seddolki_text::uses())
+}
+
+/// What a preview shows, and the columns of a trade.
+fn preview_help() -> String {
+    format!("{}\n{}", crate::commands::preview::FORM, columns())
 }
 
 /// The columns of a bond, and what becomes of it.
@@ -143,6 +151,18 @@ pub struct Again {
     pub again: bool,
 }
 
+/// Of the commands that add trades.
+#[derive(Args, Clone, Copy, Debug)]
+pub struct Adding {
+    /// Show the margin before and after, and ask whether to add
+    #[arg(long)]
+    pub preview: bool,
+    #[command(flatten)]
+    pub again: Again,
+    #[command(flatten)]
+    pub waiting: Waiting,
+}
+
 #[derive(Args, Debug)]
 #[command(after_help = columns())]
 pub struct Append {
@@ -152,9 +172,7 @@ pub struct Append {
     #[arg(required = true, value_name = "COLUMN=VALUE")]
     pub values: Vec<String>,
     #[command(flatten)]
-    pub again: Again,
-    #[command(flatten)]
-    pub waiting: Waiting,
+    pub adding: Adding,
 }
 
 #[derive(Args, Debug)]
@@ -165,9 +183,22 @@ pub struct Import {
     /// The file of trades; - is standard input
     pub trades: PathBuf,
     #[command(flatten)]
-    pub again: Again,
+    pub adding: Adding,
+}
+
+#[derive(Args, Debug)]
+#[command(after_help = preview_help())]
+pub struct Preview {
     #[command(flatten)]
-    pub waiting: Waiting,
+    pub one: OneBook,
+    /// Every column that the trade uses; the others are left out
+    #[arg(value_name = "COLUMN=VALUE", required_unless_present = "trades")]
+    pub values: Vec<String>,
+    /// The trades of a file, in place of columns; - is standard input
+    #[arg(long, value_name = "FILE", conflicts_with = "values")]
+    pub trades: Option<PathBuf>,
+    #[command(flatten)]
+    pub form: Form,
 }
 
 #[derive(Args, Debug)]

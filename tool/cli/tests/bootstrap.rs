@@ -4,7 +4,7 @@ mod tool;
 
 use seddolki_format::block::{Curve, Node, BLOCK};
 use seddolki_format::layout::Layout;
-use tool::{example, Desk, DONE, FAILED, LENGTHEN, MISUSED, REFUSED};
+use tool::{commands, example, Desk, DONE, FAILED, LENGTHEN, MISUSED, REFUSED};
 
 /// The handbook's bond, of a million.
 const HANDBOOK: &str = "bootstrap handbook.book --curve 1 --cash 990000 --components 1 0 0 \
@@ -276,14 +276,6 @@ fn a_lock_is_waited_for() {
     desk.done(&[&LENGTHEN[..], &["--wait", "0", "--dry-run"]].concat());
     drop(held);
     desk.done(&LENGTHEN);
-}
-
-/// The commands of a help text, each of which may go over several lines.
-fn commands(help: &str) -> Vec<String> {
-    let joined = help.replace("\\\n", " ");
-    let lines = joined.lines().map(str::trim);
-    let commands = lines.filter_map(|line| line.strip_prefix("seddolki "));
-    commands.map(str::to_owned).collect()
 }
 
 #[test]

@@ -20,14 +20,29 @@ fn commands(text: &str) -> Vec<&str> {
     day.expect("five commands").to_vec()
 }
 
-fn margin_of_the_day(commands: &[&str]) -> String {
-    let desk = Desk::new();
+/// Runs a command without its first word, which is the tool.
+fn run(desk: &Desk, command: &str) -> String {
+    desk.done(&command.split_whitespace().skip(1).collect::<Vec<_>>())
+}
+
+fn margin_of_the_day(desk: &Desk, commands: &[&str]) -> String {
     let mut last = String::new();
     for command in commands {
-        let words: Vec<&str> = command.split_whitespace().skip(1).collect();
-        last = desk.done(&words);
+        last = run(desk, command);
     }
     last
+}
+
+/// Runs the first command of the README that starts so.
+fn run_readme(desk: &Desk, start: &str) -> String {
+    let joined = README.replace("\\\n", " ");
+    let line = joined.lines().find(|line| line.starts_with(start));
+    run(desk, line.expect("the README has it"))
+}
+
+fn assert_readme_shows(printed: &str) {
+    let block = format!("```text\n{printed}```");
+    assert!(README.contains(&block), "{printed}");
 }
 
 #[test]
@@ -38,7 +53,7 @@ fn the_help_shows_a_day_that_runs_as_written() {
         "{help}"
     );
     assert!(help.contains("\n  0  done\n"), "{help}");
-    let margin = margin_of_the_day(&commands(&help));
+    let margin = margin_of_the_day(&Desk::new(), &commands(&help));
     assert!(
         margin.starts_with("account ") && margin.contains("\ncurrency"),
         "{margin}"
@@ -48,8 +63,14 @@ fn the_help_shows_a_day_that_runs_as_written() {
 
 #[test]
 fn the_readme_shows_the_margin_that_the_day_ends_with() {
-    let margin = margin_of_the_day(&commands(README));
-    assert!(README.contains(&margin), "{margin}");
+    assert_readme_shows(&margin_of_the_day(&Desk::new(), &commands(README)));
+}
+
+#[test]
+fn the_readme_shows_the_margin_with_its_trade() {
+    let desk = Desk::new();
+    margin_of_the_day(&desk, &commands(README));
+    assert_readme_shows(&run_readme(&desk, "seddolki preview desk.book"));
 }
 
 #[test]
@@ -58,18 +79,8 @@ fn the_readme_shows_the_node_that_its_bond_adds() {
     std::fs::create_dir(desk.path("examples")).unwrap();
     let curve = "examples/handbook-curve.txt";
     std::fs::copy(example("handbook-curve.txt"), desk.path(curve)).unwrap();
-    let joined = README.replace("\\\n", " ");
-    let run = |start: &str| {
-        let line = joined.lines().find(|line| line.starts_with(start));
-        let command = line.expect("the README has it");
-        desk.done(&command.split_whitespace().skip(1).collect::<Vec<_>>())
-    };
-    run("seddolki new handbook.book");
-    let printed = run("seddolki bootstrap handbook.book");
-    assert!(
-        README.contains(&format!("```text\n{printed}```")),
-        "{printed}"
-    );
+    run_readme(&desk, "seddolki new handbook.book");
+    assert_readme_shows(&run_readme(&desk, "seddolki bootstrap handbook.book"));
 }
 
 #[test]
@@ -106,7 +117,7 @@ fn every_command_has_help_a_place_in_the_manual_and_completions() {
         .take_while(|line| !line.is_empty())
         .filter_map(|line| line.split_whitespace().next())
         .collect();
-    assert_eq!(names.len(), 20, "{names:?}");
+    assert_eq!(names.len(), 21, "{names:?}");
     for name in names.iter().filter(|name| **name != "help") {
         assert!(desk
             .done(&[name, "--help"])
@@ -140,6 +151,8 @@ fn files_are_completed_where_books_are_due_and_options_behind_dashes() {
     // bash offers files where nothing else is
     assert_eq!(completed("seddolki check ''"), "\n");
     assert_eq!(completed("seddolki append desk.book ''"), "\n");
+    assert_eq!(completed("seddolki preview desk.book ''"), "\n");
+    assert_eq!(completed("seddolki preview desk.book --tr"), "--trades\n");
     assert_eq!(completed("seddolki check --d"), "--doubles\n");
     assert_eq!(completed("seddolki template c"), "curves\n");
     assert_eq!(completed("seddolki mar"), "margin\n");

@@ -19,13 +19,7 @@ const REPO: [&str; 9] = [
 
 /// With some of its columns otherwise.
 fn repo_with(changed: &[&str]) -> Vec<String> {
-    let name = |value: &str| value.split('=').next().unwrap().to_owned();
-    let kept = REPO
-        .iter()
-        .filter(|value| changed.iter().all(|other| name(other) != name(value)));
-    kept.chain(changed)
-        .map(|value| (*value).to_owned())
-        .collect()
+    tool::changed(&REPO, changed)
 }
 
 fn append(desk: &Desk, trade: &[String], more: &[&str]) -> tool::Run {
@@ -125,6 +119,31 @@ fn the_first_leg_behind_its_settled_one_is_found_too() {
         "{}",
         run.err
     );
+}
+
+#[test]
+fn a_wrong_trade_that_looks_keyed_twice_is_told_as_both() {
+    let desk = with_repo();
+    let settled = [
+        "phase=3",
+        "value_day_1=0",
+        "security=single payment",
+        "security_curve=1",
+        "nominal=110000",
+        "first_payment_day=7",
+    ];
+    let run = append(&desk, &repo_with(&settled), &[]);
+    assert_eq!(run.status, REFUSED);
+    let lines: Vec<&str> = run.err.lines().collect();
+    // the engine's ground first
+    for (line, words) in lines.iter().zip([
+        "column first_payment_day: 7 is there, 8 to 10,950 is due",
+        "the new trade is the second leg of trade 11",
+    ]) {
+        assert!(line.contains(words), "{}", run.err);
+    }
+    assert_eq!(lines.len(), 5, "{}", run.err);
+    assert_eq!(desk.trades("desk.book"), 12);
 }
 
 #[test]

@@ -224,11 +224,7 @@ fn the_right_column_is_blamed() {
 #[test]
 fn a_full_book_is_said_to_be_full() {
     let desk = Desk::with("empty.book");
-    let head = "kind,side,cash_curve,security,security_curve,nominal,value_day_1,\
-                first_payment_day,clean_price,accrued\n";
-    let lines = (1..=1_134)
-        .map(|nominal| format!("outright,buyer,1,single payment,1,{nominal},0,9,99,0\n"));
-    desk.write("full.csv", head.to_owned() + &lines.collect::<String>());
+    desk.write("full.csv", tool::outrights(1_134));
     desk.run(&["import", "empty.book", "full.csv"]);
     assert_eq!(desk.trades("empty.book"), 1_134);
     let run = desk.append("empty.book", &tool::outright(5_000));

@@ -4,7 +4,7 @@ mod tool;
 
 use std::fs;
 use std::os::unix::fs::symlink;
-use tool::{Desk, DONE, FAILED, LENGTHEN};
+use tool::{example, Desk, DONE, FAILED, LENGTHEN};
 
 /// Each command that reads a book and writes a file, with the file's name to
 /// come behind.
@@ -110,7 +110,10 @@ fn what_is_printed_does_not_go_into_a_book_that_is_read() {
     let desk = Desk::with("desk.book");
     let before = desk.read("desk.book");
     symlink("desk.book", desk.path("link")).unwrap();
+    let trades = example("seller.csv");
     for (command, output) in [
+        (&*format!("preview desk.book --trades '{trades}'"), "link"),
+        (&format!("import --preview desk.book '{trades}'"), "link"),
         ("check desk.book", "link"),
         ("margin link", "desk.book"),
         ("export desk.book", "desk.book"),

@@ -37,6 +37,10 @@ fn commands() -> Vec<(&'static str, Vec<&'static str>)> {
             "check --doubles",
             vec!["check", "--doubles", "doubled.book"],
         ),
+        (
+            "preview",
+            vec!["preview", "desk.book", "--trades", "seller.csv"],
+        ),
         ("show", vec!["show", "desk.book"]),
         ("margin", vec!["margin", "desk.book", "buyer.book"]),
         ("flows", vec!["flows", "desk.book"]),
@@ -48,7 +52,9 @@ fn commands() -> Vec<(&'static str, Vec<&'static str>)> {
 
 fn desk() -> Desk {
     let desk = Desk::with("desk.book");
-    std::fs::copy(tool::example("buyer.book"), desk.path("buyer.book")).unwrap();
+    for name in ["buyer.book", "seller.csv"] {
+        std::fs::copy(tool::example(name), desk.path(name)).unwrap();
+    }
     std::fs::copy(tool::example("buyer.book"), desk.path("doubled.book")).unwrap();
     desk.run(&[
         "import",

@@ -8,6 +8,9 @@ use std::os::fd::AsFd;
 use std::os::unix::fs::{FileTypeExt, MetadataExt};
 use std::path::Path;
 
+/// The name of standard input in messages.
+pub const STANDARD_INPUT: &str = "standard input";
+
 /// What a command has read, and which file it was.
 #[derive(Debug)]
 pub struct Input {
@@ -43,8 +46,7 @@ fn stored(file: &Metadata) -> Option<Identity> {
 /// many bytes and one more, which tells that there are too many.
 pub fn read_at_most(path: &Path, most: usize) -> Result<Input, Failure> {
     let (name, opened) = if is_standard_stream(path) {
-        let stream = io::stdin().as_fd().try_clone_to_owned();
-        (Path::new("standard input"), stream.map(File::from))
+        (Path::new(STANDARD_INPUT), standard_input())
     } else {
         (path, File::open(path))
     };
@@ -57,6 +59,24 @@ pub fn read_at_most(path: &Path, most: usize) -> Result<Input, Failure> {
         bytes: bytes_of(&file, most).map_err(Failure::of(name))?,
         file: stored(&metadata),
     })
+}
+
+/// Reads a line of standard input with its end, at most so many bytes of it.
+/// What follows is left to whoever reads next.
+pub fn read_line(most: usize) -> Result<Vec<u8>, Failure> {
+    let failed = Failure::of(Path::new(STANDARD_INPUT));
+    let input = standard_input().map_err(&failed)?;
+    let mut line = vec![];
+    while line.len() < most && !line.ends_with(b"\n") {
+        if (&input).take(1).read_to_end(&mut line).map_err(&failed)? == 0 {
+            break;
+        }
+    }
+    Ok(line)
+}
+
+fn standard_input() -> io::Result<File> {
+    io::stdin().as_fd().try_clone_to_owned().map(File::from)
 }
 
 /// Refuses a file that standard output goes to, and would be printed into.

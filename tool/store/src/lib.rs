@@ -17,7 +17,7 @@ mod temporary;
 pub use create::create;
 pub use edit::edit;
 pub use failure::Failure;
-pub use input::{read_at_most, Input};
+pub use input::{read_at_most, read_line, Input, STANDARD_INPUT};
 pub use lock::Patience;
 pub use output::{print, write_output};
 pub use shown::{is_hidden, shown};

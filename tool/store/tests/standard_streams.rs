@@ -4,7 +4,7 @@
 mod common;
 
 use common::{folder_with, given, state, AT_ONCE};
-use seddolki_store::{read_at_most, write_output, Failure};
+use seddolki_store::{read_at_most, read_line, write_output, Failure};
 use std::fs::{self, File};
 use std::io::{Seek, Write};
 use std::path::Path;
@@ -14,6 +14,11 @@ use std::process::{exit, Command, Output, Stdio};
 const MOST: usize = 10;
 
 fn main() {
+    if std::env::var_os("LINE").is_some() {
+        let line = read_line(MOST).unwrap();
+        std::io::stdout().write_all(&line).unwrap();
+        return;
+    }
     if let Some(output) = given() {
         let input = std::env::var_os("INPUT").unwrap();
         if let Err(failure) = copy(Path::new(&input), &output) {
@@ -24,6 +29,7 @@ fn main() {
     }
     an_input_goes_through_from_pipe_to_pipe();
     standard_input_is_bounded();
+    a_line_is_read_and_what_follows_is_left();
     standard_output_may_be_a_file();
     a_full_standard_output_is_told_and_a_closed_one_wants_no_more();
     standard_output_is_no_input();
@@ -70,6 +76,18 @@ fn standard_input_is_bounded() {
     assert_eq!(output.stdout, b"xxxxxxxxxxx");
     // what follows is left to whoever reads next
     assert_eq!(file.stream_position().unwrap(), MOST as u64 + 1);
+}
+
+fn a_line_is_read_and_what_follows_is_left() {
+    let (_folder, path) = folder_with("answers", b"y\nno\n\n0123456789 and more");
+    let file = File::open(&path).unwrap();
+    for line in ["y\n", "no\n", "\n", "0123456789", " and more", "", ""] {
+        let mut command = Command::new("/proc/self/exe");
+        let command = command.env("LINE", "").stdin(file.try_clone().unwrap());
+        let output = command.output().unwrap();
+        assert!(output.status.success(), "{output:?}");
+        assert_eq!(output.stdout, line.as_bytes());
+    }
 }
 
 fn standard_output_may_be_a_file() {

@@ -25,7 +25,8 @@ pub fn run(arguments: &Amend) -> Result<u8, Ended> {
         *book = judged(&name, &parts, &record)?;
         let doubles = doubles_at(&parts.trades, position);
         let named = |trade: &Placed| trade.to_string();
-        Ok((record, Told::of(&doubles, arguments.again.again, named)?))
+        let told = Told::of(&doubles, named);
+        Ok((record, told.unless_wrong(vec![], arguments.again)?))
     })?;
     let words = words::trade(&record);
     print::notice(&format!("{name}: trade {position} is now: {words}"));

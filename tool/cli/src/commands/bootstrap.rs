@@ -3,7 +3,7 @@
 use crate::arguments::{Bootstrap, Output};
 use crate::ended::{Ended, DONE};
 use crate::figures::lengthened::Lengthened;
-use crate::files::books::{accepted, edit, is_dash};
+use crate::files::books::{accepted, edit, is_dash, name_of};
 use crate::files::outputs;
 use crate::printed::print;
 use crate::printed::table::Table;
@@ -108,7 +108,7 @@ fn keyed(arguments: &Bootstrap) -> Result<Quote, Ended> {
         (bond, cash, components) => {
             let wrong = [bond.err(), cash.err(), components.err()];
             let faults: Vec<Fault> = wrong.into_iter().flatten().flatten().collect();
-            Err(faults_told(&shown(&arguments.book), &faults))
+            Err(faults_told(&name_of(&arguments.book), &faults))
         }
     }
 }

@@ -16,6 +16,7 @@ mod man;
 pub mod margin;
 mod new;
 mod plot;
+pub mod preview;
 mod show;
 mod strike;
 mod template;
@@ -29,6 +30,7 @@ pub fn run(command: Command) -> Result<u8, Ended> {
         Command::New(arguments) => new::run(&arguments),
         Command::Append(arguments) => append::run(&arguments),
         Command::Import(arguments) => import::run(&arguments),
+        Command::Preview(arguments) => preview::run(&arguments),
         Command::Amend(arguments) => amend::run(&arguments),
         Command::Strike(arguments) => strike::run(&arguments),
         Command::Curves(arguments) => curves::run(&arguments),

@@ -2,3 +2,4 @@
 
 mod common_run;
 pub mod differences;
+pub mod margins;

@@ -88,10 +88,7 @@ pub fn edit<T>(
     waiting: Waiting,
     change: impl FnOnce(&mut Book, accept::Book) -> Result<T, Ended>,
 ) -> Result<T, Ended> {
-    if is_dash(path) {
-        let reason = "an edit takes a book in a file, and not standard input";
-        return Err(Ended::Misused(reason.into()));
-    }
+    refuse_dash(path)?;
     let name = shown(path);
     let edited = store::edit(path, LARGEST, &patience(waiting), |bytes| {
         let mut book = Book::from_bytes(bytes);
@@ -121,6 +118,21 @@ pub fn patience(waiting: Waiting) -> Patience<'static> {
 
 pub fn is_dash(path: &Path) -> bool {
     path == Path::new("-")
+}
+
+/// The name of a book or a text that is read.
+pub fn name_of(path: &Path) -> String {
+    let stream = is_dash(path).then(|| store::STANDARD_INPUT.into());
+    stream.unwrap_or_else(|| shown(path))
+}
+
+/// Where a book is to be edited.
+pub fn refuse_dash(path: &Path) -> Result<(), Ended> {
+    if is_dash(path) {
+        let reason = "an edit takes a book in a file, and not standard input";
+        return Err(Ended::Misused(reason.into()));
+    }
+    Ok(())
 }
 
 /// Standard input can be read once.

@@ -3,4 +3,5 @@
 pub mod form;
 pub mod print;
 pub mod progress;
+pub mod question;
 pub mod table;

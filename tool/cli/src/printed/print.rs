@@ -4,10 +4,14 @@ use crate::ended::Ended;
 use seddolki_store as store;
 use std::io::{self, Write};
 
-/// A line on standard error. If it cannot be written it is lost, and no more.
+/// A line on standard error.
 pub fn say(line: &str) {
-    let line = format!("seddolki: {}\n", visible(line));
-    let _ = io::stderr().write_all(line.as_bytes());
+    prompt(&format!("seddolki: {line}\n"));
+}
+
+/// A text on standard error. If it cannot be written it is lost, and no more.
+pub fn prompt(text: &str) {
+    let _ = io::stderr().write_all(visible(text).as_bytes());
 }
 
 /// What a command was asked for, on standard output.

@@ -1,5 +1,6 @@
 //! Trades that look keyed twice.
 
+use crate::arguments::Again;
 use crate::ended::Ended;
 use crate::printed::print;
 use crate::trades::words;
@@ -15,40 +16,69 @@ taken: a trade that differs from another in one field only, and one that is
 another's opposite side.";
 
 /// What is said behind every refusal of a double.
-pub const MEANT: &str = "nothing is changed; say --again if it is meant";
+const MEANT: &str = "nothing is changed; say --again if it is meant";
 
 /// What is said of some doubles: each with what is alike, and its two trades.
 #[derive(Debug, Default)]
 pub struct Told {
-    lines: Vec<String>,
+    /// Of those that are refused unless they are meant.
+    refused: Vec<String>,
+    /// Of the others.
+    taken: Vec<String>,
 }
 
 impl Told {
-    /// Refuses what looks keyed twice, unless it is meant; the rest is to be
-    /// told. A trade is named by its place.
-    pub fn of(
-        doubles: &[Double],
-        again: bool,
-        named: impl Fn(&Placed) -> String,
-    ) -> Result<Self, Ended> {
+    /// A trade is named by its place.
+    pub fn of(doubles: &[Double], named: impl Fn(&Placed) -> String) -> Self {
         let lines = |refused: bool| -> Vec<String> {
             let own = doubles.iter().filter(|d| d.likeness.refused() == refused);
             own.flat_map(|double| double_lines(double, &named))
                 .collect()
         };
-        let refused = lines(true);
-        if !again && !refused.is_empty() {
-            let mut lines = refused;
-            lines.push(MEANT.into());
-            return Err(Ended::Refused(lines));
+        Told {
+            refused: lines(true),
+            taken: lines(false),
         }
-        let lines = [refused, lines(false)].concat();
-        Ok(Told { lines })
+    }
+
+    /// One line, of what is refused unless it is meant.
+    pub fn refusing(line: String) -> Self {
+        Told {
+            refused: vec![line],
+            taken: vec![],
+        }
+    }
+
+    /// Refuses what is wrong and, unless it is meant, what looks keyed twice,
+    /// both at once; else all is to be told.
+    pub fn unless_wrong(self, wrong: Vec<String>, again: Again) -> Result<Self, Ended> {
+        let mut lines = wrong;
+        if !again.again && !self.refused.is_empty() {
+            lines.extend_from_slice(&self.refused);
+            lines.push(MEANT.into());
+        }
+        if lines.is_empty() {
+            return Ok(self);
+        }
+        Err(Ended::Refused(lines))
     }
 
     /// Says it, once the edit is done.
     pub fn say(&self) {
-        self.lines.iter().for_each(|line| print::say(line));
+        self.say_with(None);
+    }
+
+    /// Says it where nothing is edited, with what the command would make of
+    /// it that edits.
+    pub fn say_beforehand(&self, command: &str) {
+        let refused = !self.refused.is_empty();
+        let verdict = format!("{command} would refuse this unless --again is said");
+        self.say_with(refused.then_some(verdict));
+    }
+
+    fn say_with(&self, verdict: Option<String>) {
+        let lines = self.refused.iter().chain(&verdict).chain(&self.taken);
+        lines.for_each(|line| print::say(line));
     }
 }
 

@@ -1,6 +1,9 @@
-//! Trades that are keyed, refused, doubled, and put in words.
+//! Trades that are keyed, added, refused, doubled, and put in words.
 
+pub mod adding;
 pub mod keyed;
 pub mod keyed_twice;
+mod lines;
+pub mod new_trades;
 pub mod refusal;
 pub mod words;

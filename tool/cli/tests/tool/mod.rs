@@ -3,6 +3,7 @@
 #![allow(dead_code)] // no test uses all of it
 
 use std::fs::{self, File};
+use std::io::{Seek, Write};
 use std::os::unix::process::ExitStatusExt;
 use std::path::{Path, PathBuf};
 use std::process::{Command, Output, Stdio};
@@ -56,6 +57,33 @@ pub fn outright(nominal: u32) -> Vec<String> {
         "accrued=0",
     ];
     words.map(str::to_owned).to_vec()
+}
+
+/// The values of a trade with some columns otherwise.
+pub fn changed(values: &[impl AsRef<str>], changed: &[&str]) -> Vec<String> {
+    let name = |value: &str| value.split('=').next().unwrap().to_owned();
+    let values = values.iter().map(AsRef::as_ref);
+    let kept = values.filter(|value| changed.iter().all(|other| name(other) != name(value)));
+    kept.chain(changed.iter().copied())
+        .map(str::to_owned)
+        .collect()
+}
+
+/// A file of so many trades that fit the curve of buyer.book, each of another
+/// nominal.
+pub fn outrights(count: u32) -> String {
+    let head = "kind,side,cash_curve,security,security_curve,nominal,value_day_1,\
+                first_payment_day,clean_price,accrued\n";
+    let line = |nominal: u32| format!("outright,buyer,1,single payment,1,{nominal},0,9,99,0\n");
+    head.to_owned() + &(1..=count).map(line).collect::<String>()
+}
+
+/// The commands of a help text, each of which may go over several lines.
+pub fn commands(help: &str) -> Vec<String> {
+    let joined = help.replace("\\\n", " ");
+    let lines = joined.lines().map(str::trim);
+    let commands = lines.filter_map(|line| line.strip_prefix("seddolki "));
+    commands.map(str::to_owned).collect()
 }
 
 /// Lengthens the first curve of desk.book by a bond's price.
@@ -130,6 +158,14 @@ impl Desk {
         finish(&mut self.tool(arguments))
     }
 
+    /// Runs with this on standard input.
+    pub fn run_with<S: AsRef<std::ffi::OsStr>>(&self, input: &str, arguments: &[S]) -> Run {
+        let mut file = tempfile::tempfile().unwrap();
+        file.write_all(input.as_bytes()).unwrap();
+        file.rewind().unwrap();
+        finish(self.tool(arguments).stdin(file))
+    }
+
     /// Runs, and expects it done with no word on standard error.
     pub fn done<S: AsRef<std::ffi::OsStr> + std::fmt::Debug>(&self, arguments: &[S]) -> String {
         let run = self.run(arguments);
@@ -188,13 +224,18 @@ pub fn tool() -> &'static Path {
     Path::new(env!("CARGO_BIN_EXE_seddolki"))
 }
 
-/// Runs to the end. A panic ends with 101, which no test expects.
+/// Runs to the end.
 pub fn finish(command: &mut Command) -> Run {
+    ended(command.output().unwrap())
+}
+
+/// A run that has ended. A panic ends with 101, which no test expects.
+pub fn ended(output: Output) -> Run {
     let Output {
         status,
         stdout,
         stderr,
-    } = command.output().unwrap();
+    } = output;
     let code = status.code().or(status.signal().map(|signal| 128 + signal));
     Run {
         status: code.unwrap(),

@@ -1,0 +1,178 @@
+//! Trades that are to be added to a book: one that was keyed, or those of a
+//! file.
+
+use crate::arguments::Again;
+use crate::compared::margins::Margins;
+use crate::ended::Ended;
+use crate::files::books::{name_of, one_stream, text, BookFile};
+use crate::trades::keyed::{faults_told, named_values};
+use crate::trades::keyed_twice::Told;
+use crate::trades::lines::Lines;
+use crate::trades::refusal::record_refused;
+use crate::trades::words;
+use seddolki::{doubles_among, stands_already, Book, Ground, Placed, Record, Refusal};
+use seddolki_format::block::Curve;
+use seddolki_format::text::count;
+use seddolki_model::accept;
+use seddolki_text::trade::record_of;
+use seddolki_text::{trade_columns, trades_file, Decimals};
+use std::path::Path;
+
+pub struct NewTrades {
+    /// The name of the book that they are for.
+    pub book: String,
+    records: Vec<Record>,
+    /// Of a file; none where a trade was keyed.
+    lines: Option<Lines>,
+}
+
+impl NewTrades {
+    /// The trade that was keyed, by its columns.
+    pub fn keyed(book: &Path, values: &[String]) -> Result<Self, Ended> {
+        let book = name_of(book);
+        let given = named_values(&trade_columns(), values)?;
+        let record = record_of(&given, Decimals::Point);
+        let record = record.map_err(|faults| faults_told(&book, &faults))?;
+        Ok(NewTrades {
+            book,
+            records: vec![record],
+            lines: None,
+        })
+    }
+
+    /// The trades of a file.
+    pub fn of_file(book: &Path, file: &Path) -> Result<Self, Ended> {
+        one_stream(&[book, file])?;
+        let input = text(file)?;
+        let read = trades_file::read(&input.bytes);
+        let read = read.map_err(|faults| faults_told(&input.name, &faults))?;
+        Ok(NewTrades {
+            book: name_of(book),
+            records: read.trades.iter().map(|trade| trade.record).collect(),
+            lines: Some(Lines::of(input.name, &read)),
+        })
+    }
+
+    pub fn count(&self) -> usize {
+        self.records.len()
+    }
+
+    /// The command that adds them.
+    pub fn command(&self) -> &'static str {
+        self.lines.as_ref().map_or("append", |_| "import")
+    }
+
+    /// Which are added from a position on, in words; a verb says whether they
+    /// are by now.
+    pub fn in_words(&self, first: usize, verb: impl Fn(usize) -> &'static str) -> String {
+        let (book, trades) = (&self.book, self.count());
+        let verb = verb(trades);
+        match (&self.lines, trades) {
+            (None, _) => {
+                let words = words::trade(&self.records[0]);
+                format!("{book}: trade {first} {verb} added: {words}")
+            }
+            (_, 0) => format!("{book}: no trade {verb} added"),
+            (_, 1) => format!("{book}: 1 trade {verb} added, at position {first}"),
+            _ => {
+                let last = first + trades - 1;
+                let trades = count(trades, "trade");
+                format!("{book}: {trades} {verb} added, at positions {first} to {last}")
+            }
+        }
+    }
+
+    /// Appends all of them to a book with these parts. Every one that is wrong
+    /// is told, and those that look keyed twice.
+    pub fn add_to(
+        &self,
+        book: &mut Book,
+        parts: &accept::Book,
+        again: Again,
+    ) -> Result<Told, Ended> {
+        let wrong = self.wrong(&parts.curves, |_, record| book.append(record).map(drop));
+        self.told(&parts.trades, again).unless_wrong(wrong, again)
+    }
+
+    /// The margin of a book without and with them. None is added to it: the
+    /// last is previewed on a copy that has the others.
+    pub fn margins(&self, file: &BookFile) -> Result<Margins, Ended> {
+        let before = file.margin()?;
+        let (mut copy, mut after) = (file.book.clone(), before);
+        let wrong = self.wrong(&file.parts.curves, |place, record| {
+            if place + 1 < self.count() {
+                return copy.append(record).map(drop);
+            }
+            after = copy.preview(record)?;
+            Ok(())
+        });
+        if wrong.is_empty() {
+            return Ok(Margins { before, after });
+        }
+        Err(Ended::Refused(wrong))
+    }
+
+    /// All that is wrong with them, where each is given to the engine so.
+    fn wrong(
+        &self,
+        curves: &[Curve],
+        mut give: impl FnMut(usize, &Record) -> Result<(), Refusal>,
+    ) -> Vec<String> {
+        let mut refused = vec![];
+        for (place, record) in self.records.iter().enumerate() {
+            if let Err(refusal) = give(place, record) {
+                refused.push((place, record_refused(record, curves, refusal)));
+                if refusal.ground == Ground::BookSpace {
+                    break;
+                }
+            }
+        }
+        match &self.lines {
+            Some(lines) => lines.wrong(refused),
+            None => {
+                let told = |(_, reason)| format!("{}: {reason}", self.book);
+                refused.into_iter().map(told).collect()
+            }
+        }
+    }
+
+    /// What is said of those that look keyed twice, beside the trades of a
+    /// book; of a file that was imported before, unless that is meant, no more
+    /// than this.
+    pub fn told(&self, trades: &[Record], again: Again) -> Told {
+        match self.imported_already(trades).filter(|_| !again.again) {
+            Some(reason) => Told::refusing(reason),
+            None => {
+                let named = |trade: &Placed| self.named(trade, trades.len());
+                Told::of(&doubles_among(trades, &self.records), named)
+            }
+        }
+    }
+
+    /// A trade of the book by its position, a new one by its line.
+    fn named(&self, trade: &Placed, standing: usize) -> String {
+        match (trade.position.checked_sub(standing), &self.lines) {
+            (None, _) => trade.to_string(),
+            (Some(_), None) => "the new trade".into(),
+            (Some(place), Some(lines)) => lines.named(place),
+        }
+    }
+
+    /// Where the trades of a file stand in the book, if all of them do.
+    fn imported_already(&self, trades: &[Record]) -> Option<String> {
+        let lines = self.lines.as_ref().filter(|lines| lines.are_right())?;
+        let standing = stands_already(trades, &self.records)?;
+        let (name, book) = (&lines.name, &self.book);
+        let words = "imported already: all its trades stand in";
+        Some(format!("{name}: {words} {book}, {standing}"))
+    }
+}
+
+/// The verb for so many trades that are added.
+pub fn is_or_are(trades: usize) -> &'static str {
+    if trades > 1 {
+        "are"
+    } else {
+        "is"
+    }
+}
