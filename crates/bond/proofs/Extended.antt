@@ -11,7 +11,7 @@ use Rattle.curve.specs.Lengthen.{lengthenedCurve, atRate}
 use Rattle.curve.specs.Limits.{highestRate, Proper}
 use Rattle.curve.specs.Rates.{nodesOf}
 use Rattle.curve.proofs.Lengthened.{limits-at-rate, nodes-lengthened, proper-lengthened}
-use Rattle.flows.specs.Legs.{flowOf, legFlows}
+use Rattle.legs.specs.Runs.{flowOf, legFlows}
 use Rattle.bond.specs.declared.value.Extension.{Extension}
 use Rattle.bond.specs.Limits.{Prepared}
 use Rattle.bond.specs.Value.{bondValue, bondValueAt}

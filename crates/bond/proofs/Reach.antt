@@ -3,8 +3,8 @@ use Prim.Native.Nat.{ℕ, _+_, _≤_, _<_}
 use native.Mathlib.Nat.{mul-le-mul-right}
 use native.Mathlib.Omega.{arith}
 use borrow.Author.Count.{below-more}
-use Rattle.flows.specs.declared.Leg.{Leg}
-use Rattle.flows.specs.Legs.{flowOf}
+use Rattle.legs.specs.declared.Leg.{Leg}
+use Rattle.legs.specs.Runs.{flowOf}
 use Rattle.bond.specs.Limits.{PaymentsUpTo}
 
 -- the first k do

@@ -23,9 +23,9 @@ use Rattle.curve.specs.Limits.{Proper}
 use Rattle.curve.specs.Rates.{nodesOf, rateAt}
 use Rattle.curve.proofs.Lengthened.{rate-up-to-end}
 use Rattle.curve.proofs.Rates.{curve-rate-limit}
-use Rattle.flows.specs.declared.Leg.{Leg}
-use Rattle.flows.specs.Legs.{flowOf, legFlows}
-use Rattle.flows.proofs.Reach.{span}
+use Rattle.legs.specs.declared.Leg.{Leg}
+use Rattle.legs.specs.Runs.{flowOf, legFlows}
+use Rattle.legs.proofs.Reach.{span}
 use Rattle.bond.specs.Limits.{PaymentLimits, PaymentsUpTo}
 use Rattle.bond.specs.Value.{bondValue}
 

@@ -9,8 +9,8 @@ use Rattle.curve.specs.declared.Curve.{Curve}
 use Rattle.curve.specs.Limits.{Limits, Proper}
 use Rattle.curve.specs.Lengthen.{endDay}
 use Rattle.curve.specs.Rates.{nodesOf}
-use Rattle.flows.specs.declared.Leg.{Leg}
-use Rattle.flows.specs.Legs.{flowOf}
+use Rattle.legs.specs.declared.Leg.{Leg}
+use Rattle.legs.specs.Runs.{flowOf}
 use Rattle.bond.specs.declared.value.Extension.{Extension}
 use Rattle.bond.specs.Value.{bondValue}
 

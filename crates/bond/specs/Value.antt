@@ -10,7 +10,7 @@ use Rattle.curve.specs.declared.Node.{Node}
 use Rattle.curve.specs.Limits.{highestRate}
 use Rattle.curve.specs.Lengthen.{atRate}
 use Rattle.curve.specs.Rates.{rateAt}
-use Rattle.flows.specs.declared.Leg.{Leg}
+use Rattle.legs.specs.declared.Leg.{Leg}
 
 -- the day of a leg's last payment
 abbrev pub lastPayment : Leg → ℕ

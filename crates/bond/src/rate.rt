@@ -5,7 +5,7 @@ ghost use mathlib.Core.Bool.{false};
 ghost use Prim.Native.Nat.{_≤_};
 ghost use Rattle.curve.specs.Limits.{highestRate};
 ghost use Rattle.curve.specs.Rates.{nodesOf};
-ghost use Rattle.flows.specs.Legs.{legFlows};
+ghost use Rattle.legs.specs.Runs.{legFlows};
 ghost use Rattle.bond.specs.Limits.{Prepared};
 ghost use Rattle.bond.specs.Value.{breaksRateRange, rateFor};
 

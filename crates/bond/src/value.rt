@@ -5,7 +5,7 @@ use decimal::product::multiply;
 use discount::Flow;
 use discount::pair::factors;
 use discount::value::present_value;
-use flows::Leg;
+use legs::Leg;
 ghost use mathlib.Core.Path.{_≡_};
 ghost use Prim.Native.Nat.{_+_, _-_, _≤_, _<_};
 ghost use Rattle.laws.specs.Walk.{table};
@@ -13,7 +13,7 @@ ghost use Rattle.decimal.specs.Product.{unit};
 ghost use Rattle.discount.specs.Flows.{flowValue};
 ghost use Rattle.curve.specs.Limits.{highestRate, Proper};
 ghost use Rattle.curve.specs.Rates.{nodesOf, rateAt};
-ghost use Rattle.flows.specs.Legs.{flowOf, legFlows};
+ghost use Rattle.legs.specs.Runs.{flowOf, legFlows};
 ghost use Rattle.bond.specs.Limits.{PaymentLimits, PaymentsUpTo, Extends, Prepared};
 ghost use Rattle.bond.specs.Value.{bondValue, bondValueAt};
 

@@ -9,7 +9,7 @@ use Rattle.curve.specs.declared.Node.{Node}
 use Rattle.curve.specs.declared.Curve.{Curve}
 use Rattle.curve.specs.Limits.{Proper}
 use Rattle.curve.specs.Lengthen.{endDay}
-use Rattle.flows.specs.declared.Leg.{Leg}
+use Rattle.legs.specs.declared.Leg.{Leg}
 use Rattle.bond.specs.declared.value.Extension.{Extension}
 use Rattle.bond.specs.Limits.{Extends}
 use Rattle.bootstrap.specs.declared.Quote.{Quote}

@@ -16,8 +16,9 @@ use Rattle.curve_block.proofs.Accepted.{component-kept}
 use Rattle.record.specs.declared.Curves.{Curves}
 use Rattle.record.proofs.Limits.{InLimits}
 use Rattle.trade.specs.Read.{securityOf, tradeOf}
-use Rattle.flows.specs.Legs.{signedLeg, outrightLegs}
-use Rattle.flows.specs.Signs.{signsOf}
+use Rattle.legs.specs.Runs.{signedLeg}
+use Rattle.flows.specs.Legs.{outrightLegs}
+use Rattle.legs.specs.Signs.{signsOf}
 use Rattle.flows.specs.Verdict.{recordVerdict}
 use Rattle.flows.proofs.Bounded.{AcceptedRecord, accepted}
 use Rattle.book.specs.Parts.{curveCount, curvesOf, curvesIn}

@@ -15,12 +15,14 @@ use Rattle.record.specs.Rules.{currencyOfId, breaksCurrency, breaksForm}
 use Rattle.record.specs.Uses.{inLimits}
 use Rattle.trade.specs.Read.{securityOf, tradeOf}
 use Rattle.flows.specs.Amounts.{settlementCash}
-use Rattle.flows.specs.Legs.{signedLeg, outrightLegs, legsOf, legFlows, flowsOf, anyAbove, breaksFlowLimit}
-use Rattle.flows.specs.Signs.{signsOf}
+use Rattle.legs.specs.Runs.{signedLeg, legFlows}
+use Rattle.flows.specs.Legs.{outrightLegs, legsOf, anyAbove, breaksFlowLimit}
+use Rattle.legs.specs.Signs.{signsOf}
 use Rattle.flows.proofs.Above.{any-leg, any-legs}
 use Rattle.flows.proofs.Bounds.{millionths-bound}
 use Rattle.bootstrap.specs.declared.Quote.{Quote}
 use Rattle.bootstrap.specs.Bought.{bondRecord, bondFields, bondTrade, bondFlows}
+use Rattle.bootstrap.proofs.Payments.{legs-limited}
 
 twice : (b : Bool) → not (b && b) ≡ not b
 twice true = refl
@@ -59,5 +61,4 @@ module _ (q : Quote) (long : length (q .bond) ≡ 20) (small : bondFields q .amo
   no-second = any-leg (legsOf (bondTrade q) .second)
 
   pub payments-tested : breaksFlowLimit (bondTrade q) ≡ anyAbove (bondFlows q)
-  unfolding breaksFlowLimit flowsOf
-  payments-tested = any-legs (legsOf (bondTrade q)) ∙ rw (first-within, no-second)
+  payments-tested = legs-limited q ∙ any-legs (legsOf (bondTrade q)) ∙ rw (first-within, no-second)

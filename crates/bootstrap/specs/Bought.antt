@@ -9,8 +9,9 @@ use Rattle.record.specs.declared.Fields.{Fields}
 use Rattle.record.specs.Bytes.{fieldsOf}
 use Rattle.trade.specs.declared.Trade.{Trade}
 use Rattle.trade.specs.Read.{tradeOf}
-use Rattle.flows.specs.declared.Leg.{Leg}
-use Rattle.flows.specs.Legs.{legsOf, legFlows}
+use Rattle.legs.specs.declared.Leg.{Leg}
+use Rattle.flows.specs.Legs.{legsOf}
+use Rattle.legs.specs.Runs.{legFlows}
 use Rattle.bootstrap.specs.declared.Quote.{Quote}
 
 -- "Given a curve, a coupon bond (record fields 12-31), its settlement cash today and three components for the new node"

@@ -1,7 +1,7 @@
 // The bond of a quote as an outright trade.
 use crate::Quote;
-use flows::Leg;
 use layout::copy_in;
+use legs::Leg;
 use record::Fields;
 use record::Form;
 ghost use mathlib.Core.Path.{_≡_};

@@ -1,19 +1,21 @@
 -- A book's trades one by one: the ladder holds the flows of those passed that stand on the curve.
 use mathlib.Core.Path.{_≡_, refl, sym, ap, _∙_}
-use mathlib.Core.Bool.{Bool, true, false, cond}
-use mathlib.Core.List.{List, [], _∷_, _++_, flatMap}
+use mathlib.Core.List.{List, [], _++_, flatMap}
 use Prim.Native.Nat.{ℕ, zero, suc, _+_, _*_, _/_, _≤_, _<_}
 use native.Mathlib.Nat.{zero-add}
 use native.Mathlib.Numerals.{add-one}
 use native.Mathlib.Omega.{arith}
 use lib.Dec.{eqb}
 use lib.ListN.{length, length-append}
+use Rattle.laws.specs.Select.{select}
 use Rattle.laws.specs.Walk.{table}
+use Rattle.laws.proofs.Select.{select-few}
 use Rattle.laws.proofs.Tables.{flat-more}
 use Rattle.discount.specs.declared.Flow.{Flow}
 use Rattle.record.specs.Bytes.{fieldsOf}
-use Rattle.flows.specs.declared.Legs.{Legs}
-use Rattle.flows.specs.Legs.{legsFlows, flowsOf}
+use Rattle.legs.specs.declared.Legs.{Legs}
+use Rattle.legs.specs.Runs.{legsFlows}
+use Rattle.flows.specs.Legs.{flowsOf}
 use Rattle.flows.proofs.Bounded.{AcceptedRecord, accepted, flows-few}
 use Rattle.book.specs.Parts.{curvesOf, curveCount, tradeCount, recordAt}
 use Rattle.book.proofs.Accepted.{Sound, accepted-record, trade-count-most}
@@ -42,7 +44,7 @@ no-flows s = refl
 
 module _ (s : List ℕ) (curve : ℕ) where
   pub collected-none : (ladder : List ℕ) → Collected s curve ladder 0 0
-  unfolding ladderFlows flowsUpTo table flatMap flowsOn
+  unfolding ladderFlows flowsUpTo table flatMap flowsOn select
   collected-none ladder = record { few = omega arith; flows = refl; limits = λ i l. absurd (omega arith) }
 
   pub collected-next : {ladder after : List ℕ} {n m i : ℕ} (legs : Legs) → Collected s curve ladder n i → legsFlows legs ≡ flowsOf (tradeAt s i) → Grown curve (legsFlows legs) ladder n after m → Collected s curve after m (i + 1)
@@ -57,12 +59,7 @@ module _ (s : List ℕ) (curve : ℕ) where
 
 pub on-few : (curve : ℕ) (fs : List Flow) → length (flowsOn curve fs) ≤ length fs
 unfolding flowsOn
-on-few curve [] = omega arith
-on-few curve (f ∷ fs) = go (eqb (f .curve) curve) (on-few curve fs)
-  where
-    go : (t : Bool) → length (flowsOn curve fs) ≤ length fs → length (cond t (f ∷ flowsOn curve fs) (flowsOn curve fs)) ≤ suc (length fs)
-    go true h = omega arith
-    go false h = omega arith
+on-few curve fs = select-few (λ (f : Flow). eqb (f .curve) curve) fs
 
 -- a ladder has as many flows on one curve as on another
 same-length : (c d : ℕ) (l : List ℕ) (n : ℕ) → length (ladderFlows c l n) ≡ length (ladderFlows d l n)
@@ -76,7 +73,7 @@ module _ (s : List ℕ) (used : ℕ) (b : Sound s used) where
   pub accepted-at : (i : ℕ) → i < tradeCount s → AcceptedRecord (curvesOf s) (fieldsOf (recordAt s i))
   accepted-at i l = accepted (curvesOf s) (fieldsOf (recordAt s i)) (1 + curveCount s + i / 9) (accepted-record s used b i l)
 
-  pub few-flows : (i : ℕ) → i ≤ tradeCount s → length (flowsUpTo s i) ≤ i * 121
+  pub few-flows : (i : ℕ) → i ≤ tradeCount s → length (flowsUpTo s i) ≤ i * 122
   few-flows zero l = omega (arith, ap length (no-flows s))
   few-flows (suc i) l =
       let more : flowsUpTo s (suc i) ≡ flowsUpTo s i ++ flowsOf (tradeAt s i) = ap (flowsUpTo s) (sym (add-one i)) ∙ more-flows s i in

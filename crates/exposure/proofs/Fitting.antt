@@ -1,19 +1,19 @@
 -- What an accepted book has on a curve: a proper curve, and flows in their limits, few enough for 64 bits.
 use mathlib.Core.Path.{_≡_, sym, ap, _∙_}
-use mathlib.Core.Bool.{Bool, true, false, cond}
 use mathlib.Core.List.{List, [], _∷_, _++_}
 use Prim.Native.Nat.{ℕ, zero, suc, _≤_}
 use native.Mathlib.Numerals.{add-one}
 use native.Mathlib.Omega.{arith}
 use lib.Dec.{eqb}
 use Rattle.laws.specs.All.{All}
+use Rattle.laws.proofs.All.{all-append}
+use Rattle.laws.proofs.Select.{select-each}
 use Rattle.discount.specs.declared.Flow.{Flow}
 use Rattle.record.specs.Bytes.{fieldsOf}
 use Rattle.flows.specs.Legs.{flowsOf}
 use Rattle.flows.proofs.Bounded.{FlowBounds, flows-bounded}
 use Rattle.book.specs.Parts.{curvesOf, tradeCount, recordAt}
 use Rattle.book.proofs.Accepted.{Sound, trade-count-most}
-use Rattle.laws.proofs.All.{all-append}
 use Rattle.margin.specs.Exposure.{flowsOn}
 use Rattle.ladder.specs.Totals.{FlowLimits, AllFlowLimits}
 use Rattle.margin.proofs.Accounts.{FlowsFit}
@@ -26,12 +26,7 @@ bounded n (f ∷ fs) h = (record { amount = h .0 .amount; day = h .0 .day }, bou
 
 on-limits : (curve : ℕ) (fs : List Flow) → AllFlowLimits fs → AllFlowLimits (flowsOn curve fs)
 unfolding flowsOn
-on-limits curve [] h = tt
-on-limits curve (f ∷ fs) h = go (eqb (f .curve) curve) (on-limits curve fs (h .1))
-  where
-    go : (t : Bool) → AllFlowLimits (flowsOn curve fs) → AllFlowLimits (cond t (f ∷ flowsOn curve fs) (flowsOn curve fs))
-    go true r = (h .0, r)
-    go false r = r
+on-limits curve fs h = select-each (λ (f : Flow). eqb (f .curve) curve) FlowLimits fs h
 
 module _ (s : List ℕ) (used : ℕ) (b : Sound s used) where
   flows-limits : (i : ℕ) → i ≤ tradeCount s → AllFlowLimits (flowsUpTo s i)

@@ -2,8 +2,8 @@
 use mathlib.Core.Path.{_≡_, refl, sym, ap, _∙_}
 use mathlib.Core.Bool.{Bool, true, false, not, _&&_, cond}
 use mathlib.Core.Logic.{inl}
-use mathlib.Core.List.{List, [], _∷_, _++_, flatMap, append-nil}
-use Prim.Native.Nat.{ℕ, zero, suc, _+_, _*_, _≤_, _<_}
+use mathlib.Core.List.{List, [], _++_, flatMap, append-nil}
+use Prim.Native.Nat.{ℕ, _+_, _*_, _≤_, _<_}
 use native.Mathlib.Nat.{add-zero, zero-add}
 use native.Mathlib.Numerals.{add-one}
 use native.Mathlib.Omega.{arith}
@@ -11,16 +11,19 @@ use native.Mathlib.Decide.{ℕ-discrete}
 use lib.Dec.{eqb, leb, ltb}
 use lib.ListN.{length, getD}
 use borrow.Author.Tests.{eqb-true, eqb-false, ltb-false, le-leb, not-true}
+use Rattle.laws.specs.Select.{select}
 use Rattle.laws.specs.Walk.{table}
+use Rattle.laws.proofs.Select.{select-append, select-all, select-none}
 use Rattle.laws.proofs.Tables.{table-same, flat-same, flat-more}
 use Rattle.laws.proofs.Bools.{both, neither}
 use Rattle.decimal.specs.Product.{unit}
 use Rattle.layout.specs.Bytes.{put}
 use Rattle.layout.proofs.Bytes.{byte-put, byte-apart}
 use Rattle.discount.specs.declared.Flow.{Flow}
-use Rattle.flows.specs.declared.Leg.{Leg}
-use Rattle.flows.specs.Legs.{flowOf, legFlows, anyAbove}
-use Rattle.flows.specs.Limits.{LegLimits}
+use Rattle.legs.specs.declared.Leg.{Leg}
+use Rattle.legs.specs.Runs.{flowOf, legFlows}
+use Rattle.flows.specs.Legs.{anyAbove}
+use Rattle.legs.specs.Limits.{LegLimits}
 use Rattle.flows.proofs.Above.{any-leg}
 use Rattle.margin.specs.Exposure.{flowsOn}
 use Rattle.ladder.specs.Ladder.{payments, payment, scheduleFlows, ladderFlows, ScheduleLimits}
@@ -29,24 +32,16 @@ use Rattle.exposure.specs.Schedules.{scheduleOf, standsOn, withLeg, coun
 -- ---- the flows of a leg that stand on a curve: all of them or none
 
 on-curve : (curve : ℕ) (f : ℕ → Flow) (i n : ℕ) → ((k : ℕ) → eqb (f k .curve) curve ≡ true) → flowsOn curve (table f i n) ≡ table f i n
-unfolding table flowsOn
-on-curve curve f i zero h = refl
-on-curve curve f i (suc n) h = rw (h i, on-curve curve f (suc i) n h) refl
+unfolding flowsOn
+on-curve curve f i n h = select-all (λ (x : Flow). eqb (x .curve) curve) f i n (λ k l m. h k)
 
 off-curve : (curve : ℕ) (f : ℕ → Flow) (i n : ℕ) → ((k : ℕ) → eqb (f k .curve) curve ≡ false) → flowsOn curve (table f i n) ≡ []
-unfolding table flowsOn
-off-curve curve f i zero h = refl
-off-curve curve f i (suc n) h = rw (h i, off-curve curve f (suc i) n h) refl
+unfolding flowsOn
+off-curve curve f i n h = select-none (λ (x : Flow). eqb (x .curve) curve) f i n (λ k l m. h k)
 
 pub on-append : (curve : ℕ) (a b : List Flow) → flowsOn curve (a ++ b) ≡ flowsOn curve a ++ flowsOn curve b
 unfolding flowsOn
-on-append curve [] b = refl
-on-append curve (f ∷ a) b = go (eqb (f .curve) curve) (on-append curve a b)
-  where
-    go : (t : Bool) → flowsOn curve (a ++ b) ≡ flowsOn curve a ++ flowsOn curve b
-        → cond t (f ∷ flowsOn curve (a ++ b)) (flowsOn curve (a ++ b)) ≡ cond t (f ∷ flowsOn curve a) (flowsOn curve a) ++ flowsOn curve b
-    go true e = ap (λ (l : List Flow). f ∷ l) e
-    go false e = e
+on-append curve a b = select-append (λ (f : Flow). eqb (f .curve) curve) a b
 
 -- ---- the amounts of a leg none of whose flows is above the largest
 
@@ -114,7 +109,7 @@ module _ (curve : ℕ) (l : Leg) (ladder : List ℕ) (n : ℕ) (room : n * 6 + 6
       ∙ ap (λ (fs : List Flow). flatMap (scheduleFlows curve ladder) (table (λ k. k) 0 n) ++ fs) (ap (scheduleFlows curve written) (zero-add n) ∙ new-schedule e)
 
   pub push-flows : ladderFlows curve (withLeg curve l ladder n) (countWithLeg curve l n) ≡ ladderFlows curve ladder n ++ flowsOn curve (legFlows l)
-  unfolding withLeg countWithLeg legFlows table flowsOn
+  unfolding withLeg countWithLeg legFlows table flowsOn select
   push-flows = go (eqb (l .curve) curve) (eqb (l .count) 0) refl refl
     where
       go : (on none : Bool) → eqb (l .curve) curve ≡ on → eqb (l .count) 0 ≡ none

@@ -9,9 +9,10 @@ use Rattle.laws.proofs.Bools.{neither}
 use Rattle.layout.specs.Bytes.{put}
 use Rattle.layout.proofs.Bytes.{length-put}
 use Rattle.discount.specs.declared.Flow.{Flow}
-use Rattle.flows.specs.declared.Leg.{Leg}
-use Rattle.flows.specs.declared.Legs.{Legs}
-use Rattle.flows.specs.Legs.{legFlows, legsFlows, anyAbove}
+use Rattle.legs.specs.declared.Leg.{Leg}
+use Rattle.legs.specs.declared.Legs.{Legs}
+use Rattle.legs.specs.Runs.{legFlows, legsFlows}
+use Rattle.flows.specs.Legs.{anyAbove}
 use Rattle.flows.proofs.Above.{any-legs}
 use Rattle.margin.specs.Exposure.{flowsOn}
 use Rattle.ladder.specs.Ladder.{ladderFlows}

@@ -7,7 +7,7 @@ use native.Mathlib.Omega.{arith}
 use lib.ListN.{set}
 use mir.Val.{boolByte}
 use Rattle.layout.specs.Bytes.{put}
-use Rattle.flows.specs.declared.Leg.{Leg}
+use Rattle.legs.specs.declared.Leg.{Leg}
 use Rattle.exposure.specs.Schedules.{standsOn, withLeg, countWithLeg}
 
 -- six writes one behind the other

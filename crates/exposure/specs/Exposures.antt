@@ -24,15 +24,18 @@ flowsUpTo s n = flatMap flowsOf (table (tradeAt s) 0 n)
 abbrev pub flowsIn : List ℕ → List Flow
 flowsIn s = flowsUpTo s (tradeCount s)
 
--- the curve of an id, which is its block number, with the flows that stand on it
-unfoldable pub exposureAt : List ℕ → ℕ → Exposure
-exposureAt s curve =
+-- the curve of an id, which is its block number, with those of the flows that stand on it
+abbrev pub exposureTo : List Flow → List ℕ → ℕ → Exposure
+exposureTo flows s curve =
     record {
       currency = currencyOf (blockAt s curve);
       nodes = nodesOf (curveOf (blockAt s curve));
       components = componentsOf (blockAt s curve);
-      flows = flowsOn curve (flowsIn s);
+      flows = flowsOn curve flows;
     }
+
+unfoldable pub exposureAt : List ℕ → ℕ → Exposure
+exposureAt s curve = exposureTo (flowsIn s) s curve
 
 -- curves 1 to C
 unfoldable pub exposures : List ℕ → List Exposure

@@ -4,9 +4,10 @@ use mathlib.Core.Bool.{false}
 use mathlib.Core.List.{List, _++_}
 use Prim.Native.Nat.{ℕ, _+_, _≤_, _<_}
 use Rattle.discount.specs.declared.Flow.{Flow}
-use Rattle.flows.specs.declared.Legs.{Legs}
-use Rattle.flows.specs.Legs.{legsFlows, anyAbove}
-use Rattle.flows.specs.Limits.{LegsLimits}
+use Rattle.legs.specs.declared.Legs.{Legs}
+use Rattle.legs.specs.Runs.{legsFlows}
+use Rattle.flows.specs.Legs.{anyAbove}
+use Rattle.legs.specs.Limits.{LegsLimits}
 use Rattle.margin.specs.Exposure.{flowsOn}
 use Rattle.ladder.specs.Ladder.{ladderFlows, ScheduleLimits}
 

@@ -4,7 +4,7 @@ use mathlib.Core.List.{List, [], _∷_}
 use Prim.Native.Nat.{ℕ, _+_, _*_}
 use lib.Dec.{eqb}
 use Rattle.layout.specs.Bytes.{put}
-use Rattle.flows.specs.declared.Leg.{Leg}
+use Rattle.legs.specs.declared.Leg.{Leg}
 
 -- the six numbers of a schedule
 abbrev pub scheduleOf : Leg → List ℕ

@@ -4,14 +4,14 @@ ghost use Prim.Native.Nat.{_+_, _*_, _≤_};
 ghost use lib.ListN.{length};
 ghost use Rattle.exposure.specs.Schedules.{standsOn, withLeg, countWithLeg};
 ghost use Rattle.exposure.specs.Growth.{Grown, LegsSound};
-ghost use Rattle.flows.specs.Legs.{legsFlows};
+ghost use Rattle.legs.specs.Runs.{legsFlows};
 ghost use Rattle.ground.specs.declared.Verdict.the-variants.{Accepted};
 ghost use Rattle.book.specs.Verdict.{verdict};
 ghost use Rattle.margin.specs.Exposure.{flowsOn};
 ghost use Rattle.ladder.specs.Ladder.{ladderFlows, LadderLimits};
 ghost use Rattle.exposure.specs.Exposures.{flowsIn};
-use flows::Leg;
-use flows::Legs;
+use legs::Leg;
+use legs::Legs;
 
 fn stands_on(curve: u64, leg: Leg) -> bool
     ensures { λ r. ⌜ r ≡ standsOn curve leg ⌝ }

@@ -10,9 +10,10 @@ use Rattle.laws.proofs.Bools.{neither}
 use Rattle.laws.specs.Walk.{table}
 use Rattle.decimal.specs.Product.{unit}
 use Rattle.discount.specs.declared.Flow.{Flow}
-use Rattle.flows.specs.declared.Leg.{Leg}
-use Rattle.flows.specs.declared.Legs.{Legs}
-use Rattle.flows.specs.Legs.{flowOf, legFlows, legsFlows, anyAbove}
+use Rattle.legs.specs.declared.Leg.{Leg}
+use Rattle.legs.specs.declared.Legs.{Legs}
+use Rattle.legs.specs.Runs.{flowOf, legFlows, legsFlows}
+use Rattle.flows.specs.Legs.{anyAbove}
 use Rattle.flows.specs.Capped.{capped, cappedLeg, cappedLegs}
 use Rattle.flows.proofs.Capped.{capped-small}
 

@@ -1,15 +1,17 @@
 -- What the rules leave of a record's trade: numbers that keep their limits.
 use mathlib.Core.Path.{_≡_, refl, sym, ap, subst}
 use mathlib.Core.Bool.{Bool, true, false}
-use Prim.Native.Nat.{ℕ, zero, suc, _≤_}
+use Prim.Native.Nat.{ℕ, zero, suc, _≤_, _<_}
 use native.Mathlib.Omega.{arith}
 use Rattle.ground.specs.Limits.{lastDay}
 use Rattle.record.specs.declared.Curves.{Curves}
 use Rattle.record.specs.declared.Fields.{Fields}
-use Rattle.record.specs.Uses.{isOutright, hasSettled, hasCoupons}
+use Rattle.record.specs.Uses.{isOutright, hasSettled, hasSecurity, hasCoupons}
 use Rattle.record.specs.Rules.{breaksForm, breaksDays, breaksAmounts}
 use Rattle.record.proofs.Facts.{Kind, outright, pool, specified, Formed, formed, DaysKept, days-kept, Priced, priced}
 use Rattle.trade.specs.Read.{securityOf, outrightOf, repoOf, pickTrade, couponBondOf, tradeOf}
+use Rattle.legs.specs.declared.Leg.{Leg}
+use Rattle.flows.specs.Legs.{paymentsOf}
 use Rattle.flows.specs.Limits.{BondLimits, SecurityLimits, OutrightLimits, RepoLimits, TradeLimits}
 
 -- what the rules 8, 9 and 10 say
@@ -37,6 +39,21 @@ module _ {curves : Curves} (f : Fields) (r : SoundRecord curves f) where
 
   security : SecurityLimits (securityOf f)
   security = security-at (f .form .security) refl (r .form .securities)
+
+  -- a leg of payments: if there are any, the record has a security, and they stand on its curve, from its first payment day on
+  abbrev Told : Leg → Type 0
+  Told l = 0 < l .count → (hasSecurity (f .form .security) ≡ true) × ((l .curve ≡ f .form .securitycurve) × (l .first ≡ f .days .first))
+
+  payments-at : (number : ℕ) → f .form .security ≡ number → number ≤ 3 → Told (paymentsOf (securityOf f))
+  unfolding securityOf
+  payments-at zero e h = rw e (λ some. absurd (omega arith))
+  payments-at (suc zero) e h = rw e (λ some. (refl, (refl, refl)))
+  payments-at (suc (suc zero)) e h = rw e (λ some. (refl, (refl, refl)))
+  payments-at (suc (suc (suc zero))) e h = rw e (λ some. (refl, (refl, refl)))
+  payments-at (suc (suc (suc (suc n)))) e h = absurd (omega arith)
+
+  pub payments-told : Told (paymentsOf (securityOf f))
+  payments-told = payments-at (f .form .security) refl (r .form .securities)
 
   bought : f .form .kind ≡ 1 → OutrightLimits (outrightOf f)
   bought e = record {

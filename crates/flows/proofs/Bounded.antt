@@ -1,17 +1,17 @@
 -- The flows of an accepted record: few, none above the largest amount, all on days in reach and on curves of the book.
-use mathlib.Core.Path.{_≡_, refl, subst}
-use mathlib.Core.Bool.{Bool, true, false, cond}
-use mathlib.Core.Logic.{_⊎_, inl, inr, ⊎-elim}
+use mathlib.Core.Path.{_≡_, subst}
+use mathlib.Core.Bool.{false}
 use mathlib.Core.List.{List, [], _∷_, _++_}
 use Prim.Native.Nat.{ℕ, zero, suc, _≤_, _<_}
 use native.Mathlib.Omega.{arith}
-use lib.Dec.{eqb, ltb}
+use lib.Dec.{ltb}
 use lib.IntN.{ℤ, pos, negsuc}
-use lib.ListN.{length}
+use lib.ListN.{length, length-append}
 use borrow.Author.Tests.{ltb-false}
 use Rattle.laws.specs.All.{All}
 use Rattle.laws.proofs.All.{all-append, all-table, all-both}
 use Rattle.laws.proofs.Bools.{neither}
+use Rattle.laws.proofs.Select.{select-few, select-each}
 use Rattle.decimal.specs.Product.{unit}
 use Rattle.discount.specs.declared.Flow.{Flow}
 use Rattle.ground.specs.declared.Verdict.the-variants.{Accepted}
@@ -19,24 +19,26 @@ use Rattle.ground.specs.Limits.{lastDay}
 use Rattle.ground.proofs.Verdicts.{unbroken}
 use Rattle.record.specs.declared.Curves.{Curves}
 use Rattle.record.specs.declared.Fields.{Fields}
-use Rattle.record.specs.Uses.{hasSettled}
 use Rattle.record.specs.Rules.{breaksForm, breaksDays, breaksAmounts, breaksCurrency}
 use Rattle.record.proofs.Limits.{InLimits}
 use Rattle.record.proofs.Facts.{Kind, outright, pool, specified}
-use Rattle.trade.specs.Prices.{dirtyOf}
 use Rattle.trade.specs.Read.{securityOf, outrightOf, repoOf, tradeOf}
 use Rattle.trade.specs.declared.Trade.{Trade}
-use Rattle.flows.specs.declared.signs.Signs.{Signs}
-use Rattle.flows.specs.declared.Leg.{Leg}
-use Rattle.flows.specs.declared.Legs.{Legs}
-use Rattle.flows.specs.Signs.{isAhead, aheadSigns, settledSigns, noSigns, opposite, signsOf}
-use Rattle.flows.specs.Amounts.{settlementCash, secondLegCash}
-use Rattle.flows.specs.Legs.{oneFlow, paymentsOf, nominalOf, signedLeg, outrightLegs, repoLegs, legsOf, flowOf, legFlows, legsFlows, flowsOf, anyAbove, breaksFlowLimit}
-use Rattle.flows.specs.Limits.{LegLimits, LegsLimits, Valued}
+use Rattle.trade.specs.declared.Trade.the-variants.{Outright, Pool, Specified}
+use Rattle.legs.specs.declared.signs.Signs.{Signs}
+use Rattle.legs.specs.declared.Leg.{Leg}
+use Rattle.legs.specs.declared.Legs.{Legs}
+use Rattle.legs.specs.Signs.{signsOf}
+use Rattle.flows.specs.Window.{inWindow}
+use Rattle.legs.specs.Runs.{oneFlow, signedLeg, flowOf, legFlows}
+use Rattle.flows.specs.Legs.{paymentsOf, outrightLegs, repoLegs, legsOf, paymentFlows, flowsOf, anyAbove, breaksFlowLimit}
+use Rattle.legs.specs.Limits.{LegLimits}
+use Rattle.flows.specs.Limits.{Valued}
 use Rattle.flows.specs.Verdict.{recordRules, recordVerdict}
-use Rattle.flows.proofs.Accepted.{SoundRecord, sound-record, trade-limits, by-kind}
-use Rattle.flows.proofs.Numbered.{length-legs}
-use Rattle.flows.proofs.Reach.{trade-reach, span}
+use Rattle.flows.proofs.Accepted.{SoundRecord, sound-record, payments-told, trade-limits, by-kind}
+use Rattle.legs.proofs.Numbered.{length-leg}
+use Rattle.flows.proofs.Reach.{trade-reach}
+use Rattle.legs.proofs.Reach.{span}
 
 -- ---- from the verdict
 
@@ -99,17 +101,10 @@ record LegsHeld (count : ℕ) (l : Legs) : Type 0 where
   payments : Held count (l .payments)
 
 module _ {curves : Curves} (f : Fields) (r : SoundRecord curves f) where
-  payments-at : (number : ℕ) → f .form .security ≡ number → number ≤ 3 → Held (curves .count) (paymentsOf (securityOf f))
-  unfolding securityOf
-  payments-at zero e h = rw e (λ some. absurd (omega arith))
-  payments-at (suc zero) e h = rw e (λ some. r .form .held (rw e))
-  payments-at (suc (suc zero)) e h = rw e (λ some. r .form .held (rw e))
-  payments-at (suc (suc (suc zero))) e h = rw e (λ some. r .form .held (rw e))
-  payments-at (suc (suc (suc (suc n)))) e h = absurd (omega arith)
-
   payments-held : (sign : ℤ) → Held (curves .count) (signedLeg sign (paymentsOf (securityOf f)))
   payments-held sign =
-      signed-held (curves .count) sign (paymentsOf (securityOf f)) (payments-at (f .form .security) refl (r .form .securities))
+      signed-held (curves .count) sign (paymentsOf (securityOf f))
+      (λ some. let told = payments-told f r some in rw (told .1 .0) (r .form .held (told .0)))
 
   cash-held : (sign : ℤ) (day amount : ℕ) → Held (curves .count) (signedLeg sign (oneFlow (f .form .cashcurve) day amount))
   cash-held sign day amount =
@@ -143,18 +138,19 @@ pub record FlowBounds (count : ℕ) (f : Flow) : Type 0 where
   pub curve : InLimits 1 (f .curve) count
 
 pub flows-bounded : {curves : Curves} (f : Fields) → AcceptedRecord curves f → All (FlowBounds (curves .count)) (flowsOf (tradeOf f))
-unfolding breaksFlowLimit flowsOf legsFlows
+unfolding breaksFlowLimit flowsOf
 flows-bounded {curves} f a =
-    let l = legsOf (tradeOf f) in
-    let reach = trade-reach (tradeOf f) (a .valued .limits) in
+    let t = tradeOf f in
+    let l = legsOf t in
+    let reach = trade-reach t (a .valued .limits) in
     let held = legs-held f (a .sound) (a .sound .form .kinds) in
     let P = Placed (curves .count) in
-    let placed = all-append P (legFlows (l .first) ++ legFlows (l .second)) (legFlows (l .payments))
+    let placed = all-append P (legFlows (l .first) ++ legFlows (l .second)) (paymentFlows t)
     (all-append P (legFlows (l .first)) (legFlows (l .second))
     (leg-placed (curves .count) (l .first) (reach .first) (held .first))
     (leg-placed (curves .count) (l .second) (reach .second) (held .second)))
-    (leg-placed (curves .count) (l .payments) (reach .payments) (held .payments)) in
-    all-both Small P (FlowBounds (curves .count)) (λ x small at. record { amount = small; day = at .day; curve = at .curve }) (flowsOf (tradeOf f)) (all-below (flowsOf (tradeOf f)) (a .valued .within)) placed
+    (select-each (λ (x : Flow). inWindow t (x .day)) P (legFlows (l .payments)) (leg-placed (curves .count) (l .payments) (reach .payments) (held .payments))) in
+    all-both Small P (FlowBounds (curves .count)) (λ x small at. record { amount = small; day = at .day; curve = at .curve }) (flowsOf t) (all-below (flowsOf t) (a .valued .within)) placed
 
 -- ---- how many there are
 
@@ -164,59 +160,18 @@ signed-count (pos zero) l = omega arith
 signed-count (pos (suc n)) l = omega arith
 signed-count (negsuc n) l = omega arith
 
-signed-empty : (sign : ℤ) (l : Leg) → sign ≡ pos 0 → signedLeg sign l .count ≡ 0
-unfolding signedLeg
-signed-empty sign l e = rw e
+-- a trade has a first leg and a second of one flow each at most
+cash-few : (t : Trade) → (legsOf t .first .count ≤ 1) × (legsOf t .second .count ≤ 1)
+unfolding outrightLegs repoLegs
+cash-few (Outright t) = (signed-count _ _, omega arith)
+cash-few (Pool t) = (signed-count _ _, signed-count _ _)
+cash-few (Specified t) = (signed-count _ _, signed-count _ _)
 
--- a repo has no first leg or no payments: by the side, whether both legs are ahead, whether the first has settled, and pool phase 3
-choose : (side ahead settled none : Bool) → Signs
-choose side ahead settled none =
-    let member = cond ahead aheadSigns (cond settled settledSigns noSigns) in cond side member (cond none noSigns (opposite member))
-
-one-empty : (side ahead settled none : Bool) → (choose side ahead settled none .first ≡ pos 0) ⊎ (choose side ahead settled none .payments ≡ pos 0)
-unfolding choose
-one-empty true true settled none = inr refl
-one-empty true false true none = inl refl
-one-empty true false false none = inl refl
-one-empty false ahead settled true = inl refl
-one-empty false true settled false = inr refl
-one-empty false false true false = inl refl
-one-empty false false false false = inl refl
-
-module _ {curves : Curves} (f : Fields) (r : SoundRecord curves f) where
-  bought-few : (s : Signs) → LegsLimits (outrightLegs s (outrightOf f)) → length (legsFlows (outrightLegs s (outrightOf f))) ≤ 121
-  unfolding outrightLegs
-  bought-few s l =
-      let o = outrightOf f in
-      let cash = settlementCash (nominalOf (o .security)) (dirtyOf (o .price) (o .accrued)) in
-      omega (arith, length-legs (outrightLegs s o), signed-count (s .first) (oneFlow (o .cashcurve) (o .day1) cash), l .payments .few)
-
-  lent-few : (s : Signs) → (s .first ≡ pos 0) ⊎ (s .payments ≡ pos 0) → LegsLimits (repoLegs s (repoOf f)) → length (legsFlows (repoLegs s (repoOf f))) ≤ 121
-  unfolding repoLegs
-  lent-few s e l =
-      let t = repoOf f in
-      let one = oneFlow (t .cashcurve) (t .day1) (t .cash) in
-      let back = oneFlow (t .cashcurve) (t .day2) (secondLegCash (t .cash) (t .rate) (t .term)) in
-      let n = length-legs (repoLegs s t) in
-      ⊎-elim (λ x. omega (arith, n, signed-count (s .second) back, l .payments .few, signed-empty (s .first) one x))
-      (λ x. omega (arith, n, signed-count (s .first) one, signed-count (s .second) back, signed-empty (s .payments) (paymentsOf (t .security)) x)) e
-
-  -- of a trade by its record's kind
-  abbrev Few : Trade → Type 0
-  Few t = LegsLimits (legsOf t) → length (legsFlows (legsOf t)) ≤ 121
-
-  few-at : Kind (f .form) → Few (tradeOf f)
-  unfolding choose signsOf
-  few-at (outright kind phase) = subst Few (by-kind f r 1 kind) (bought-few (signsOf 1 0 (f .form .side)))
-  few-at (pool kind phase) =
-      let side = eqb (f .form .side) 1 in
-      let p = f .form .phase in
-      subst Few (by-kind f r 2 kind) (lent-few (signsOf 2 p (f .form .side)) (one-empty side (isAhead 2 p) (hasSettled 2 p) (eqb p 3)))
-  few-at (specified kind phase) =
-      let side = eqb (f .form .side) 1 in
-      let p = f .form .phase in
-      subst Few (by-kind f r 3 kind) (lent-few (signsOf 3 p (f .form .side)) (one-empty side (isAhead 3 p) (hasSettled 3 p) false))
-
-pub flows-few : {curves : Curves} (f : Fields) → AcceptedRecord curves f → length (flowsOf (tradeOf f)) ≤ 121
+pub flows-few : {curves : Curves} (f : Fields) → AcceptedRecord curves f → length (flowsOf (tradeOf f)) ≤ 122
 unfolding flowsOf
-flows-few f a = few-at f (a .sound) (a .sound .form .kinds) (trade-reach (tradeOf f) (a .valued .limits))
+flows-few f a =
+    let t = tradeOf f in
+    let l = legsOf t in
+    let cash = cash-few t in
+    omega
+    (arith, length-append (legFlows (l .first) ++ legFlows (l .second)) (paymentFlows t), length-append (legFlows (l .first)) (legFlows (l .second)), length-leg (l .first), length-leg (l .second), length-leg (l .payments), select-few (λ (x : Flow). inWindow t (x .day)) (legFlows (l .payments)), trade-reach t (a .valued .limits) .payments .few)

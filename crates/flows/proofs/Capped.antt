@@ -1,18 +1,18 @@
 -- Legs by their signs, and with their amounts capped.
-use mathlib.Core.Path.{_≡_, refl, sym}
-use mathlib.Core.Bool.{Bool, true, false, cond, true≢false, false≢true}
+use mathlib.Core.Path.{_≡_, refl, sym, ap, _∙_}
+use mathlib.Core.Bool.{Bool, true, false, cond}
 use Prim.Native.Nat.{ℕ, zero, suc, _+_, _≤_, _<_}
 use native.Mathlib.Omega.{arith}
-use lib.Dec.{leb}
+use lib.Dec.{eqb, leb, ltb}
 use lib.IntN.{ℤ, pos, negsuc}
-use lib.Signed.{ltZ}
-use borrow.Author.Tests.{le-leb, lt-leb, ltb-true, ltb-false}
+use borrow.Author.Tests.{le-leb, lt-leb}
 use Rattle.decimal.specs.Product.{unit}
 use Rattle.decimal.specs.HalfUp.{scaledTo}
 use Rattle.decimal.specs.declared.round.Scaled.the-variants.{Within, Over}
-use Rattle.flows.specs.declared.Leg.{Leg}
-use Rattle.flows.specs.Legs.{noLeg, directed, signedLeg}
+use Rattle.legs.specs.declared.Leg.{Leg}
+use Rattle.legs.specs.Runs.{noLeg, signedLeg}
 use Rattle.flows.specs.Capped.{capped, cappedLeg}
+use Rattle.legs.specs.Counted.{paidBy, restLeg, startLeg, legAfter, legUpTo, countedLeg}
 
 pub capped-small : (n : ℕ) → n ≤ unit → capped n ≡ n
 unfolding capped
@@ -41,23 +41,6 @@ capped-over n e = go (leb n unit) e
 
 -- ---- by the sign
 
-pub signed-in : (sign : ℤ) (l : Leg) → ltZ (pos 0) sign ≡ true → signedLeg sign l ≡ directed true l
-unfolding signedLeg
-signed-in (pos zero) l h = absurd (false≢true h)
-signed-in (pos (suc n)) l h = refl
-signed-in (negsuc n) l h = absurd (false≢true h)
-
-pub signed-out : (sign : ℤ) (l : Leg) → ltZ sign (pos 0) ≡ true → signedLeg sign l ≡ directed false l
-unfolding signedLeg
-signed-out (pos n) l h = absurd (omega (arith, ltb-true n 0 h))
-signed-out (negsuc n) l h = refl
-
-pub signed-none : (sign : ℤ) (l : Leg) → ltZ (pos 0) sign ≡ false → ltZ sign (pos 0) ≡ false → signedLeg sign l ≡ noLeg
-unfolding signedLeg
-signed-none (pos zero) l h g = refl
-signed-none (pos (suc n)) l h g = absurd (omega (arith, ltb-false 0 (suc n) h))
-signed-none (negsuc n) l h g = absurd (true≢false g)
-
 pub capped-none : cappedLeg noLeg ≡ noLeg
 unfolding capped unit
 capped-none = refl
@@ -67,3 +50,30 @@ unfolding signedLeg
 signed-capped (pos zero) l = sym capped-none
 signed-capped (pos (suc n)) l = refl
 signed-capped (negsuc n) l = refl
+
+-- ---- and with the payments that count
+
+after-capped : (day : ℕ) (l : Leg) → legAfter day (cappedLeg l) ≡ cappedLeg (legAfter day l)
+unfolding legAfter paidBy
+after-capped day l = go (ltb day (l .first)) (ltb (paidBy day l) (l .count))
+  where
+    go : (a b : Bool) → cond a (cappedLeg l) (cond b (restLeg (paidBy day l) (cappedLeg l)) noLeg) ≡ cappedLeg (cond a l (cond b (restLeg (paidBy day l) l) noLeg))
+    go true b = refl
+    go false true = refl
+    go false false = sym capped-none
+
+up-to-capped : (day : ℕ) (l : Leg) → legUpTo day (cappedLeg l) ≡ cappedLeg (legUpTo day l)
+unfolding legUpTo paidBy
+up-to-capped day l = go (ltb day (l .first))
+  where
+    last : (t : Bool) → cond t (capped (l .last)) (capped (l .each)) ≡ capped (cond t (l .last) (l .each))
+    last true = refl
+    last false = refl
+
+    go : (a : Bool) → cond a noLeg (startLeg (paidBy day l) (cappedLeg l)) ≡ cappedLeg (cond a noLeg (startLeg (paidBy day l) l))
+    go true = sym capped-none
+    go false = rw (last (eqb (paidBy day l) (l .count)))
+
+pub counted-capped : (settled : Bool) (day1 day2 : ℕ) (l : Leg) → countedLeg settled day1 day2 (cappedLeg l) ≡ cappedLeg (countedLeg settled day1 day2 l)
+counted-capped true day1 day2 l = after-capped day2 l
+counted-capped false day1 day2 l = ap (legUpTo day2) (after-capped day1 l) ∙ up-to-capped day2 (legAfter day1 l)

@@ -1,10 +1,10 @@
 pub mod Bounds
-mod Table
 pub mod Capped
+pub mod Counted
 pub mod Above
-pub mod Numbered
 pub mod Reach
 pub mod Accepted
 pub mod Bounded
 pub mod Figures
 pub mod Rewritten
+pub mod Earlier

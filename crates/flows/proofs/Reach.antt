@@ -1,62 +1,67 @@
 -- The legs of a trade that keeps its limits: few flows, on days in reach.
-use Prim.Native.Nat.{ℕ, zero, suc, _+_, _-_, _*_, _≤_, _<_}
-use native.Mathlib.Nat.{mul-le-mul-right}
-use native.Mathlib.Omega.{arith}
-use lib.IntN.{ℤ, pos, negsuc}
-use Rattle.ground.specs.Limits.{lastDay}
+use mathlib.Core.Bool.{Bool}
+use lib.IntN.{ℤ}
+use Rattle.record.specs.Uses.{hasSettled}
 use Rattle.trade.specs.declared.Security.{Security}
 use Rattle.trade.specs.declared.Security.the-variants.{Nothing, Single, Coupons, Indexed}
+use Rattle.trade.specs.declared.RepoTrade.{RepoTrade}
 use Rattle.trade.specs.declared.Trade.{Trade}
 use Rattle.trade.specs.declared.Trade.the-variants.{Outright, Pool, Specified}
-use Rattle.flows.specs.declared.Leg.{Leg}
-use Rattle.flows.specs.declared.Legs.{Legs}
-use Rattle.flows.specs.Legs.{oneFlow, noLeg, paymentsOf, signedLeg, outrightLegs, repoLegs, legsOf}
-use Rattle.flows.specs.Capped.{cappedLegs}
-use Rattle.flows.specs.Limits.{SecurityLimits, TradeLimits, LegLimits, LegsLimits}
-
-none : LegLimits noLeg
-none = record { few = omega arith; reach = omega arith }
-
-one : (curve day amount : ℕ) → day ≤ lastDay → LegLimits (oneFlow curve day amount)
-one curve day amount h = record { few = omega arith; reach = omega arith }
+use Rattle.legs.specs.declared.Leg.{Leg}
+use Rattle.legs.specs.declared.Legs.{Legs}
+use Rattle.legs.specs.Runs.{signedLeg}
+use Rattle.flows.specs.Legs.{paymentsOf, outrightLegs, repoLegs, legsOf}
+use Rattle.flows.specs.Capped.{cappedLeg, cappedLegs}
+use Rattle.flows.specs.Counted.{countedRepo, countedLegs}
+use Rattle.flows.specs.Limits.{SecurityLimits, TradeLimits}
+use Rattle.legs.specs.Limits.{LegLimits, LegsLimits}
+use Rattle.legs.proofs.Reach.{none-reach, one-reach, signed-reach, counted-reach}
 
 payments : (s : Security) → SecurityLimits s → LegLimits (paymentsOf s)
-payments Nothing l = none
-payments (Single p) l = one (p .curve) (p .first) (p .nominal) (l .reach)
+payments Nothing l = none-reach
+payments (Single p) l = one-reach (p .curve) (p .first) (p .nominal) (l .reach)
 payments (Coupons b) l = record { few = l .few; reach = l .reach }
 payments (Indexed i) l = record { few = l .bond .few; reach = l .bond .reach }
-
-signed : (sign : ℤ) (l : Leg) → LegLimits l → LegLimits (signedLeg sign l)
-unfolding signedLeg
-signed (pos zero) l h = none
-signed (pos (suc n)) l h = record { few = h .few; reach = h .reach }
-signed (negsuc n) l h = record { few = h .few; reach = h .reach }
 
 pub trade-reach : (t : Trade) → TradeLimits t → LegsLimits (legsOf t)
 unfolding outrightLegs repoLegs
 trade-reach (Outright t) h = record {
-  first = signed _ _ (one _ _ _ (h .reach));
-  second = none;
-  payments = signed _ _ (payments (t .security) (h .security));
+  first = signed-reach _ _ (one-reach _ _ _ (h .reach));
+  second = none-reach;
+  payments = signed-reach _ _ (payments (t .security) (h .security));
 }
 trade-reach (Pool t) h = record {
-  first = signed _ _ (one _ _ _ (h .reach1));
-  second = signed _ _ (one _ _ _ (h .reach2));
-  payments = signed _ _ (payments (t .security) (h .security));
+  first = signed-reach _ _ (one-reach _ _ _ (h .reach1));
+  second = signed-reach _ _ (one-reach _ _ _ (h .reach2));
+  payments = signed-reach _ _ (payments (t .security) (h .security));
 }
 trade-reach (Specified t) h = record {
-  first = signed _ _ (one _ _ _ (h .reach1));
-  second = signed _ _ (one _ _ _ (h .reach2));
-  payments = signed _ _ (payments (t .security) (h .security));
+  first = signed-reach _ _ (one-reach _ _ _ (h .reach1));
+  second = signed-reach _ _ (one-reach _ _ _ (h .reach2));
+  payments = signed-reach _ _ (payments (t .security) (h .security));
 }
+
+-- ---- with the payments that count
+
+repo-reach : (settled : Bool) (t : RepoTrade) (l : Legs) → LegsLimits l → LegsLimits (countedRepo settled t l)
+repo-reach settled t l h = record { first = h .first; second = h .second; payments = counted-reach settled (t .day1) (t .day2) (l .payments) (h .payments) }
+
+pub counted-legs-reach : (t : Trade) → TradeLimits t → LegsLimits (countedLegs t)
+counted-legs-reach (Outright t) h = trade-reach (Outright t) h
+counted-legs-reach (Pool t) h = repo-reach (hasSettled 2 (t .phase)) t (legsOf (Pool t)) (trade-reach (Pool t) h)
+counted-legs-reach (Specified t) h = repo-reach (hasSettled 3 (t .phase)) t (legsOf (Specified t)) (trade-reach (Specified t) h)
+
+-- ---- with their amounts capped
+
+capped-leg-reach : (l : Leg) → LegLimits l → LegLimits (cappedLeg l)
+capped-leg-reach l h = record { few = h .few; reach = h .reach }
+
+pub payment-reach : (sign : ℤ) (s : Security) → SecurityLimits s → LegLimits (cappedLeg (signedLeg sign (paymentsOf s)))
+payment-reach sign s h = capped-leg-reach (signedLeg sign (paymentsOf s)) (signed-reach sign (paymentsOf s) (payments s h))
 
 pub capped-reach : (l : Legs) → LegsLimits l → LegsLimits (cappedLegs l)
 capped-reach l h = record {
-  first = record { few = h .first .few; reach = h .first .reach };
-  second = record { few = h .second .few; reach = h .second .reach };
-  payments = record { few = h .payments .few; reach = h .payments .reach };
+  first = capped-leg-reach (l .first) (h .first);
+  second = capped-leg-reach (l .second) (h .second);
+  payments = capped-leg-reach (l .payments) (h .payments);
 }
-
--- the days from a leg's first flow to flow k
-pub span : (l : Leg) (k : ℕ) → LegLimits l → k < l .count → l .first + k * l .period ≤ lastDay
-span l k h g = omega (arith, h .reach, mul-le-mul-right {m = k} {n = l .count - 1} (l .period) (omega arith))

@@ -4,8 +4,8 @@ use Prim.Native.Nat.{ℕ, _+_}
 use mathlib.Core.Bool.{cond}
 use lib.Dec.{leb}
 use Rattle.decimal.specs.Product.{unit}
-use Rattle.flows.specs.declared.Leg.{Leg}
-use Rattle.flows.specs.declared.Legs.{Legs}
+use Rattle.legs.specs.declared.Leg.{Leg}
+use Rattle.legs.specs.declared.Legs.{Legs}
 
 unfoldable pub capped : ℕ → ℕ
 capped amount = cond (leb amount unit) amount (unit + 1)

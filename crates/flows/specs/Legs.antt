@@ -1,10 +1,9 @@
 -- The flows of a trade (document 01, "Flows"): its first leg, second leg and payments.
-use Prim.Native.Nat.{ℕ, zero, suc, _+_, _*_}
-use mathlib.Core.Bool.{Bool, true, false, cond, _||_}
+use Prim.Native.Nat.{ℕ, _+_}
+use mathlib.Core.Bool.{Bool, true, false, _||_}
 use mathlib.Core.List.{List, [], _∷_, _++_}
-use lib.Dec.{eqb, ltb}
-use lib.IntN.{ℤ, pos, negsuc}
-use Rattle.laws.specs.Walk.{table}
+use lib.Dec.{ltb}
+use Rattle.laws.specs.Select.{select}
 use Rattle.decimal.specs.Product.{unit}
 use Rattle.discount.specs.declared.Flow.{Flow}
 use Rattle.trade.specs.Prices.{dirtyOf}
@@ -15,20 +14,15 @@ use Rattle.trade.specs.declared.OutrightTrade.{OutrightTrade}
 use Rattle.trade.specs.declared.RepoTrade.{RepoTrade}
 use Rattle.trade.specs.declared.Trade.{Trade}
 use Rattle.trade.specs.declared.Trade.the-variants.{Outright, Pool, Specified}
-use Rattle.flows.specs.declared.signs.Signs.{Signs}
-use Rattle.flows.specs.declared.Leg.{Leg}
-use Rattle.flows.specs.declared.Legs.{Legs}
-use Rattle.flows.specs.Signs.{signsOf}
+use Rattle.legs.specs.declared.signs.Signs.{Signs}
+use Rattle.legs.specs.declared.Leg.{Leg}
+use Rattle.legs.specs.declared.Legs.{Legs}
+use Rattle.legs.specs.Signs.{signsOf}
+use Rattle.legs.specs.Runs.{noLeg, oneFlow, signedLeg, legFlows}
 use Rattle.flows.specs.Amounts.{settlementCash, secondLegCash, couponOf, indexedOf}
+use Rattle.flows.specs.Window.{inWindow}
 
--- ---- a leg, as received
-
-abbrev pub noLeg : Leg
-noLeg = record { curve = 0; received = true; first = 0; period = 0; count = 0; each = 0; last = 0 }
-
--- one flow
-abbrev pub oneFlow : ℕ → ℕ → ℕ → Leg
-oneFlow curve day amount = record { curve = curve; received = true; first = day; period = 0; count = 1; each = amount; last = amount }
+-- ---- the payments of a security
 
 -- "on first day + i × period, i from 0"
 abbrev pub bondLeg : CouponBond → ℕ → ℕ → Leg
@@ -50,30 +44,20 @@ paymentsOf (Single p) = oneFlow (p .curve) (p .first) (p .nominal)
 paymentsOf (Coupons b) = bondLeg b (couponOf b) (couponOf b + b .nominal)
 paymentsOf (Indexed i) = bondLeg (i .bond) (indexedOf i (couponOf (i .bond))) (indexedOf i (couponOf (i .bond) + i .bond .nominal))
 
+-- the day of the first, 0 where there is none
+abbrev pub firstPaymentOf : Security → ℕ
+firstPaymentOf Nothing = 0
+firstPaymentOf (Single p) = p .first
+firstPaymentOf (Coupons b) = b .first
+firstPaymentOf (Indexed i) = i .bond .first
+
 abbrev pub nominalOf : Security → ℕ
 nominalOf Nothing = 0
 nominalOf (Single p) = p .nominal
 nominalOf (Coupons b) = b .nominal
 nominalOf (Indexed i) = i .bond .nominal
 
--- ---- a trade's legs
-
-abbrev pub directed : Bool → Leg → Leg
-directed received l = record {
-  curve = l .curve;
-  received = received;
-  first = l .first;
-  period = l .period;
-  count = l .count;
-  each = l .each;
-  last = l .last;
-}
-
--- a leg by the table's sign: 1 in, −1 out, 0 none
-unfoldable pub signedLeg : ℤ → Leg → Leg
-signedLeg (pos zero) l = noLeg
-signedLeg (pos (suc n)) l = directed true l
-signedLeg (negsuc n) l = directed false l
+-- ---- a trade's legs, with all the payments of its security
 
 -- the settlement cash on value day 1, and the payments
 unfoldable pub outrightLegs : Signs → OutrightTrade → Legs
@@ -98,23 +82,12 @@ legsOf (Specified t) = repoLegs (signsOf 3 (t .phase) (t .side)) t
 
 -- ---- and its flows
 
--- flow k of a leg
-abbrev pub flowOf : Leg → ℕ → Flow
-flowOf l k = record {
-  curve = l .curve;
-  day = l .first + k * l .period;
-  received = l .received;
-  amount = cond (eqb (k + 1) (l .count)) (l .last) (l .each);
-}
-
-unfoldable pub legFlows : Leg → List Flow
-legFlows l = table (flowOf l) 0 (l .count)
-
-unfoldable pub legsFlows : Legs → List Flow
-legsFlows l = legFlows (l .first) ++ legFlows (l .second) ++ legFlows (l .payments)
+-- the payments that count, by the window of the trade's kind and phase
+abbrev pub paymentFlows : Trade → List Flow
+paymentFlows t = select (λ (f : Flow). inWindow t (f .day)) (legFlows (legsOf t .payments))
 
 unfoldable pub flowsOf : Trade → List Flow
-flowsOf t = legsFlows (legsOf t)
+flowsOf t = legFlows (legsOf t .first) ++ legFlows (legsOf t .second) ++ paymentFlows t
 
 -- ---- 12. A flow that the table gives the trade exceeds 10^12.
 

@@ -1,6 +1,8 @@
-pub mod Signs
 pub mod Amounts
+pub mod Window
 pub mod Legs
+pub mod Counted
 pub mod Capped
 pub mod Limits
 pub mod Verdict
+pub mod Earlier

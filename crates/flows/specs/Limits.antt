@@ -13,8 +13,6 @@ use Rattle.trade.specs.declared.OutrightTrade.{OutrightTrade}
 use Rattle.trade.specs.declared.RepoTrade.{RepoTrade}
 use Rattle.trade.specs.declared.Trade.{Trade}
 use Rattle.trade.specs.declared.Trade.the-variants.{Outright, Pool, Specified}
-use Rattle.flows.specs.declared.Leg.{Leg}
-use Rattle.flows.specs.declared.Legs.{Legs}
 use Rattle.flows.specs.Legs.{breaksFlowLimit}
 
 pub record BondLimits (b : CouponBond) : Type 0 where
@@ -70,13 +68,3 @@ TradeLimits (Specified t) = RepoLimits t
 pub record Valued (t : Trade) : Type 0 where
   pub limits : TradeLimits t
   pub within : breaksFlowLimit t ≡ false
-
--- a leg's flows are few, and all on days in reach
-pub record LegLimits (l : Leg) : Type 0 where
-  pub few : l .count ≤ 120
-  pub reach : l .first + (l .count - 1) * l .period ≤ lastDay
-
-pub record LegsLimits (l : Legs) : Type 0 where
-  pub first : LegLimits (l .first)
-  pub second : LegLimits (l .second)
-  pub payments : LegLimits (l .payments)

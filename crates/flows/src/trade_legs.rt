@@ -1,11 +1,14 @@
-// A trade's legs. An amount above the largest stands as one above the largest.
-use crate::Leg;
-use crate::Legs;
+// A trade's legs, of the payments those that count. An amount above the largest stands as one above the largest.
 use crate::amounts;
-use crate::signs;
-use crate::signs::Signs;
 use decimal::round::Scaled;
+use legs::Leg;
+use legs::Legs;
+use legs::signs;
+use legs::signs::Signs;
+use legs::simple_legs;
+use legs::window;
 use record::LARGEST;
+use record::rules;
 use trade::CouponBond;
 use trade::IndexedBond;
 use trade::OutrightTrade;
@@ -16,9 +19,12 @@ ghost use mathlib.Core.Path.{_≡_};
 ghost use Prim.Native.Nat.{_*_, _≤_};
 ghost use Rattle.decimal.specs.Product.{unit};
 ghost use Rattle.flows.specs.Amounts.{indexedOf};
-ghost use Rattle.flows.specs.Legs.{noLeg, oneFlow, bondLeg, paymentsOf, nominalOf, directed, signedLeg, outrightLegs, repoLegs, legsOf};
+ghost use Rattle.legs.specs.Runs.{oneFlow, signedLeg};
+ghost use Rattle.flows.specs.Legs.{bondLeg, paymentsOf, firstPaymentOf, nominalOf, outrightLegs, repoLegs};
 ghost use Rattle.trade.specs.declared.Security.the-variants.{Coupons, Indexed};
 ghost use Rattle.flows.specs.Capped.{capped, cappedLeg, cappedLegs};
+ghost use Rattle.legs.specs.Counted.{countedLeg};
+ghost use Rattle.flows.specs.Counted.{countedRepo, countedLegs};
 ghost use Rattle.flows.specs.Limits.{BondLimits, IndexLimits, SecurityLimits, OutrightLimits, RepoLimits, TradeLimits};
 
 fn cap(amount: u64) -> u64
@@ -39,34 +45,6 @@ fn indexed_payment(i: IndexedBond, payment: u64) -> u64
     match decimal::round::indexed_by(i.index, i.issue, payment) {
         Scaled::Within(amount) => amount,
         Scaled::Over => LARGEST + 1,
-    }
-}
-
-fn no_leg() -> Leg
-    ensures { λ r. ⌜ r ≡ noLeg ⌝ }
-{
-    Leg {
-        curve: 0,
-        received: true,
-        first: 0,
-        period: 0,
-        count: 0,
-        each: 0,
-        last: 0,
-    }
-}
-
-fn one_flow(curve: u64, day: u64, amount: u64) -> Leg
-    ensures { λ r. ⌜ r ≡ oneFlow curve day amount ⌝ }
-{
-    Leg {
-        curve,
-        received: true,
-        first: day,
-        period: 0,
-        count: 1,
-        each: amount,
-        last: amount,
     }
 }
 
@@ -110,10 +88,24 @@ fn payments_of(s: Security) -> Leg
     ensures { λ r. ⌜ r ≡ cappedLeg (paymentsOf s) ⌝ }
 {
     match s {
-        Security::Nothing => no_leg(),
-        Security::Single(p) => one_flow(p.curve, p.first, cap(p.nominal)),
+        Security::Nothing => simple_legs::no_leg(),
+        Security::Single(p) => simple_legs::one_flow(p.curve, p.first, cap(p.nominal)),
         Security::Coupons(b) => coupon_leg(b),
         Security::Indexed(i) => indexed_leg(i),
+    }
+}
+
+fn first_payment_of(s: Security) -> u64
+    ensures { λ r. ⌜ r ≡ firstPaymentOf s ⌝ }
+{
+    match s {
+        Security::Nothing => 0,
+        Security::Single(p) => p.first,
+        Security::Coupons(b) => b.first,
+        Security::Indexed(i) => {
+            let b = i.bond;
+            b.first
+        }
     }
 }
 
@@ -131,44 +123,18 @@ fn nominal_of(s: Security) -> u64
     }
 }
 
-fn direct(received: bool, l: Leg) -> Leg
-    ensures { λ r. ⌜ r ≡ directed received l ⌝ }
-{
-    Leg {
-        curve: l.curve,
-        received,
-        first: l.first,
-        period: l.period,
-        count: l.count,
-        each: l.each,
-        last: l.last,
-    }
-}
-
-fn signed_leg(sign: i64, l: Leg) -> Leg
-    ensures { λ r. ⌜ r ≡ signedLeg sign l ⌝ }
-{
-    if 0 < sign {
-        return direct(true, l);
-    }
-    if sign < 0 {
-        return direct(false, l);
-    }
-    no_leg()
-}
-
 // A leg of one flow of cash.
 fn cash_leg(sign: i64, curve: u64, day: u64, amount: u64) -> Leg
     ensures { λ r. ⌜ r ≡ cappedLeg (signedLeg sign (oneFlow curve day amount)) ⌝ }
 {
-    signed_leg(sign, one_flow(curve, day, cap(amount)))
+    simple_legs::signed_leg(sign, simple_legs::one_flow(curve, day, cap(amount)))
 }
 
 fn payment_leg(sign: i64, s: Security) -> Leg
     requires { ⌜ SecurityLimits s ⌝ }
     ensures { λ r. ⌜ r ≡ cappedLeg (signedLeg sign (paymentsOf s)) ⌝ }
 {
-    signed_leg(sign, payments_of(s))
+    simple_legs::signed_leg(sign, payments_of(s))
 }
 
 fn outright_legs(s: Signs, t: OutrightTrade) -> Legs
@@ -181,31 +147,52 @@ fn outright_legs(s: Signs, t: OutrightTrade) -> Legs
     let cash = amounts::settlement_cash(nominal_of(security), dirty);
     Legs {
         first: cash_leg(s.first, t.cashcurve, t.day1, cash),
-        second: no_leg(),
+        second: simple_legs::no_leg(),
         payments: payment_leg(s.payments, security),
     }
 }
 
-fn repo_legs(s: Signs, t: RepoTrade) -> Legs
+// The payments that count. Where all come back with the security, none is worked out.
+fn repo_payments(settled: bool, sign: i64, t: RepoTrade) -> Leg
     requires { ⌜ RepoLimits t ⌝ }
-    ensures { λ r. ⌜ r ≡ cappedLegs (repoLegs s t) ⌝ }
+    ensures { λ r. ⌜ r ≡ cappedLeg (countedLeg settled (t .day1) (t .day2) (signedLeg sign (paymentsOf (t .security)))) ⌝ }
 {
     let security = t.security;
+    let all_behind = t.day2 < first_payment_of(security);
+    if !settled & all_behind {
+        return simple_legs::no_leg();
+    }
+    let payments = payment_leg(sign, security);
+    window::counted_leg(settled, t.day1, t.day2, payments)
+}
+
+fn repo_legs(settled: bool, s: Signs, t: RepoTrade) -> Legs
+    requires { ⌜ RepoLimits t ⌝ }
+    ensures { λ r. ⌜ r ≡ cappedLegs (countedRepo settled t (repoLegs s t)) ⌝ }
+{
     let back = amounts::second_leg_cash(t.cash, t.rate, t.term);
     Legs {
         first: cash_leg(s.first, t.cashcurve, t.day1, t.cash),
         second: cash_leg(s.second, t.cashcurve, t.day2, back),
-        payments: payment_leg(s.payments, security),
+        payments: repo_payments(settled, s.payments, t),
     }
 }
 
 pub fn capped_legs(t: Trade) -> Legs
     requires { ⌜ TradeLimits t ⌝ }
-    ensures { λ r. ⌜ r ≡ cappedLegs (legsOf t) ⌝ }
+    ensures { λ r. ⌜ r ≡ cappedLegs (countedLegs t) ⌝ }
 {
     match t {
         Trade::Outright(o) => outright_legs(signs::signs_of(1, 0, o.side), o),
-        Trade::Pool(r) => repo_legs(signs::signs_of(2, r.phase, r.side), r),
-        Trade::Specified(r) => repo_legs(signs::signs_of(3, r.phase, r.side), r),
+        Trade::Pool(r) => repo_legs(
+            rules::has_settled(2, r.phase),
+            signs::signs_of(2, r.phase, r.side),
+            r,
+        ),
+        Trade::Specified(r) => repo_legs(
+            rules::has_settled(3, r.phase),
+            signs::signs_of(3, r.phase, r.side),
+            r,
+        ),
     }
 }

@@ -1,12 +1,14 @@
 // The legs of a trade, and the limit on its flows.
-use crate::Leg;
-use crate::Legs;
 use crate::trade_legs;
+use legs::Leg;
+use legs::Legs;
 use record::LARGEST;
 use trade::Trade;
 ghost use mathlib.Core.Path.{_≡_};
-ghost use Rattle.flows.specs.Legs.{legFlows, legsFlows, flowsOf, anyAbove, breaksFlowLimit};
-ghost use Rattle.flows.specs.Limits.{TradeLimits, LegsLimits, Valued};
+ghost use Rattle.legs.specs.Runs.{legFlows, legsFlows};
+ghost use Rattle.flows.specs.Legs.{flowsOf, anyAbove, breaksFlowLimit};
+ghost use Rattle.flows.specs.Limits.{TradeLimits, Valued};
+ghost use Rattle.legs.specs.Limits.{LegsLimits};
 
 // Whether a flow of the leg is above the largest amount.
 fn leg_above(l: Leg) -> bool

@@ -9,5 +9,6 @@ pub mod Worst
 pub mod Tables
 pub mod Tests
 pub mod All
+pub mod Select
 pub mod Largest
 pub mod Arrays

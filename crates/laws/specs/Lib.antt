@@ -6,3 +6,4 @@ pub mod Every
 pub mod Worst
 pub mod Tests
 pub mod All
+pub mod Select

@@ -1,8 +1,8 @@
 -- What an account has on a curve (document 01, "Margin").
-use mathlib.Core.Bool.{cond}
-use mathlib.Core.List.{List, [], _∷_}
+use mathlib.Core.List.{List}
 use Prim.Native.Nat.{ℕ}
 use lib.Dec.{eqb}
+use Rattle.laws.specs.Select.{select}
 use Rattle.curve.specs.declared.Node.{Node}
 use Rattle.curve.specs.declared.Components.{Components}
 use Rattle.discount.specs.declared.Flow.{Flow}
@@ -16,5 +16,4 @@ pub record Exposure : Type 0 where
 
 -- "A curve's flows are those that stand on it"
 unfoldable pub flowsOn : ℕ → List Flow → List Flow
-flowsOn curve [] = []
-flowsOn curve (f ∷ fs) = cond (eqb (f .curve) curve) (f ∷ flowsOn curve fs) (flowsOn curve fs)
+flowsOn curve fs = select (λ (f : Flow). eqb (f .curve) curve) fs

@@ -77,7 +77,7 @@ pub record DaysKept (f : Form) (d : Days) : Type 0 where
 
 -- a repo's two cases
 module _ (d : Days) where
-  ahead-tests : legsAhead d ≡ true → (InLimits 1 (d .term) 730) × ((d .day1 < d .day2) × (d .day2 ≤ lastDay))
+  pub ahead-tests : legsAhead d ≡ true → (InLimits 1 (d .term) 730) × ((d .day1 < d .day2) × (d .day2 ≤ lastDay))
   ahead-tests h =
       let p = four (inLimits 1 (d .term) 730) (ltb (d .day1) (d .day2)) (eqb (d .day2 - d .day1) (d .term)) (inReach (d .day2)) h in
       (in-limits 1 (d .term) 730 (p .0), (ltb-true (d .day1) (d .day2) (p .1 .0), leb-true (d .day2) lastDay (p .1 .1 .1)))
@@ -104,7 +104,7 @@ days-kept f d h =
       lent = λ e. repo-days d s (other-arm o (inReach (d .day1)) repo (p .0) e);
       ahead = λ e g. ahead-tests d (other-arm s (secondLegAhead d) (legsAhead d) (other-arm o (inReach (d .day1)) repo (p .0) e) g) .1 .0;
       paid = λ e.
-          let after = cond o (ltb (d .day1) (d .first)) (ltb (d .day2) (d .first)) in
+          let after = cond s (ltb 0 (d .first)) (ltb (d .day1) (d .first)) in
           leb-true (d .first) lastDay (both after (inReach (d .first)) (asked-true paying (firstPaymentFits f d) (p .1 .0) e) .1);
       coupons = λ e.
           let q = both (countsFit (d .period) (d .payments)) (inReach (d .first + (d .payments - 1) * d .period)) (asked-true coupons rule (p .1 .1) e) in

@@ -52,9 +52,9 @@ secondLegAhead d = inLimits 1 (d .term) 730 && leb (d .day2) (d .term)
 abbrev pub valueDaysFit : Form → Days → Bool
 valueDaysFit f d = cond (isOutright (f .kind)) (inReach (d .day1)) (cond (hasSettled (f .kind) (f .phase)) (secondLegAhead d) (legsAhead d))
 
--- "An outright's first payment falls after value day 1, a repo's after value day 2."
+-- document 02: "Rule 9 asks only that the first payment come after value day 1, or after day 0 where value day 1 is unused."
 abbrev pub firstPaymentFits : Form → Days → Bool
-firstPaymentFits f d = cond (isOutright (f .kind)) (ltb (d .day1) (d .first)) (ltb (d .day2) (d .first)) && inReach (d .first)
+firstPaymentFits f d = cond (hasSettled (f .kind) (f .phase)) (ltb 0 (d .first)) (ltb (d .day1) (d .first)) && inReach (d .first)
 
 -- "period (1 to 366)", "payments (1 to 120)"
 abbrev pub countsFit : ℕ → ℕ → Bool
@@ -64,11 +64,15 @@ countsFit period payments = inLimits 1 period 366 && inLimits 1 payments 120
 abbrev pub couponDaysFit : ℕ → ℕ → ℕ → Bool
 couponDaysFit first period payments = countsFit period payments && inReach (first + (payments - 1) * period)
 
-unfoldable pub breaksDays : Form → Days → Bool
-breaksDays f d = not (
+-- all days, given whether that of the first payment fits
+abbrev pub daysFit : Bool → Form → Days → Bool
+daysFit first f d =
     valueDaysFit f d
-    && asked (hasSecurity (f .security)) (firstPaymentFits f d)
-    && asked (hasCoupons (f .security)) (couponDaysFit (d .first) (d .period) (d .payments)))
+    && asked (hasSecurity (f .security)) first
+    && asked (hasCoupons (f .security)) (couponDaysFit (d .first) (d .period) (d .payments))
+
+unfoldable pub breaksDays : Form → Days → Bool
+breaksDays f d = not (daysFit (firstPaymentFits f d) f d)
 
 -- ---- 10. An amount, price, rate, coupon, accrued or index is wrong, or a field due to be 0 (days, and bytes 6-7, included) is not.
 

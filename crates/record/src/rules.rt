@@ -56,7 +56,7 @@ fn is_specified(kind: u64) -> bool
     kind == 3
 }
 
-fn has_settled(kind: u64, phase: u64) -> bool
+pub fn has_settled(kind: u64, phase: u64) -> bool
     ensures { λ r. ⌜ r ≡ hasSettled kind phase ⌝ }
 {
     is_pool(kind) & (phase == 3) | is_specified(kind) & (phase == 2)
@@ -159,7 +159,7 @@ fn value_days_fit(f: Form, d: Days) -> bool
 fn first_payment_fits(f: Form, d: Days) -> bool
     ensures { λ r. ⌜ r ≡ firstPaymentFits f d ⌝ }
 {
-    pick(is_outright(f.kind), d.day1 < d.first, d.day2 < d.first) & in_reach(d.first)
+    pick(has_settled(f.kind, f.phase), 0 < d.first, d.day1 < d.first) & in_reach(d.first)
 }
 
 fn counts_fit(period: u64, payments: u64) -> bool

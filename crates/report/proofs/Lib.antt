@@ -1,3 +1,4 @@
 pub mod Placed
 pub mod Answers
 pub mod Demand
+pub mod Earlier

@@ -1,2 +1,3 @@
 pub mod Entry
 pub mod Bounded
+pub mod Earlier

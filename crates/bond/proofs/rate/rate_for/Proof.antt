@@ -3,7 +3,7 @@ use Prim.Native.Nat.{_-_}
 use native.Mathlib.Omega.{arith}
 use borrow.Author.Needs.{needs}
 use Rattle.curve.specs.Rates.{nodesOf}
-use Rattle.flows.specs.Legs.{legFlows}
+use Rattle.legs.specs.Runs.{legFlows}
 use Rattle.bond.proofs.Halves.{Left, left-all, left-low, left-high, left-one}
 use Rattle.bond.proofs.rate.rate_for.Statement.{statement}
 use Rattle.bond.proofs.rate.rate_for.Tie as tie

@@ -6,7 +6,7 @@ use borrow.Author.Needs.{needs}
 use Rattle.laws.specs.Walk.{table}
 use Rattle.decimal.specs.Product.{unit}
 use Rattle.curve.specs.Rates.{nodesOf}
-use Rattle.flows.specs.Legs.{flowOf}
+use Rattle.legs.specs.Runs.{flowOf}
 use Rattle.bond.specs.Value.{bondValue}
 use Rattle.bond.proofs.Values.{value-two, value-one, value-none, value-most, payment-most}
 use Rattle.bond.proofs.value.value_between.Statement.{statement}

@@ -2,11 +2,11 @@
 use mathlib.Core.Path.{_≡_, _∙_, ap}
 use borrow.Author.Needs.{needs}
 use Rattle.trade.specs.declared.Trade.{Trade}
-use Rattle.flows.specs.declared.Legs.{Legs}
+use Rattle.legs.specs.declared.Legs.{Legs}
 use Rattle.flows.specs.Capped.{cappedLegs}
-use Rattle.flows.specs.Legs.{legsOf}
+use Rattle.flows.specs.Counted.{countedLegs}
 use Rattle.bootstrap.specs.Bought.{bondTrade}
-use Rattle.bootstrap.proofs.Payments.{payments-capped}
+use Rattle.bootstrap.proofs.Payments.{all-counted, payments-capped}
 use Rattle.bootstrap.proofs.bought.payments_of.Statement.{statement}
 use Rattle.bootstrap.proofs.bought.payments_of.Tie as tie
 
@@ -21,7 +21,7 @@ returns : tie.Need-returns
 returns c =
     let made = c .before .before in
     let start = made .before .before in
-    ap (λ (l : Legs). l .payments) (c .before .capped-legs .ensures ∙ ap (λ (t : Trade). cappedLegs (legsOf t)) (trade-is made))
+    ap (λ (l : Legs). l .payments) (c .before .capped-legs .ensures ∙ ap (λ (t : Trade). cappedLegs (countedLegs t)) (trade-is made) ∙ ap cappedLegs (all-counted (start .args .q)))
     ∙ payments-capped (start .args .q) (start .pre .0) (start .pre .1)
 
 pub payments-of-spec : {M : Type 1} → statement M

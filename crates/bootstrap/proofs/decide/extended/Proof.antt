@@ -5,8 +5,8 @@ use Rattle.curve.specs.declared.Node.{Node}
 use Rattle.curve.specs.declared.Curve.{Curve}
 use Rattle.curve.specs.Lengthen.{atRate}
 use Rattle.curve.specs.Rates.{nodesOf}
-use Rattle.flows.specs.declared.Leg.{Leg}
-use Rattle.flows.specs.Legs.{legFlows}
+use Rattle.legs.specs.declared.Leg.{Leg}
+use Rattle.legs.specs.Runs.{legFlows}
 use Rattle.bond.specs.Value.{breaksRateRange, rateFor}
 use Rattle.bootstrap.specs.declared.decide.Decision.the-variants.{Add}
 use Rattle.bootstrap.specs.Bought.{bondPayments, bondFlows}

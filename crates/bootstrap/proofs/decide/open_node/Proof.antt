@@ -5,7 +5,7 @@ use borrow.Author.Needs.{needs}
 use mir.Syntax.{w64}
 use mir.Val.{SFits}
 use mir.Facts.{toZ-ofZ}
-use Rattle.flows.specs.declared.Leg.{Leg}
+use Rattle.legs.specs.declared.Leg.{Leg}
 use Rattle.bond.specs.Value.{lastPayment}
 use Rattle.bond.specs.Limits.{PaymentLimits}
 use Rattle.bootstrap.proofs.decide.open_node.Statement.{statement}

@@ -2,7 +2,7 @@
 use mathlib.Core.Path.{_∙_}
 use Rattle.laws.proofs.Signed.{back}
 use borrow.Author.Needs.{needs}
-use Rattle.flows.specs.Legs.{oneFlow}
+use Rattle.legs.specs.Runs.{oneFlow}
 use Rattle.flows.proofs.Capped.{signed-capped}
 use Rattle.flows.proofs.trade_legs.cash_leg.Statement.{statement}
 use Rattle.flows.proofs.trade_legs.cash_leg.Tie as tie

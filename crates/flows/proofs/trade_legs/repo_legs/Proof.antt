@@ -12,7 +12,7 @@ returns c =
     let first = second .before .before in
     let s = first .before .before .before .args .s in
     rw (
-      c .payment-leg .ensures,
+      c .repo-payments .ensures,
       second .cash-leg2 .ensures,
       first .cash-leg .ensures,
       back (s .payments) (c .before .struct-told3 .given .1 .1 .0 .1),

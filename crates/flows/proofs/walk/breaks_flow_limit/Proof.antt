@@ -1,18 +1,22 @@
 -- `flows::walk::breaks_flow_limit` meets its contract.
-use Rattle.flows.specs.Legs.{legsOf, flowsOf, breaksFlowLimit}
+use Rattle.flows.specs.Legs.{breaksFlowLimit}
+use Rattle.flows.specs.Counted.{countedLegs}
 use Rattle.flows.proofs.Above.{any-capped, any-legs}
+use Rattle.flows.proofs.Counted.{flows-counted}
 use borrow.Author.Needs.{needs}
 use Rattle.flows.proofs.walk.breaks_flow_limit.Statement.{statement}
 use Rattle.flows.proofs.walk.breaks_flow_limit.Tie as tie
 
 returns : tie.Need-returns
-unfolding breaksFlowLimit flowsOf
+unfolding breaksFlowLimit
 returns c =
     let after-payments = c .before .before .before in
     let after-capped-legs = after-payments .before .before .before in
     let legs = after-payments .before .before .before .capped-legs .ensures in
-    let l = legsOf (after-capped-legs .before .args .t) in
+    let t = after-capped-legs .before .args .t in
+    let l = countedLegs t in
     rw (
+      ← flows-counted t,
       any-legs l,
       c .before .before .leg-above .ensures,
       c .before .leg-above2 .ensures,

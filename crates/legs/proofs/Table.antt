@@ -13,8 +13,8 @@ use Rattle.laws.specs.Every.{every}
 use Rattle.laws.proofs.Bools.{three}
 use Rattle.laws.proofs.Every.{every-at}
 use Rattle.laws.proofs.Signed.{read}
-use Rattle.flows.specs.declared.signs.Signs.{Signs}
-use Rattle.flows.specs.Signs.{signsOf}
+use Rattle.legs.specs.declared.signs.Signs.{Signs}
+use Rattle.legs.specs.Signs.{signsOf}
 
 -- in, out, none
 abbrev i : ℤ
@@ -34,10 +34,10 @@ signs =
     z ∷ z ∷ z ∷ z ∷ z ∷ z ∷
     z ∷ z ∷ z ∷ z ∷ z ∷ z ∷
     i ∷ o ∷ z ∷ o ∷ i ∷ z ∷
-    i ∷ o ∷ z ∷ o ∷ i ∷ z ∷
+    i ∷ o ∷ o ∷ o ∷ i ∷ i ∷
     z ∷ o ∷ i ∷ z ∷ z ∷ z ∷
     z ∷ z ∷ z ∷ z ∷ z ∷ z ∷
-    i ∷ o ∷ z ∷ o ∷ i ∷ z ∷
+    i ∷ o ∷ o ∷ o ∷ i ∷ i ∷
     z ∷ o ∷ i ∷ z ∷ i ∷ o ∷
     z ∷ z ∷ z ∷ z ∷ z ∷ z ∷ []
 

@@ -1,7 +1,7 @@
 // Which flows a trade has: a fixed table by kind, phase and side.
 ghost use mathlib.Core.Path.{_≡_};
 ghost use Prim.Native.Nat.{_≤_};
-ghost use Rattle.flows.specs.Signs.{signsOf};
+ghost use Rattle.legs.specs.Signs.{signsOf};
 
 // The signs of a trade's flows: 1 in, -1 out, 0 no such flow.
 pub struct Signs {
@@ -57,10 +57,10 @@ const SIGNS: [i64; 72] = [
     // pool repo, phase 2
     1,
     -1,
-    0,
+    -1, // payments while the security is away
     -1,
     1,
-    0,
+    1,
     // pool repo, phase 3
     0,
     -1,
@@ -78,10 +78,10 @@ const SIGNS: [i64; 72] = [
     // specified repo, phase 1
     1,
     -1,
-    0,
+    -1,
     -1,
     1,
-    0,
+    1, // the reverse-repo member gets what is paid while it has the security
     // specified repo, phase 2
     0,
     -1,
@@ -104,9 +104,11 @@ pub fn signs_of(kind: u64, phase: u64, side: u64) -> Signs
 {
     let row = (((kind - 1) * 4 + phase) * 2 + (side - 1)) * 3;
     let at = row as usize;
+    // named once: the table is laid out at each mention of it
+    let table = SIGNS;
     Signs {
-        first: SIGNS[at],
-        second: SIGNS[at + 1],
-        payments: SIGNS[at + 2],
+        first: table[at],
+        second: table[at + 1],
+        payments: table[at + 2],
     }
 }

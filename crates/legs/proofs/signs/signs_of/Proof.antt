@@ -1,12 +1,12 @@
--- `flows::signs::signs_of` meets its contract: the table's rule is tested over the whole table once.
+-- `legs::signs::signs_of` meets its contract: the table's rule is tested over the whole table once.
 use mathlib.Core.Path.{_≡_, _∙_}
 use Prim.Native.Nat.{_+_, _-_, _*_, _/_, _%_}
 use native.Mathlib.Nat.{div-eq-of-lt-le}
 use native.Mathlib.Omega.{arith}
 use borrow.Author.Needs.{needs}
-use Rattle.flows.proofs.Table.{rule}
-use Rattle.flows.proofs.signs.signs_of.Statement.{statement}
-use Rattle.flows.proofs.signs.signs_of.Tie as tie
+use Rattle.legs.proofs.Table.{rule}
+use Rattle.legs.proofs.signs.signs_of.Statement.{statement}
+use Rattle.legs.proofs.signs.signs_of.Tie as tie
 
 returns : tie.Need-returns
 returns c =

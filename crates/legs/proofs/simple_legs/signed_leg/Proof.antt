@@ -1,10 +1,10 @@
--- `flows::trade_legs::signed_leg` meets its contract.
+-- `legs::simple_legs::signed_leg` meets its contract.
 use mathlib.Core.Path.{sym, _∙_}
 use Rattle.laws.proofs.Signed.{back}
 use borrow.Author.Needs.{needs}
-use Rattle.flows.proofs.Capped.{signed-in, signed-out, signed-none}
-use Rattle.flows.proofs.trade_legs.signed_leg.Statement.{statement}
-use Rattle.flows.proofs.trade_legs.signed_leg.Tie as tie
+use Rattle.legs.proofs.Signed.{signed-in, signed-out, signed-none}
+use Rattle.legs.proofs.simple_legs.signed_leg.Statement.{statement}
+use Rattle.legs.proofs.simple_legs.signed_leg.Tie as tie
 
 returns : tie.Need-returns
 returns c = let a = c .before .before .args in c .direct .ensures ∙ sym (signed-in (a .sign) (a .l) (rw (back (a .sign) (c .before .before .fits .sign .sfits)) at (c .before .if1 .taken)))

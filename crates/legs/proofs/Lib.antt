@@ -1,0 +1,5 @@
+mod Table
+pub mod Signed
+pub mod Numbered
+pub mod Counted
+pub mod Reach
