@@ -129,9 +129,16 @@ pub fn draw_different(draw: &mut Draw, curves: &[Curve], count: usize) -> Vec<Re
 /// (cash of a repo, nominal of an outright) differ, and neither has the
 /// other's second leg for its amount.
 pub fn are_different(one: &Record, other: &Record) -> bool {
+    let last_day = |r: &Record| {
+        if r.is_repo() {
+            r.value_day_2
+        } else {
+            r.value_day_1
+        }
+    };
     let amount = |r: &Record| if r.is_repo() { r.repo_cash } else { r.nominal };
     let amount_back = |r: &Record| second_leg(r.repo_cash, r.price_or_rate, r.term);
-    one.value_day() != other.value_day()
+    last_day(one) != last_day(other)
         && amount(one) != amount(other)
         && u128::from(amount(one)) != amount_back(other)
         && u128::from(amount(other)) != amount_back(one)

@@ -16,12 +16,15 @@ pub mod endings;
 pub mod engine;
 pub mod examples;
 pub mod near_ties;
+pub mod paying;
 pub mod preview;
 pub mod preview_ending;
 pub mod quote;
 pub mod quote_damage;
 pub mod record;
 pub mod record_damage;
+pub mod repo;
+pub mod repo_case;
 pub mod timing;
 
 pub use book::{assemble, draw_book};
@@ -35,12 +38,15 @@ pub use endings::Endings;
 pub use engine::{Engine, Model};
 pub use examples::{buyer, seller, undiscounted_book};
 pub use near_ties::{draw_near_ties, NearTies};
+pub use paying::Paying;
 pub use preview::{append_then_margin, draw_preview_case};
 pub use preview_ending::{PreviewEnding, PreviewFault};
 pub use quote::draw_quote;
 pub use quote_damage::{damage_quote, QuoteDamage};
-pub use record::draw_record;
+pub use record::{draw_record, draw_record_paying};
 pub use record_damage::{damage_record, record_grounds};
+pub use repo::{draw_repo, draw_repo_book};
+pub use repo_case::{Place, RepoCase};
 pub use timing::{
     full_book, mixed_book, near_tie_book, small_book, typical_book, zero_component_book,
 };

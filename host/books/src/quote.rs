@@ -51,7 +51,7 @@ fn draw_bond(draw: &mut Draw, curves: &[Curve], curve: &Curve) -> Record {
         ..Record::default()
     };
     let most_payments = draw.pick(&[1, 2, 4, 4, 12, 12, (*PAYMENTS.end()).into()]);
-    draw_security(draw, &mut bond, most_payments);
+    draw_security(draw, &mut bond, 1..=MAX_DAY, most_payments);
     let latest = MAX_DAY - bond.payment_span();
     let after = u64::from(curve.last_node().day) + 1;
     let after = after.saturating_sub(bond.payment_span());

@@ -1,6 +1,7 @@
 //! Records drawn at random that pass grounds 8 to 12.
 
 use crate::draw::Draw;
+use crate::paying::Paying;
 use seddolki_model::block::Curve;
 use seddolki_model::flows::TABLE;
 use seddolki_model::limits::{
@@ -15,15 +16,28 @@ use seddolki_model::Ground;
 use std::ops::RangeInclusive;
 
 /// A record that a book with these curves accepts, with at most so many
-/// payments.
+/// payments. A repo's security pays in each way equally often.
 pub fn draw_record(draw: &mut Draw, curves: &[Curve], most_payments: u64) -> Record {
+    let paying = draw.pick(&Paying::ALL);
+    draw_record_paying(draw, curves, most_payments, paying)
+}
+
+/// The same, a repo's security paying in this way.
+pub fn draw_record_paying(
+    draw: &mut Draw,
+    curves: &[Curve],
+    most_payments: u64,
+    paying: Paying,
+) -> Record {
     let mut record = Record::default();
     draw_combination(draw, &mut record);
     draw_curve_ids(draw, &mut record, curves);
-    draw_value_days(draw, &mut record);
+    draw_value_days(draw, &mut record, paying);
     draw_price(draw, &mut record);
     if record.has_security() {
-        draw_security(draw, &mut record, most_payments);
+        let days = paying.days(&record);
+        draw_security(draw, &mut record, days, most_payments);
+        paying.arrange(draw, &mut record);
     }
     bring_within_limit(&mut record, curves);
     record
@@ -44,9 +58,10 @@ fn draw_curve_ids(draw: &mut Draw, record: &mut Record, curves: &[Curve]) {
     }
 }
 
-/// Leaves a day for the first payment where there is one.
-fn draw_value_days(draw: &mut Draw, record: &mut Record) {
-    let last = MAX_DAY - u64::from(record.has_security());
+/// Leaves a day for payments that fall behind the value days.
+fn draw_value_days(draw: &mut Draw, record: &mut Record, paying: Paying) {
+    let pays_behind = !record.is_repo() || paying == Paying::Behind;
+    let last = MAX_DAY - u64::from(record.has_security() && pays_behind);
     if !record.is_repo() {
         record.value_day_1 = draw.edge(0..=last) as u16;
         return;
@@ -73,24 +88,28 @@ fn draw_price(draw: &mut Draw, record: &mut Record) {
     }
 }
 
-/// What the security pays, after the value day.
-pub(crate) fn draw_security(draw: &mut Draw, record: &mut Record, most_payments: u64) {
+/// What the security pays, on some of these days.
+pub(crate) fn draw_security(
+    draw: &mut Draw,
+    record: &mut Record,
+    days: RangeInclusive<u64>,
+    most_payments: u64,
+) {
     record.nominal = draw.edge(AMOUNTS);
+    let (first, last) = days.into_inner();
     if record.has_coupons() {
-        draw_schedule(draw, record, most_payments);
+        draw_schedule(draw, record, last - first, most_payments);
         record.coupon = draw.edge(0..=MAX_COUPON.into()) as u32;
     }
     if record.is_indexed() {
         record.settlement_index = draw.edge(wide(INDICES)) as u32;
         record.issue_index = draw.edge(wide(INDICES)) as u32;
     }
-    let first = u64::from(record.value_day()) + 1;
-    record.first_payment_day = draw.edge(first..=MAX_DAY - record.payment_span()) as u16;
+    record.first_payment_day = draw.edge(first..=last - record.payment_span()) as u16;
 }
 
-/// Payments and period that end in time.
-fn draw_schedule(draw: &mut Draw, record: &mut Record, most_payments: u64) {
-    let room = MAX_DAY - u64::from(record.value_day()) - 1;
+/// Payments and period that need no more room from the first to the last.
+fn draw_schedule(draw: &mut Draw, record: &mut Record, room: u64, most_payments: u64) {
     let most = most_payments.min(room + 1).min((*PAYMENTS.end()).into());
     let payments = draw.edge(u64::from(*PAYMENTS.start())..=most);
     let longest = room.checked_div(payments - 1).unwrap_or(u64::MAX);

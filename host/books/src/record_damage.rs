@@ -3,7 +3,7 @@
 use crate::draw::Draw;
 use crate::record::bring_within_limit;
 use seddolki_model::block::Curve;
-use seddolki_model::flows::signs_of;
+use seddolki_model::flows::{payment_counts, payments, signs_of};
 use seddolki_model::limits::{
     CLEAN_PRICES, INDICES, MAX_ACCRUED, MAX_AMOUNT, MAX_COUPON, MAX_DAY, MAX_RATE, PAYMENTS,
     PERIODS, TERMS,
@@ -99,7 +99,7 @@ fn schedule(spoiled: &mut Spoiled) {
         spoiled.set(&late, |r, day| r.value_day_1 = day);
     }
     if whole.has_security() {
-        let early = [0, whole.value_day()];
+        let early = [0, whole.payments_after()];
         spoiled.set(&early, |r, day| r.first_payment_day = day);
         spoiled.set(&late, |r, day| r.first_payment_day = day);
     }
@@ -202,9 +202,6 @@ fn flow_limit(spoiled: &mut Spoiled, curves: &[Curve]) {
             r.repo_cash += 1;
         });
     }
-    if signs.payments == 0 {
-        return;
-    }
     let dear = |r: &mut Record| {
         r.nominal = MAX_AMOUNT;
         if r.has_coupons() {
@@ -218,7 +215,7 @@ fn flow_limit(spoiled: &mut Spoiled, curves: &[Curve]) {
             r.price_or_rate = *CLEAN_PRICES.end();
         }
     };
-    if !spoiled.whole.is_repo() || spoiled.whole.has_coupons() {
+    if can_pay_too_much(&spoiled.whole) {
         spoiled.add(dear);
         spoiled.add(|r| {
             dear(r);
@@ -226,4 +223,14 @@ fn flow_limit(spoiled: &mut Spoiled, curves: &[Curve]) {
             r.nominal += 1;
         });
     }
+}
+
+/// Whether a flow that the nominal makes can exceed the limit: the settlement
+/// cash of an outright, a last payment with its coupon, or any indexed one.
+fn can_pay_too_much(record: &Record) -> bool {
+    let counts = |day| payment_counts(record, day);
+    let any_counts = || payments(record).iter().any(|&(day, _)| counts(day));
+    !record.is_repo()
+        || record.has_coupons() && counts(record.last_payment_day())
+        || record.is_indexed() && any_counts()
 }

@@ -1,7 +1,8 @@
 //! Books to take times on, the same on every machine.
 
 use crate::draw::Draw;
-use crate::record::draw_record;
+use crate::paying::Paying;
+use crate::record::draw_record_paying;
 use seddolki_model::accept::Book;
 use seddolki_model::block::{Curve, Node, CURVE};
 use seddolki_model::limits::{FULL_BLOCK, MAX_BLOCKS, MAX_CURRENCIES, MAX_STEPS, PAYMENTS};
@@ -93,7 +94,8 @@ fn book(curves: Vec<Curve>, trades: Vec<Record>) -> Book {
     }
 }
 
-/// So many curves, each with these steps, and trades of every kind.
+/// So many curves, each with these steps, and trades of every kind. Repos pay
+/// behind their terms alone, so that times can be held against earlier ones.
 pub fn mixed_book(curve_count: u8, trade_count: usize, steps: [u8; 3]) -> Book {
     let mut draw = Draw::new(curve_count.into());
     let mut curves = curves(&mut draw, curve_count);
@@ -101,7 +103,7 @@ pub fn mixed_book(curve_count: u8, trade_count: usize, steps: [u8; 3]) -> Book {
         curve.steps = steps;
     }
     let trades = (0..trade_count)
-        .map(|_| draw_record(&mut draw, &curves, 20))
+        .map(|_| draw_record_paying(&mut draw, &curves, 20, Paying::Behind))
         .collect();
     book(curves, trades)
 }

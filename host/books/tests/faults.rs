@@ -177,10 +177,9 @@ fn a_fault_lies_in_the_trade_that_was_spoiled() {
 /// cases where another is as much to blame: a phase that another kind would
 /// have, and a value day 2 that does not fall after value day 1.
 fn blame(spoiled: &Record, changed: &'static str) -> &'static str {
-    let last = MAX_DAY - u64::from(spoiled.has_security());
     match changed {
         "kind" if (1..=3).contains(&spoiled.kind) => "phase",
-        "value_day_1" if spoiled.is_repo() && u64::from(spoiled.value_day_1) < last => {
+        "value_day_1" if spoiled.is_repo() && u64::from(spoiled.value_day_1) < MAX_DAY => {
             let unused = spoiled.first_leg_settled();
             if unused {
                 "value_day_1"

@@ -231,7 +231,11 @@ fn limits_of_a_repo() {
             (|b| set_ahead(b, 1), 0),
             (|b| set_ahead(b, 0), 9),
             (|b| trade(b).first_payment_day = 11, 0),
-            (|b| trade(b).first_payment_day = 10, 9),
+            (|b| trade(b).first_payment_day = 10, 0),
+            (|b| trade(b).first_payment_day = 4, 0),
+            (|b| trade(b).first_payment_day = 3, 9),
+            (|b| set_last_day(b, 10_950), 0),
+            (|b| set_last_day(b, 10_951), 9),
             (|b| trade(b).repo_cash = 1_000_000_000_000, 12),
             (|b| trade(b).repo_cash = 1_000_000_000_001, 10),
             (|b| trade(b).repo_cash = 1, 0),
@@ -259,6 +263,10 @@ fn limits_of_a_settled_repo() {
             (|b| trade(b).value_day_2 = 0, 0),
             (|b| trade(b).value_day_2 = 8, 9),
             (|b| trade(b).value_day_1 = 1, 10),
+            (|b| trade(b).value_day_1 = 365, 10),
+            (|b| trade(b).first_payment_day = 7, 0),
+            (|b| trade(b).first_payment_day = 1, 0),
+            (|b| trade(b).first_payment_day = 0, 9),
             (|b| trade(b).term = 730, 0),
             (|b| trade(b).term = 731, 9),
         ],
@@ -270,8 +278,8 @@ fn limits_of_a_repo_without_security() {
     answers(
         pool_agreed(),
         &[
-            (|b| set_last_day(b, 10_950), 0),
-            (|b| set_last_day(b, 10_951), 9),
+            (|b| set_last_day_alone(b, 10_950), 0),
+            (|b| set_last_day_alone(b, 10_951), 9),
             (|b| trade(b).security_curve = 1, 8),
             (|b| trade(b).first_payment_day = 11, 10),
             (|b| trade(b).nominal = 1, 10),
@@ -279,9 +287,15 @@ fn limits_of_a_repo_without_security() {
     );
 }
 
-fn set_last_day(book: &mut Book, day: u16) {
+fn set_last_day_alone(book: &mut Book, day: u16) {
     trade(book).value_day_2 = day;
     trade(book).value_day_1 = day - 7;
+}
+
+/// The same, the security paying on the day after value day 1.
+fn set_last_day(book: &mut Book, day: u16) {
+    set_last_day_alone(book, day);
+    trade(book).first_payment_day = day - 6;
 }
 
 #[test]

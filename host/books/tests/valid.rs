@@ -111,6 +111,23 @@ fn books_reach_the_limits_of_a_trade() {
     assert!(books_with(any_trade(|r| r.term == 730)) >= 100);
     assert!(books_with(any_trade(|r| r.is_repo() && r.price_or_rate == 0)) >= 100);
     assert!(books_with(any_trade(|r| u64::from(r.price_or_rate) == MAX_RATE)) >= 100);
+    let no_day_behind = |r: &Record| r.has_security() && u64::from(r.value_day_2) == MAX_DAY;
+    assert!(books_with(any_trade(no_day_behind)) >= 40);
+}
+
+#[test]
+fn books_have_repos_of_every_way_to_pay() {
+    let ends = |r: &Record| (u64::from(r.first_payment_day), r.last_payment_day());
+    let pays = |first: bool, last: bool| {
+        any_trade(move |r| {
+            let (first_day, last_day) = ends(r);
+            let inside = (r.in_term(first_day), r.in_term(last_day));
+            r.is_repo() && r.has_security() && inside == (first, last)
+        })
+    };
+    assert!(books_with(pays(true, true)) >= 100);
+    assert!(books_with(pays(true, false)) >= 100);
+    assert!(books_with(pays(false, false)) >= 100);
 }
 
 #[test]
@@ -125,5 +142,7 @@ fn the_timed_books_are_accepted_and_of_their_sizes() {
         assert_eq!((book.curves.len(), book.trades.len()), (curves, trades));
         assert_eq!(bytes.len(), blocks * BLOCK);
         assert!(book.curves.iter().all(|c| scenarios(c).len() == 343));
+        let inside = |r: &Record| r.in_term(r.first_payment_day.into());
+        assert!(!book.trades.iter().any(inside));
     }
 }

@@ -96,13 +96,21 @@ impl Record {
         self.security == INDEXED_COUPONS
     }
 
-    /// The day after which the first payment falls.
-    pub fn value_day(&self) -> u16 {
-        if self.is_repo() {
-            self.value_day_2
+    /// The day after which the first payment falls: value day 1, or today
+    /// where that is unused.
+    pub fn payments_after(&self) -> u16 {
+        if self.first_leg_settled() {
+            0
         } else {
             self.value_day_1
         }
+    }
+
+    /// Whether a payment of a repo's security on a day falls inside the term:
+    /// after value day 1, or after today where that is unused, and up to value
+    /// day 2.
+    pub fn in_term(&self, day: u64) -> bool {
+        self.is_repo() && day > self.payments_after().into() && day <= self.value_day_2.into()
     }
 
     /// Days from the first payment to the last; 0 with fewer than two.

@@ -96,6 +96,7 @@ fn more_on(ground: Ground) -> Vec<String> {
             reasons::SETTLED.into(),
             reasons::OUTRIGHT_PAYMENTS.into(),
             reasons::REPO_PAYMENTS.into(),
+            reasons::SETTLED_PAYMENTS.into(),
             reasons::BOND_PAYMENTS.into(),
             format!("no payment falls after day {}", Unit::Whole.words(MAX_DAY)),
         ],
@@ -108,6 +109,7 @@ fn more_on(ground: Ground) -> Vec<String> {
             reasons::NO_COUPONS,
             reasons::NO_INDICES,
         ]),
+        Ground::FlowLimit => said(&[reasons::COUNTED_AHEAD, reasons::COUNTED_SETTLED]),
         _ => vec![],
     }
 }

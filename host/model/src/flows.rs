@@ -28,7 +28,7 @@ pub struct Signs {
     pub first_leg: i64,
     /// Of what a repo pays back.
     pub second_leg: i64,
-    /// Of the security's payments.
+    /// Of the security's payments, as far as they count.
     pub payments: i64,
 }
 
@@ -46,12 +46,12 @@ pub const TABLE: [(u8, u8, u8, Signs); 12] = [
     (OUTRIGHT, 0, SECOND_SIDE, signs(1, 0, -1)),
     (POOL, 1, FIRST_SIDE, signs(1, -1, 0)),
     (POOL, 1, SECOND_SIDE, signs(-1, 1, 0)),
-    (POOL, 2, FIRST_SIDE, signs(1, -1, 0)),
-    (POOL, 2, SECOND_SIDE, signs(-1, 1, 0)),
+    (POOL, 2, FIRST_SIDE, signs(1, -1, -1)),
+    (POOL, 2, SECOND_SIDE, signs(-1, 1, 1)),
     (POOL, 3, FIRST_SIDE, signs(0, -1, 1)),
     (POOL, 3, SECOND_SIDE, signs(0, 0, 0)),
-    (SPECIFIED, 1, FIRST_SIDE, signs(1, -1, 0)),
-    (SPECIFIED, 1, SECOND_SIDE, signs(-1, 1, 0)),
+    (SPECIFIED, 1, FIRST_SIDE, signs(1, -1, -1)),
+    (SPECIFIED, 1, SECOND_SIDE, signs(-1, 1, 1)),
     (SPECIFIED, 2, FIRST_SIDE, signs(0, -1, 1)),
     (SPECIFIED, 2, SECOND_SIDE, signs(0, 1, -1)),
 ];
@@ -128,6 +128,22 @@ fn coupon_payment(record: &Record, i: u16) -> (u64, u128) {
     (day, amount)
 }
 
+/// Whether a payment of the security on a day is a flow of the trade: of an
+/// outright any, of a repo with both legs ahead one inside the term, of one
+/// whose first leg has settled one behind it. The record has passed grounds 8
+/// to 10.
+pub fn payment_counts(record: &Record, day: u64) -> bool {
+    let has_payments = signs_of(record).is_some_and(|signs| signs.payments != 0);
+    let on_this_day = if !record.is_repo() {
+        true
+    } else if record.first_leg_settled() {
+        day > record.value_day_2.into()
+    } else {
+        record.in_term(day)
+    };
+    has_payments && on_this_day
+}
+
 /// What a flow of a trade is.
 #[derive(Clone, Copy, Debug, PartialEq, Eq)]
 pub enum Leg {
@@ -135,7 +151,7 @@ pub enum Leg {
     First,
     /// What a repo pays back.
     Second,
-    /// A payment of the security.
+    /// A payment of the security that counts.
     Payment,
 }
 
@@ -167,16 +183,15 @@ pub fn named_flows(record: &Record) -> Vec<(Leg, CashFlow)> {
         let flow = cash_flow(signs.second_leg, record.value_day_2, cash);
         flows.push((Leg::Second, flow));
     }
-    if signs.payments != 0 {
-        let payment = |(day, amount)| CashFlow {
-            curve: record.security_curve,
-            day,
-            amount,
-            sign: signs.payments,
-        };
-        let payments = payments(record).into_iter().map(payment);
-        flows.extend(payments.map(|flow| (Leg::Payment, flow)));
-    }
+    let payment = |(day, amount)| CashFlow {
+        curve: record.security_curve,
+        day,
+        amount,
+        sign: signs.payments,
+    };
+    let counted = payments(record).into_iter();
+    let counted = counted.filter(|(day, _)| payment_counts(record, *day));
+    flows.extend(counted.map(|counted| (Leg::Payment, payment(counted))));
     flows
 }
 

@@ -7,7 +7,8 @@ pub const LEGS: &str = "value day 2 falls after value day 1";
 pub const TERM: &str = "the days from value day 1 to value day 2";
 pub const SETTLED: &str = "where the first leg has settled, value day 2 is at most the term";
 pub const OUTRIGHT_PAYMENTS: &str = "an outright's payments fall after value day 1";
-pub const REPO_PAYMENTS: &str = "a repo's payments fall after value day 2";
+pub const REPO_PAYMENTS: &str = "a repo's payments fall after value day 1";
+pub const SETTLED_PAYMENTS: &str = "where the first leg has settled, payments fall after day 0";
 pub const BOND_PAYMENTS: &str = "a quoted bond's payments fall after day 0";
 
 pub const NO_SECOND_LEG: &str = "an outright has no value day 2, term or repo cash";
@@ -17,3 +18,8 @@ pub const NO_FIRST_LEG: &str = "where the first leg has settled, value day 1 is 
 pub const NO_SECURITY: &str = "a trade without security has no first payment day or nominal";
 pub const NO_COUPONS: &str = "only coupons have a period, payments and a coupon";
 pub const NO_INDICES: &str = "only indexed coupons have indices";
+
+pub const COUNTED_AHEAD: &str =
+    "where both legs are ahead, payments are flows only after value day 1 and up to value day 2";
+pub const COUNTED_SETTLED: &str =
+    "where the first leg has settled, payments are flows only after value day 2";

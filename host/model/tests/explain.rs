@@ -30,6 +30,19 @@ fn a_rule_has_the_limits_of_its_fields() {
         (Ground::Amounts, "a repo has no accrued\n"),
         (Ground::Form, "curve: 1 to 8, the curve that the bond"),
         (Ground::Days, "a quoted bond's payments fall after day 0\n"),
+        (Ground::Days, "a repo's payments fall after value day 1\n"),
+        (
+            Ground::Days,
+            "where the first leg has settled, payments fall after day 0\n",
+        ),
+        (
+            Ground::FlowLimit,
+            "where both legs are ahead, payments are flows only after value day 1 and up to value day 2\n",
+        ),
+        (
+            Ground::FlowLimit,
+            "where the first leg has settled, payments are flows only after value day 2\n",
+        ),
         (Ground::Amounts, "a quoted bond has no term\n"),
         (Ground::CurveEnd, "node_count: 2 to 24, nodes of"),
         (Ground::RateRange, "cash: 0.01 to 10,000,000,000.00, what"),

@@ -226,7 +226,8 @@ fn the_value_days_of_a_repo() {
 #[test]
 fn a_repo_whose_first_leg_has_settled() {
     const SETTLED: &str = "where the first leg has settled, value day 2 is at most the term";
-    const PAYMENTS: &str = "a repo's payments fall after value day 2, by day 10,950";
+    const PAYMENTS: &str = "where the first leg has settled, payments fall after day 0, \
+                            by day 10,950";
     const UNUSED: &str = "where the first leg has settled, value day 1 is unused";
     tells(
         Ground::Days,
@@ -243,14 +244,30 @@ fn a_repo_whose_first_leg_has_settled() {
                 "days of a repo",
             ),
             (
-                |r| r.first_payment_day = 7,
-                "first_payment_day: 7 is there, 8 to 10,950",
+                |r| r.first_payment_day = 0,
+                "first_payment_day: 0 is there, 1 to 10,950",
                 PAYMENTS,
             ),
         ],
     );
     let unused: Example = (|r| r.value_day_1 = 1, "value_day_1: 1 is there, 0", UNUSED);
     tells(Ground::Amounts, settled(), &[unused]);
+}
+
+#[test]
+fn a_repo_whose_security_leaves_on_value_day_1() {
+    const PAYMENTS: &str = "a repo's payments fall after value day 1, by day 10,950";
+    const EARLY: &str = "first_payment_day: 1 is there, 2 to 10,950";
+    const LEGS: &str = "value day 2 falls after value day 1, by day 10,950";
+    const LATE: &str = "value_day_1: 10,950 is there, 0 to 10,949";
+    tells(
+        Ground::Days,
+        specified(),
+        &[
+            (|r| r.first_payment_day = 1, EARLY, PAYMENTS),
+            (|r| r.value_day_1 = 10_950, LATE, LEGS),
+        ],
+    );
 }
 
 #[test]
@@ -446,9 +463,22 @@ fn flows_above_the_limit() {
     fn dear(record: &mut Record) {
         (record.nominal, record.price_or_rate) = (1_000_000_000_000, 1_200_000);
     }
+    const INSIDE: &str = "it makes a payment of 10,250,000,000.00 on day 8, \
+                          and a flow is 10,000,000,000.00 at most";
     let payment: Example = (|r| r.nominal = 1_000_000_000_000, NOMINAL, PAYMENT);
+    let inside: Example = (|r| r.nominal = 1_000_000_000_000, NOMINAL, INSIDE);
     let second_leg: Example = (|r| r.repo_cash = 1_000_000_000_000, CASH, SECOND_LEG);
     tells(Ground::FlowLimit, single(), &[(dear, NOMINAL, SETTLEMENT)]);
     tells(Ground::FlowLimit, coupons(), &[payment]);
     tells(Ground::FlowLimit, specified(), &[second_leg]);
+    // the last of two payments falls on value day 2
+    let ends_inside = Record {
+        security: 2,
+        first_payment_day: 4,
+        period: 4,
+        payments: 2,
+        coupon: 25_000,
+        ..specified()
+    };
+    tells(Ground::FlowLimit, ends_inside, &[inside]);
 }

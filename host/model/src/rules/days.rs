@@ -8,25 +8,25 @@ use crate::record::Record;
 use crate::words::Unit;
 use std::fmt::{from_fn, Display};
 
+/// Something falls after value day 1: an outright's payment, a repo's second
+/// leg.
+const LAST_VALUE_DAY_1: i128 = MAX_DAY as i128 - 1;
+
 /// Value days, term, payments, in this order.
 pub fn hold<W: Tell>(record: &Record) -> Kept<W> {
     if !record.is_repo() {
-        let days = 0..=last_value_day(record);
         let why = in_time(reasons::OUTRIGHT_PAYMENTS);
-        VALUE_DAY_1.of(record).within(days, why)?;
+        VALUE_DAY_1.of(record).within(0..=LAST_VALUE_DAY_1, why)?;
+        payments_hold(record, reasons::OUTRIGHT_PAYMENTS)
     } else if record.first_leg_settled() {
         TERM.of(record).within_limits()?;
         let days = 0..=record.term.into();
         VALUE_DAY_2.of(record).within(days, reasons::SETTLED)?;
+        payments_hold(record, reasons::SETTLED_PAYMENTS)
     } else {
         legs_hold(record)?;
+        payments_hold(record, reasons::REPO_PAYMENTS)
     }
-    let after = if record.is_repo() {
-        reasons::REPO_PAYMENTS
-    } else {
-        reasons::OUTRIGHT_PAYMENTS
-    };
-    payments_hold(record, after)
 }
 
 /// Of the security, if any; `after` says which day it pays after.
@@ -40,17 +40,12 @@ pub fn payments_hold<W: Tell>(record: &Record, after: &str) -> Kept<W> {
     Ok(())
 }
 
-/// A security pays on a later day.
-fn last_value_day(record: &Record) -> i128 {
-    i128::from(MAX_DAY) - i128::from(record.has_security())
-}
-
 /// Of a repo with both legs ahead. The term has to agree with the days, not
 /// the days with the term.
 fn legs_hold<W: Tell>(record: &Record) -> Kept<W> {
     let (day_1, day_2) = (VALUE_DAY_1.of(record), VALUE_DAY_2.of(record));
-    let (last, longest) = (last_value_day(record), TERM.about.most);
-    day_1.within(0..=last - 1, in_time(reasons::LEGS))?;
+    let (last, longest) = (VALUE_DAY_2.about.most, TERM.about.most);
+    day_1.within(0..=LAST_VALUE_DAY_1, in_time(reasons::LEGS))?;
     let apart = day_2.number - day_1.number;
     if apart > longest {
         TERM.of(record).within_limits()?;
@@ -65,7 +60,7 @@ fn legs_hold<W: Tell>(record: &Record) -> Kept<W> {
 fn payments_have_room<W: Tell>(record: &Record) -> Kept<W> {
     let period = PERIOD.of(record);
     period.within_limits()?;
-    let room = last_value_day(record) - i128::from(record.value_day());
+    let room = i128::from(MAX_DAY) - earliest_payment(record);
     let most = PAYMENT_COUNT.about.most.min(1 + room / period.number);
     let why = format_args!(
         "payments are {} days apart, the last by day {}",
@@ -76,14 +71,17 @@ fn payments_have_room<W: Tell>(record: &Record) -> Kept<W> {
 }
 
 fn first_payment_holds<W: Tell>(record: &Record, after: &str) -> Kept<W> {
-    let first = i128::from(record.value_day()) + 1;
     let mut latest = i128::from(MAX_DAY);
     if record.has_coupons() {
         latest -= i128::from(record.payment_span());
     }
     FIRST_PAYMENT_DAY
         .of(record)
-        .within(first..=latest, in_time(after))
+        .within(earliest_payment(record)..=latest, in_time(after))
+}
+
+fn earliest_payment(record: &Record) -> i128 {
+    i128::from(record.payments_after()) + 1
 }
 
 /// What falls after a day falls on the last day of all at the latest.
