@@ -5,8 +5,8 @@
 #include <stdio.h>
 #include <stdlib.h>
 
-#if SEDDOLKI_VERSION != 2
-#error "this program is written for version 2 of seddolki.h"
+#if SEDDOLKI_VERSION != 3
+#error "this program is written for version 3 of seddolki.h"
 #endif
 
 /* A file that is longer than the largest book is refused by its length. */

@@ -21,7 +21,7 @@ seddolki_curve lengthened(const seddolki_curve *curve, const seddolki_bond *bond
 }
 
 /* Outside the nodes the end node's, between two on the line, cut towards zero. */
-static uint64_t rate_on(const seddolki_curve *curve, uint64_t day) {
+uint64_t rate_on(const seddolki_curve *curve, uint64_t day) {
     const seddolki_node *node = curve->places, *last = node + curve->node_count - 1;
     if (day < seddolki_get_u16(&node->day)) return seddolki_get_u32(&node->rate);
     while (node < last && seddolki_get_u16(&node[1].day) <= day) node++;

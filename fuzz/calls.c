@@ -5,6 +5,7 @@
 #include "calls.h"
 
 #include "answers.h"
+#include "flows.h"
 #include "held.h"
 #include "lent.h"
 
@@ -14,6 +15,18 @@ static int all_zero(const uint8_t *bytes, size_t len) {
     for (size_t i = 0; i < len; i++)
         if (bytes[i]) return 0;
     return 1;
+}
+
+/* That a report has the sums of the flows' present values and tolerances. */
+static void expect_sums(const uint8_t *book, size_t used, const seddolki_report *report) {
+    uint8_t curves = (uint8_t)seddolki_get_u16(&blocks_of(book)->header.curves);
+    for (uint8_t id = 1; id <= curves; id++) {
+        const seddolki_curve_figures *shown = &report->curves[id - 1];
+        worth due = worth_on(blocks_of(book), used, id);
+        expect(seddolki_get_i64(&shown->base) == due.base, "a base is its flows' present value");
+        expect(seddolki_get_u64(&shown->tolerance) == due.tolerance,
+               "a tolerance is the sum of its flows'");
+    }
 }
 
 static void try_margin(const input *in, seddolki_answer checked) {
@@ -37,6 +50,7 @@ static void try_margin(const input *in, seddolki_answer checked) {
            "a report has its check");
     expect(is_painted(report + SEDDOLKI_BLOCK, in->report_len - SEDDOLKI_BLOCK),
            "bytes past the report stay");
+    expect_sums(book, in->used, &block->report);
 }
 
 static void try_read(const input *in, seddolki_answer checked) {
@@ -64,6 +78,7 @@ static void try_append(const input *in, seddolki_answer checked) {
     note_length(APPEND, in->used, used);
     expect(!memcmp(book + used, in->lent + used, in->len - used), "bytes behind stay");
     expect(seddolki_check(book, in->len, used).number == 0, "an appended book is accepted");
+    note_held(book, used);
     size_t blocks = seddolki_get_u16(&blocks_of(book)->header.trade_blocks);
     size_t count = blocks_of(book + used - SEDDOLKI_BLOCK)->trades.count;
     size_t last = (blocks - 1) * SEDDOLKI_FULL_BLOCK + count - 1;

@@ -1,6 +1,10 @@
 #include "held.h"
 
 #include "answers.h"
+#include "bond.h"
+#include "flows.h"
+
+#include <stdio.h>
 
 /* Flows times scenarios that are valued at most. */
 #ifndef WORK
@@ -12,6 +16,22 @@ enum { A_SCENARIO = 8 };
 
 /* Each kind, side, phase and security of a trade in an accepted book; each number of curves. */
 KEPT held[4][4][4][4], curves_held[9];
+
+/* Where a payment falls beside a repo's value day 2. */
+enum { BEFORE, ON, NEXT_DAY, LATER, DAYS };
+
+/* Each kind, side and phase of a repo in an accepted book, by its first payment and its last. */
+KEPT paid[4][4][4][DAYS][DAYS];
+
+/* Those of all inputs, and how many there were. */
+static uint8_t paid_so_far[sizeof paid];
+static int ways;
+
+/*
+ * How many repos were met, by whether the first leg has settled, and whether
+ * they pay up to value day 2, before and after it, or after it.
+ */
+static uint64_t repos[2][3];
 
 /* Each worst scenario of a report, by the sign of the base. */
 KEPT worst[2][343];
@@ -31,15 +51,51 @@ int is_quick(const uint8_t *book, size_t used) {
     return (A_SCENARIO + flows) * scenarios < WORK;
 }
 
+__attribute__((destructor)) static void print_repos(void) {
+    static const char *words[] = {"not settled", "settled"};
+    for (int i = 0; i < 2; i++)
+        fprintf(stderr,
+                "repos held, first leg %s: %llu pay up to value day 2, %llu before and after, "
+                "%llu after\n",
+                words[i], (unsigned long long)repos[i][0], (unsigned long long)repos[i][1],
+                (unsigned long long)repos[i][2]);
+    fprintf(stderr, "%d ways of kind, side and phase, first payment and last\n", ways);
+}
+
+static int place_of(uint64_t day, const seddolki_record *repo) {
+    uint64_t value_day_2 = seddolki_get_u16(&repo->value_day_2);
+    if (day < value_day_2) return BEFORE;
+    if (day == value_day_2) return ON;
+    return day == value_day_2 + 1 ? NEXT_DAY : LATER;
+}
+
+static void note_payments(const seddolki_record *repo) {
+    seddolki_bond bond = seddolki_bond_of(repo);
+    int first = place_of(seddolki_get_u16(&repo->first_payment_day), repo);
+    int last = place_of(last_payment_day(&bond), repo);
+    uint8_t *way = &paid[repo->kind][repo->side][repo->phase][first][last];
+    size_t place = (size_t)(way - &paid[0][0][0][0][0]);
+    *way = 1;
+    ways += !paid_so_far[place];
+    paid_so_far[place] = 1;
+    repos[is_settled(repo)][(first > ON) + (last > ON)]++;
+}
+
+static void note_trade(const seddolki_record *record) {
+    held[record->kind][record->side][record->phase][record->security] = 1;
+    if (record->security == SEDDOLKI_NO_SECURITY) return;
+    expect(seddolki_get_u16(&record->first_payment_day) > seddolki_get_u16(&record->value_day_1),
+           "a first payment comes after value day 1, or after day 0 where that is not used");
+    if (record->kind != SEDDOLKI_OUTRIGHT) note_payments(record);
+}
+
 void note_held(const uint8_t *book, size_t used) {
     const seddolki_block *blocks = blocks_of(book);
     size_t curves = seddolki_get_u16(&blocks->header.curves);
     curves_held[curves] = 1;
     for (size_t i = 1 + curves; i < used / SEDDOLKI_BLOCK; i++)
-        for (size_t j = 0; j < blocks[i].trades.count; j++) {
-            const seddolki_record *record = &blocks[i].trades.places[j];
-            held[record->kind][record->side][record->phase][record->security] = 1;
-        }
+        for (size_t j = 0; j < blocks[i].trades.count; j++)
+            note_trade(&blocks[i].trades.places[j]);
 }
 
 void note_worst(const seddolki_report *report) {

@@ -9,7 +9,7 @@ const seddolki_block *blocks_of(const uint8_t *book);
 /* Whether a book's flows times scenarios are few. */
 int is_quick(const uint8_t *book, size_t used);
 
-/* Guide the fuzzer to forms of trades, numbers of curves and worst scenarios. */
+/* Guide the fuzzer to forms of trades, days of payments, numbers of curves and worst scenarios. */
 void note_held(const uint8_t *book, size_t used);
 void note_worst(const seddolki_report *report);
 

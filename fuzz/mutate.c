@@ -1,7 +1,8 @@
 /*
  * Changes inputs so that many get past the length, the checks and the rules
- * of a book: one time in eight any bytes change, otherwise a field in its
- * place, a whole record, the bond and its cash, or the lengths that are lent.
+ * of a book: one time in nine any bytes change, otherwise a field in its
+ * place, a whole record, the days of its payments, the bond and its cash, or
+ * the lengths that are lent.
  * The length of the book, the places of its blocks and their checks are then
  * mended.
  */
@@ -70,15 +71,42 @@ static void put_record(uint8_t *data, size_t blocks) {
     last->places[last->count++] = head_of(data)->record;
 }
 
+/* A trade of the book, the head's record where it has none. */
+static seddolki_record *draw_trade(uint8_t *data, size_t blocks, uint64_t *state) {
+    seddolki_record *record = &head_of(data)->record;
+    size_t first = 1 + curves_of(data, blocks);
+    if (first >= blocks) return record;
+    seddolki_trade_block *from = &block_at(data, first + draw(state, blocks - first))->trades;
+    if (!from->count || from->count > SEDDOLKI_FULL_BLOCK) return record;
+    return &from->places[draw(state, from->count)];
+}
+
 /* Takes a trade of the book into the head, at times for the other side. */
 static void take_record(uint8_t *data, size_t blocks, uint64_t *state) {
-    size_t first = 1 + curves_of(data, blocks);
-    if (first >= blocks) return;
-    const seddolki_trade_block *from = &block_at(data, first + draw(state, blocks - first))->trades;
-    if (!from->count || from->count > SEDDOLKI_FULL_BLOCK) return;
     seddolki_record *record = &head_of(data)->record;
-    *record = from->places[draw(state, from->count)];
+    *record = *draw_trade(data, blocks, state);
     if (draw(state, 2)) record->side = SEDDOLKI_BUYER + SEDDOLKI_SELLER - record->side;
+}
+
+/* Moves the payments of a trade so that one falls on or beside one of its value days. */
+static void move_payments(seddolki_record *trade, uint64_t *state) {
+    if (trade->security == SEDDOLKI_NO_SECURITY) return;
+    const seddolki_u16 *value_day = draw(state, 2) ? &trade->value_day_1 : &trade->value_day_2;
+    size_t near = seddolki_get_u16(value_day) + draw(state, 3), day = near ? near - 1 : 0;
+    if (trade->security != SEDDOLKI_SINGLE_PAYMENT) {
+        size_t before = draw(state, 4), room = 1 + day / (before + 1);
+        size_t period = 1 + draw(state, room < SEDDOLKI_MAX_PERIOD ? room : SEDDOLKI_MAX_PERIOD);
+        seddolki_set_u16(&trade->period, (uint16_t)period);
+        seddolki_set_u16(&trade->payments, (uint16_t)(before + 1 + draw(state, 4)));
+        if (before * period < day) day -= before * period;
+    }
+    seddolki_set_u16(&trade->first_payment_day, (uint16_t)day);
+}
+
+/* Moves the payments of the head's record or of a trade of the book. */
+static void move_some_payments(uint8_t *data, size_t blocks, uint64_t *state) {
+    int of_head = draw(state, 2) == 0;
+    move_payments(of_head ? &head_of(data)->record : draw_trade(data, blocks, state), state);
 }
 
 /* A bond that ends after a curve does. */
@@ -152,7 +180,7 @@ static size_t mend(uint8_t *data, size_t size, uint64_t *state) {
 
 size_t LLVMFuzzerCustomMutator(uint8_t *data, size_t size, size_t most, unsigned seed) {
     uint64_t state = seed;
-    size_t way = size < HEAD ? 0 : draw(&state, 8);
+    size_t way = size < HEAD ? 0 : draw(&state, 9);
     size_t blocks = size < HEAD ? 0 : used_of(data, size) / SEDDOLKI_BLOCK;
     switch (way) {
     case 0: size = LLVMFuzzerMutate(data, size, most); break;
@@ -160,6 +188,7 @@ size_t LLVMFuzzerCustomMutator(uint8_t *data, size_t size, size_t most, unsigned
     case 2: take_record(data, blocks, &state); break;
     case 3: quote_bond(data, blocks, &state); break;
     case 4: size = move_end(data, size, most, &state); break;
+    case 5: move_some_payments(data, blocks, &state); break;
     default: change_some_field(data, blocks, &state);
     }
     return size < HEAD ? size : mend(data, size, &state);

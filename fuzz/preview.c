@@ -18,6 +18,7 @@ static void note_previewed(const input *in, const uint8_t *longer, size_t used) 
     previewed[record->kind][record->side][record->phase][record->security] = 1;
     places[blocks_of(longer)[used / SEDDOLKI_BLOCK - 1].trades.count - 1] = 1;
     note_length(PREVIEW, in->used, used);
+    note_held(longer, used);
 }
 
 /* That a preview is the margin of the longer book. */

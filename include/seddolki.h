@@ -30,16 +30,18 @@ extern "C" {
 #endif
 
 /*
- * The number of the last request of document 02 that this header has. Where
- * the parameters of a function change, the version does. A program that says
+ * The number of the last request of document 02 that the engine of this header
+ * has. The next version may change the parameters of a function, or leave them
+ * and change which books are accepted and what they mean. A program that says
  *
- *     #if SEDDOLKI_VERSION != 2
- *     #error "this program is written for version 2 of seddolki.h"
+ *     #if SEDDOLKI_VERSION != 3
+ *     #error "this program is written for version 3 of seddolki.h"
  *     #endif
  *
- * does not compile with another.
+ * does not compile with another. The archive has no number: it is to be the
+ * one that was made with the header.
  */
-#define SEDDOLKI_VERSION 2
+#define SEDDOLKI_VERSION 3
 
 /* Bytes of a block, and of a report. */
 #define SEDDOLKI_BLOCK 512
@@ -387,10 +389,22 @@ typedef struct {
  *
  * A repo of pool 3 or specified 2 has settled its first leg, and value_day_2
  * is at most the term; in the other repos value_day_1 is before value_day_2,
- * and the term is their difference. The first payment falls after value_day_1
- * of an outright, after value_day_2 of a repo; the last of the coupons, that
- * is (payments - 1) * period later, at MAX_DAY at most. The two curves have
- * one currency. No cash flow of the trade is above MAX_AMOUNT.
+ * and the term is their difference. The first payment falls after value_day_1,
+ * or after day 0 where that is not used; the last of the coupons, that is
+ * (payments - 1) * period later, on MAX_DAY at most. The two curves have one
+ * currency.
+ *
+ * A repo's security leaves on value_day_1 and is back on value_day_2, by when
+ * it may have paid its last. Of the payments these are cash flows of the trade,
+ * and no others:
+ *
+ *                                               side 1   side 2
+ *   outright               all                  in       out
+ *   pool 2, specified 1    up to value_day_2    out      in
+ *   pool 3                 after value_day_2    in       none
+ *   specified 2            after value_day_2    in       out
+ *
+ * No cash flow of the trade is above MAX_AMOUNT.
  *
  * What is wrong in bytes 0 to 5 is ground 8, an unused security_curve
  * included; in a used day, period, payments or term it is 9; in anything

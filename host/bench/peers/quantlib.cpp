@@ -33,6 +33,7 @@ struct BookCurve {
 
 enum class Mode { direct, cut, curve };
 
+static const long last_day = 10950;
 static const Date today(15, November, 2026);
 static const DayCounter calendar = Actual365Fixed();
 
@@ -62,21 +63,25 @@ static BookCurve read_curve(const uint8_t *block) {
     return curve;
 }
 
-static void add_payments(BookCurve &curve, const uint8_t *record, double sign) {
-    long first = field(record + 12, 2), period = field(record + 14, 2), count = field(record + 16, 2);
+// The payments after a day and up to another.
+struct Window {
+    long after, until;
+};
+
+static void add_payments(BookCurve &curve, const uint8_t *record, double sign, Window window) {
+    long first = field(record + 12, 2), period = field(record + 14, 2), security = record[5];
+    long count = security == 1 ? 1 : field(record + 16, 2);
     __int128 coupon = field(record + 20, 4), nominal = field(record + 24, 8);
-    int security = record[5];
-    if (security == 1) curve.flows.push_back({first, sign * (double)nominal});
-    else
-        for (long i = 0; i < count; i++) {
-            __int128 amount = half_up(nominal * coupon, 1000000) + (i == count - 1 ? nominal : 0);
-            if (security == 3) amount = half_up(amount * field(record + 48, 4), field(record + 52, 4));
-            curve.flows.push_back({first + i * period, sign * (double)amount});
-        }
+    for (long i = 0, day = first; i < count; i++, day += period) {
+        if (day <= window.after || day > window.until) continue;
+        __int128 amount = half_up(nominal * coupon, 1000000) + (i == count - 1 ? nominal : 0);
+        if (security == 3) amount = half_up(amount * field(record + 48, 4), field(record + 52, 4));
+        curve.flows.push_back({day, sign * (double)amount});
+    }
 }
 
 static void add_trade(std::vector<BookCurve> &curves, const uint8_t *record) {
-    int kind = record[0], phase = record[2];
+    int kind = record[0], phase = record[2], security_curve = record[3];
     bool first_side = record[1] == 1;
     double sign = first_side ? 1 : -1;
     long day_1 = field(record + 8, 2), day_2 = field(record + 10, 2), term = field(record + 18, 2);
@@ -85,7 +90,7 @@ static void add_trade(std::vector<BookCurve> &curves, const uint8_t *record) {
     if (kind == 1) {
         __int128 dirty = price + field(record + 44, 4);
         cash_curve.flows.push_back({day_1, -sign * (double)half_up(nominal * dirty, 1000000)});
-        add_payments(curves[record[3] - 1], record, sign);
+        add_payments(curves[security_curve - 1], record, sign, {day_1, last_day});
         return;
     }
     __int128 interest = half_up(cash * price * term, 365000000);
@@ -94,7 +99,8 @@ static void add_trade(std::vector<BookCurve> &curves, const uint8_t *record) {
     if (!settled) cash_curve.flows.push_back({day_1, sign * (double)cash});
     else if (kind == 2 && !first_side) return;
     cash_curve.flows.push_back({day_2, -sign * second_leg});
-    if (settled) add_payments(curves[record[3] - 1], record, sign);
+    if (settled) add_payments(curves[security_curve - 1], record, sign, {day_2, last_day});
+    else if (security_curve) add_payments(curves[security_curve - 1], record, -sign, {day_1, day_2});
 }
 
 static std::vector<BookCurve> read_book(const std::vector<uint8_t> &book) {
@@ -131,7 +137,7 @@ static double value_by_curve(const BookCurve &curve, const std::vector<double> &
     };
     if (curve.days[0] > 0) add(0, rates[0]);
     for (size_t i = 0; i < rates.size(); i++) add(curve.days[i], rates[i]);
-    add(10951, rates.back());
+    add(last_day + 1, rates.back());
     InterpolatedZeroCurve<Linear> zero(dates, yearly, calendar, Calendar(), {}, {}, Linear(), Compounded, Annual);
     return CashFlows::npv(curve.leg, zero, true, today, today);
 }

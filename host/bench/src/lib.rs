@@ -1,9 +1,11 @@
 //! Safe calls of the inner functions that the crate `probe` exports, and how times are taken.
 
 pub mod peer;
+mod repos;
 mod timing;
 mod whole;
 
+pub use repos::{paying_repo_book, repo_book};
 pub use timing::{best_time, best_turn, middle, processor_time, ratio, repeats, shown, turn_time};
 pub use whole::{margin, sized_books, work, Work};
 

@@ -107,10 +107,17 @@ fn find_pairs(
     pairs
 }
 
+/// The security of a repo has a payment up to value day 2.
+fn pays_in_term(trade: &Record) -> bool {
+    trade.is_repo() && trade.has_security() && trade.first_payment_day <= trade.value_day_2
+}
+
 #[test]
 fn a_trade_that_stands_there_already_is_found() {
     let pairs = find_pairs(draw_same, |_| Likeness::Same);
     assert_eq!(pairs.len() as u64, PAIRS);
+    let paying = pairs.iter().filter(|pair| pays_in_term(&pair.trade));
+    assert!(paying.count() >= 100);
     let kinds: BTreeSet<_> = pairs
         .iter()
         .map(|p| (p.trade.kind, p.trade.phase))
@@ -127,6 +134,8 @@ fn a_second_leg_of_a_repo_is_found() {
     // differ in nothing but the phase
     assert!(count(|pair| !pair.trade.has_security()) >= 30);
     assert!(count(|pair| pair.trade.kind != pair.double.kind) >= 30);
+    assert!(count(|pair| pays_in_term(&pair.trade)) >= 50);
+    assert!(count(|pair| pays_in_term(&pair.double)) >= 100);
     let phase_alone = |pair: &Pair| {
         let phase = pair.trade.phase;
         pair.trade
@@ -146,6 +155,8 @@ fn a_repo_that_begins_with_a_second_leg_is_found() {
     assert!(count(|pair| pair.trade.first_leg_settled()) >= 100);
     assert!(count(|pair| !pair.trade.first_leg_settled()) >= 100);
     assert!(count(|pair| pair.trade.repo_cash < pair.double.repo_cash) >= 100);
+    assert!(count(|pair| pays_in_term(&pair.trade)) >= 100);
+    assert!(count(|pair| pays_in_term(&pair.double)) >= 20);
 }
 
 #[test]

@@ -78,12 +78,12 @@ fn document_01_example_is_built_by_the_names_of_the_header() {
     }
 }
 
-/// That a program of the folder `c`, by each compiler, prints this for the buyer's book.
-fn assert_prints(program: &str, expected: &str) {
+/// That a program of the folder `c`, by each compiler, prints this for a book.
+fn assert_prints(program: &str, book: &str, expected: &str) {
     let source = format!("host/engine/tests/c/{program}");
     for compiler in compilers() {
         let program = Program::build(compiler, &source);
-        assert_eq!(program.prints(&["examples/buyer.book"]), expected);
+        assert_eq!(program.prints(&[book]), expected);
     }
 }
 
@@ -98,7 +98,7 @@ fn a_trade_is_previewed_by_the_names_of_the_header() {
                     no room for a block: refused by 15 in block 0\n\
                     no space for a report: refused by 13 in block 0\n\
                     a tenth trade: initial 300000 variation 100000 total -200000\n";
-    assert_prints("preview.c", expected);
+    assert_prints("preview.c", "examples/buyer.book", expected);
 }
 
 #[test]
@@ -112,7 +112,55 @@ fn a_curve_is_lengthened_by_the_names_of_the_header() {
                     an end within the curve: refused by 17 in block 0\n\
                     too little cash: refused by 18 in block 0\n\
                     3 nodes, the last on day 1095 at 250000, moved by 250000 -1 2\n";
-    assert_prints("bootstrap.c", expected);
+    assert_prints("bootstrap.c", "examples/buyer.book", expected);
+}
+
+/// A curve's figures as the program of a repo prints them.
+const NOTHING: &str = "base 0 loss 0 scenario 0 tolerance 0";
+const PAID_OUT: &str = "base -288000 loss 112000 scenario 0 tolerance 2";
+const TAKEN_IN: &str = "base 288000 loss 138000 scenario 2 tolerance 2";
+const LAST_IN: &str = "base 614400 loss 464400 scenario 2 tolerance 1";
+const LAST_OUT: &str = "base -614400 loss 585600 scenario 0 tolerance 1";
+const ALL_OUT: &str = "base -928000 loss 472000 scenario 0 tolerance 2";
+const ALL_IN: &str = "base 928000 loss 528000 scenario 2 tolerance 2";
+const BORROWED: &str = "base 88000 loss 513000 scenario 0 tolerance 1";
+const LENT: &str = "base -88000 loss 555750 scenario 2 tolerance 1";
+const OWED: &str = "base -912000 loss 513000 scenario 0 tolerance 1";
+const DUE: &str = "base 912000 loss 555750 scenario 2 tolerance 1";
+
+/// The trade, the payments' curve, the cash curve, and the total of both.
+const REPOS: [(&str, &str, &str, i64); 12] = [
+    ("kind 3 phase 1 side 1", PAID_OUT, BORROWED, -825_000),
+    ("kind 3 phase 1 side 2", TAKEN_IN, LENT, -493_750),
+    ("kind 3 phase 2 side 1", LAST_IN, OWED, -1_275_000),
+    ("kind 3 phase 2 side 2", LAST_OUT, DUE, -843_750),
+    ("kind 2 phase 2 side 1", PAID_OUT, BORROWED, -825_000),
+    ("kind 2 phase 2 side 2", TAKEN_IN, LENT, -493_750),
+    ("kind 2 phase 3 side 1", LAST_IN, OWED, -1_275_000),
+    ("kind 2 phase 3 side 2", NOTHING, NOTHING, 0),
+    // the bond that pays its last on value day 2
+    ("kind 3 phase 1 side 1", ALL_OUT, BORROWED, -1_825_000),
+    ("kind 3 phase 1 side 2", ALL_IN, LENT, -243_750),
+    ("kind 3 phase 2 side 1", NOTHING, OWED, -1_425_000),
+    ("kind 3 phase 2 side 2", NOTHING, DUE, 356_250),
+];
+
+/// The head of the program works the figures out.
+#[test]
+fn payments_in_the_term_of_a_repo_are_margined_by_the_names_of_the_header() {
+    let line =
+        |(trade, payments, cash, total)| format!("{trade}: {payments}; {cash}; total {total}\n");
+    let margins: String = REPOS.into_iter().map(line).collect();
+    let answers = "on value day 1: refused by 9 in block 3\n\
+                   after value day 1: accepted\n\
+                   settled, on day 0: refused by 9 in block 3\n\
+                   settled, after day 0: accepted\n\
+                   too large after value day 2: accepted\n\
+                   settled, too large after value day 2: refused by 12 in block 3\n\
+                   settled, too large on value day 2: accepted\n\
+                   too large on value day 2: refused by 12 in block 3\n";
+    let expected = margins + answers;
+    assert_prints("coupons_in_term.c", "examples/repo.book", &expected);
 }
 
 /// A line of a type's name, a number, and its bytes.
@@ -165,12 +213,19 @@ fn assert_fails(output: Output, message: &str) {
 #[test]
 fn the_example_in_c_prints_the_totals() {
     for program in totals() {
-        assert_eq!(
-            program.prints(&["examples/buyer.book"]),
-            "TRY initial 30000 variation 10000 total -20000\n\
-             USD initial 0 variation 0 total 0\n\
-             EUR initial 0 variation 0 total 0\n"
-        );
+        for (book, figures) in [
+            ("buyer", "initial 30000 variation 10000 total -20000"),
+            ("repo", "initial 625000 variation -200000 total -825000"),
+        ] {
+            assert_eq!(
+                program.prints(&[&format!("examples/{book}.book")]),
+                format!(
+                    "TRY {figures}\n\
+                     USD initial 0 variation 0 total 0\n\
+                     EUR initial 0 variation 0 total 0\n"
+                )
+            );
+        }
     }
 }
 

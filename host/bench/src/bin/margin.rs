@@ -1,12 +1,12 @@
-//! Times of the margin on books of three sizes and on two whose losses are
-//! near or equal, by the engine and by the model, and of the other calls on
-//! the largest.
+//! Times of the margin on books of three sizes, on two whose losses are near or
+//! equal, and on two full of repos, one with payments inside their term, by the
+//! engine and by the model, and of the other calls on the largest.
 //!
 //! `margin [--model] [BOOK]`: a book file in place of these; the model is
-//! timed on the largest too where it is asked for.
+//! timed on the full ones too where it is asked for.
 
 use seddolki::Book;
-use seddolki_bench::{best_time, ratio, shown, work, Work};
+use seddolki_bench::{best_time, paying_repo_book, ratio, repo_book, shown, work, Work};
 use seddolki_books::{
     assemble, full_book, near_tie_book, small_book, typical_book, zero_component_book,
 };
@@ -28,6 +28,8 @@ fn main() -> Result<(), Box<dyn Error>> {
     time_margin("typical", &book_of(&typical_book()), true)?;
     time_margin("near ties", &book_of(&near_tie_book()), true)?;
     time_margin("a component 0", &book_of(&zero_component_book()), true)?;
+    time_margin("repos", &book_of(&repo_book()), with_model)?;
+    time_margin("paying repos", &book_of(&paying_repo_book()), with_model)?;
     time_margin("full", &book_of(&full_book()), with_model)?;
     time_other_calls(book_of(&full_book()))
 }

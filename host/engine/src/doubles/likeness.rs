@@ -6,7 +6,8 @@ use seddolki_format::Record;
 use seddolki_model::flows::second_leg;
 use std::fmt::{self, Display, Formatter};
 
-/// How two trades are alike.
+/// How two trades are alike. A leg is cash of the repo; what its security
+/// pays, inside the term or behind it, is none.
 #[derive(Clone, Copy, Debug, PartialEq, Eq, Hash)]
 pub enum Likeness {
     /// The same byte for byte.

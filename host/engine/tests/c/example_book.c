@@ -2,39 +2,11 @@
  * Document 01's example: its book built, margined and emptied again by the
  * names of the header alone, and compared with a file: example_book BOOK
  */
-#include "load.h"
+#include "book.h"
 #include "seddolki.h"
 
 #include <inttypes.h>
 #include <string.h>
-
-static void write_header(seddolki_block *block) {
-    seddolki_header *header = &block->header;
-    header->kind = SEDDOLKI_HEADER_KIND;
-    seddolki_set_u32(&header->account, 7);
-    seddolki_set_u16(&header->curves, 1);
-    seddolki_seal(block);
-}
-
-static void write_node(seddolki_node *node, uint16_t day) {
-    seddolki_set_u16(&node->day, day);
-    seddolki_set_u32(&node->rate, 250000);
-    seddolki_set_i32(&node->components[0], 250000);
-}
-
-static void write_curve(seddolki_block *block) {
-    seddolki_curve *curve = &block->curve;
-    curve->kind = SEDDOLKI_CURVE_KIND;
-    seddolki_set_u16(&curve->number, 1);
-    curve->id = 1;
-    curve->currency = SEDDOLKI_TRY;
-    curve->node_count = 2;
-    curve->steps[0] = 1;
-    seddolki_set_u16(&curve->ranges[0], 300);
-    write_node(&curve->places[0], 365);
-    write_node(&curve->places[1], 730);
-    seddolki_seal(block);
-}
 
 static void write_trade(seddolki_record *trade) {
     trade->kind = SEDDOLKI_OUTRIGHT;
@@ -57,12 +29,6 @@ static void append(seddolki_block book[3], const seddolki_record *trade) {
     expect(book[2].trades.kind == SEDDOLKI_TRADES_KIND, "the block is one of trades");
     expect(book[2].trades.count == 1, "the block counts the trade");
     expect(!memcmp(&book[2].trades.places[0], trade, sizeof *trade), "the trade is in its place");
-}
-
-static void compare(const seddolki_block book[3], const char *name) {
-    seddolki_block file[3];
-    load(name, file, 3);
-    expect(!memcmp(book, file, sizeof file), "the book is that of the file");
 }
 
 static void print_curves(const seddolki_report *report) {
@@ -114,12 +80,12 @@ int main(int count, char **names) {
     static seddolki_record trade;
     seddolki_answer struck;
     expect(count == 2, "example_book BOOK");
-    write_header(&book[0]);
-    write_curve(&book[1]);
+    write_header(&book[0], 1);
+    write_curve(&book[1], 1);
     memcpy(before, book, sizeof book);
     write_trade(&trade);
     append(book, &trade);
-    compare(book, names[1]);
+    compare(book, 3, names[1]);
     margin(book);
     read_back(book, &trade);
     struck = seddolki_strike((uint8_t *)book, sizeof book, sizeof book, 0);
