@@ -300,6 +300,7 @@ pub struct Check {
 }
 
 #[derive(Args, Debug)]
+#[command(after_help = crate::commands::show::FORM)]
 pub struct Show {
     #[command(flatten)]
     pub one: OneBook,
@@ -317,6 +318,7 @@ pub struct Margin {
 }
 
 #[derive(Args, Debug)]
+#[command(after_help = crate::commands::flows::FORM)]
 pub struct Flows {
     #[command(flatten)]
     pub one: OneBook,

@@ -73,12 +73,24 @@ fn the_readme_shows_the_margin_with_its_trade() {
     assert_readme_shows(&run_readme(&desk, "seddolki preview desk.book"));
 }
 
+/// A folder with an example where the README looks for it.
+fn desk_with_example(name: &str) -> Desk {
+    let desk = Desk::new();
+    let examples = desk.path("examples");
+    std::fs::create_dir(&examples).unwrap();
+    std::fs::copy(example(name), examples.join(name)).unwrap();
+    desk
+}
+
+#[test]
+fn the_readme_shows_the_flows_of_a_repo_that_pays_inside_its_term() {
+    let desk = desk_with_example("repo.book");
+    assert_readme_shows(&run_readme(&desk, "seddolki flows examples/repo.book"));
+}
+
 #[test]
 fn the_readme_shows_the_node_that_its_bond_adds() {
-    let desk = Desk::new();
-    std::fs::create_dir(desk.path("examples")).unwrap();
-    let curve = "examples/handbook-curve.txt";
-    std::fs::copy(example("handbook-curve.txt"), desk.path(curve)).unwrap();
+    let desk = desk_with_example("handbook-curve.txt");
     run_readme(&desk, "seddolki new handbook.book");
     assert_readme_shows(&run_readme(&desk, "seddolki bootstrap handbook.book"));
 }

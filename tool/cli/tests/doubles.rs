@@ -121,29 +121,49 @@ fn the_first_leg_behind_its_settled_one_is_found_too() {
     );
 }
 
+/// Its words are put together of whatever was keyed.
 #[test]
 fn a_wrong_trade_that_looks_keyed_twice_is_told_as_both() {
-    let desk = with_repo();
     let settled = [
         "phase=3",
         "value_day_1=0",
-        "security=single payment",
         "security_curve=1",
         "nominal=110000",
-        "first_payment_day=7",
     ];
-    let run = append(&desk, &repo_with(&settled), &[]);
-    assert_eq!(run.status, REFUSED);
-    let lines: Vec<&str> = run.err.lines().collect();
-    // the engine's ground first
-    for (line, words) in lines.iter().zip([
-        "column first_payment_day: 7 is there, 8 to 10,950 is due",
-        "the new trade is the second leg of trade 11",
-    ]) {
-        assert!(line.contains(words), "{}", run.err);
+    let bill = ["security=single payment", "first_payment_day=0"];
+    let bond = [
+        "security=indexed coupons",
+        "first_payment_day=1",
+        "period=65535",
+        "payments=65535",
+        "coupon=0",
+        "settlement_index=1",
+        "issue_index=0",
+    ];
+    for (security, wrong, words) in [
+        (
+            &bill[..],
+            "column first_payment_day: 0 is there, 1 to 10,950 is due",
+            "110,000.00 paid on day 0",
+        ),
+        (
+            &bond,
+            "column period: 65,535 is there, 1 to 366 is due",
+            "1 payment inside the term, on day 1, which no longer counts, and 65,534 after it",
+        ),
+    ] {
+        let desk = with_repo();
+        let run = append(&desk, &repo_with(&[&settled, security].concat()), &[]);
+        assert_eq!(run.status, REFUSED);
+        let lines: Vec<&str> = run.err.lines().collect();
+        assert_eq!(lines.len(), 5, "{}", run.err);
+        // the engine's ground first
+        assert!(lines[0].contains(wrong), "{}", run.err);
+        let double = "seddolki: the new trade is the second leg of trade 11";
+        assert!(lines[1].starts_with(double), "{}", run.err);
+        assert!(lines[3].ends_with(words), "{}", run.err);
+        assert_eq!(desk.trades("desk.book"), 12);
     }
-    assert_eq!(lines.len(), 5, "{}", run.err);
-    assert_eq!(desk.trades("desk.book"), 12);
 }
 
 #[test]
@@ -161,6 +181,102 @@ fn one_field_and_the_opposite_side_are_told_and_taken() {
         assert!(run.out.starts_with("desk.book: trade 12 is added: "));
         assert!(run.err.contains(words), "{}", run.err);
         assert_eq!(desk.trades("desk.book"), 13);
+    }
+}
+
+/// The same repo of a bond that pays 2,750.00 on its value day 2 and 30 days
+/// later, as append takes it.
+const AGAINST_BOND: [&str; 9] = [
+    "kind=specified repo",
+    "security=coupons",
+    "security_curve=1",
+    "nominal=110000",
+    "first_payment_day=7",
+    "period=30",
+    "payments=4",
+    "coupon=2.5",
+    "value_day_1=0",
+];
+
+/// With some of its columns otherwise.
+fn bond_repo(changed: &[&str]) -> Vec<String> {
+    tool::changed(&repo_with(&AGAINST_BOND), changed)
+}
+
+/// A desk whose book has that repo at position 11.
+fn with_bond_repo() -> Desk {
+    let desk = Desk::with("desk.book");
+    let run = append(&desk, &bond_repo(&[]), &[]);
+    assert_eq!((run.status, run.err.as_str()), (DONE, ""));
+    desk
+}
+
+#[test]
+fn a_coupon_inside_the_term_is_no_second_leg() {
+    let desk = with_bond_repo();
+    let next = ["value_day_1=7", "value_day_2=14", "first_payment_day=37"];
+    let other = ["side=reverse repo", "kind=pool repo", "phase=2"];
+    for changed in [
+        // rolled on, with what the second leg takes, and with its cash alone
+        [&next[..], &["payments=3", "repo_cash=100229.85"]].concat(),
+        [&next[..], &["payments=3", "repo_rate=14.2"]].concat(),
+        // the coupon lent on, on the day on which it is paid
+        [&next[..], &other, &["repo_cash=2750", "repo_rate=13"]].concat(),
+        // a settled repo of the other side that is paid as much on that day
+        vec![
+            "phase=2",
+            "value_day_1=",
+            "side=reverse repo",
+            "repo_cash=2750",
+            "repo_rate=0",
+        ],
+    ] {
+        let run = append(&desk, &bond_repo(&changed), &[]);
+        assert_eq!((run.status, run.err.as_str()), (DONE, ""), "{changed:?}");
+    }
+    let text = desk.done(&["check", "--doubles", "desk.book"]);
+    assert!(
+        text.ends_with("desk.book: no trade looks keyed twice\n"),
+        "{text}"
+    );
+}
+
+#[test]
+fn a_repo_with_coupons_inside_its_term_is_found_keyed_twice() {
+    let settled = ["phase=2", "value_day_1="];
+    let behind = ["first_payment_day=37", "payments=3"];
+    let taken_back = [
+        "side=reverse repo",
+        "value_day_1=7",
+        "value_day_2=8",
+        "term=1",
+        "first_payment_day=8",
+        "repo_cash=100229.85",
+    ];
+    let second_leg = "is the second leg of trade 11: same side, curves, cash 100,000.00, rate, \
+                      term and value day 2";
+    for (changed, words) in [
+        (vec![], "is the same as trade 11, byte for byte"),
+        (settled.to_vec(), second_leg),
+        ([&settled[..], &behind].concat(), second_leg),
+        (
+            taken_back.to_vec(),
+            "begins with the second leg of trade 11: other side, cash 100,229.85 on day 7",
+        ),
+    ] {
+        let desk = with_bond_repo();
+        let run = append(&desk, &bond_repo(&changed), &[]);
+        assert_eq!(run.status, REFUSED, "{words}: {}", run.err);
+        let lines: Vec<&str> = run.err.lines().collect();
+        assert_eq!(lines[0], format!("seddolki: the new trade {words}"));
+        let due = ", 1 payment inside the term, on day 7, and 3 after it";
+        assert!(lines[1].starts_with("seddolki:   trade 11: repo member"));
+        assert!(lines[1].ends_with(due), "{}", run.err);
+        assert_eq!(desk.trades("desk.book"), 12);
+        assert_eq!(
+            append(&desk, &bond_repo(&changed), &["--again"]).status,
+            DONE
+        );
     }
 }
 

@@ -17,6 +17,7 @@ fn books_are_made_from_curves_and_trades() {
         ("curve.txt", "buyer.csv", "buyer.book"),
         ("curve.txt", "seller.csv", "seller.book"),
         ("desk-curves.txt", "desk-trades.csv", "desk.book"),
+        ("repo-curves.txt", "repo.csv", "repo.book"),
     ] {
         let desk = Desk::new();
         desk.done(&["new", book, &example(curves)]);
@@ -219,12 +220,15 @@ fn flows_are_netted_by_day_and_curve() {
         .lines()
         .filter(|line| line.starts_with("2,TRY,1,"))
         .collect();
-    assert_eq!(day, ["2,TRY,1,5000612.47,0.00,5000612.47"]);
+    assert_eq!(
+        day,
+        ["2,TRY,1,5000612.47,0.00,5000612.47,\"first leg, second leg\""]
+    );
     let total = |text: &str| -> i64 {
         let net = text
             .lines()
             .skip(1)
-            .map(|line| line.rsplit(',').next().unwrap().replace('.', ""));
+            .map(|line| line.split(',').nth(5).unwrap().replace('.', ""));
         net.map(|net| net.parse::<i64>().unwrap()).sum()
     };
     let all = desk.done(&["flows", "desk.book", "--csv"]);

@@ -55,8 +55,9 @@ fn wrapped(text: &str, width: usize) -> Vec<String> {
     lines
 }
 
-/// Which columns the trades of each kind and phase use, and two examples that
-/// fit the curves of the template; in lines of at most 80 characters.
+/// Which columns the trades of each kind and phase use, when a security may
+/// pay, and examples that fit the curves of the template; in lines of at most
+/// 80 characters.
 pub fn uses() -> &'static str {
     "\
 Every column that the trade uses has to be given: a 0 that is meant is written.
@@ -80,7 +81,15 @@ and by security:
   period, payments, coupon                    no    no       yes      yes
   settlement_index, issue_index               no    no       no       yes
 
-A bond that is bought, and a pool repo before its security is known:
+A security's first payment comes after value_day_1, or after today where the
+trade does not use that; it may come inside a repo's term. Before the first leg
+has settled, what is paid after value_day_1 and up to value_day_2 goes out for
+the repo member and comes in for the reverse-repo member, and what is paid later
+is no flow of the repo. Once it has settled (pool 3, specified 2), only what is
+paid after value_day_2 counts.
+
+A bond that is bought, a pool repo before its security is known, and a repo of a
+bond that pays a coupon inside the term:
 
   seddolki append desk.book kind=outright side=buyer cash_curve=1 \\
       security=coupons security_curve=1 nominal=5000000 value_day_1=1 \\
@@ -89,6 +98,11 @@ A bond that is bought, and a pool repo before its security is known:
 
   seddolki append desk.book kind=pool_repo side=repo phase=1 cash_curve=2 \\
       value_day_1=1 value_day_2=8 term=7 repo_cash=3000000 repo_rate=13.2
+
+  seddolki append desk.book kind=specified_repo side=repo phase=1 cash_curve=2 \\
+      security=coupons security_curve=1 nominal=4000000 value_day_1=2 \\
+      value_day_2=93 term=91 first_payment_day=60 period=182 payments=5 \\
+      coupon=6.1 repo_cash=3900000 repo_rate=13.4
 "
 }
 
@@ -198,7 +212,9 @@ mod tests {
             records.push(record);
         }
         let kinds: Vec<u8> = records.iter().map(|record| record.kind).collect();
-        assert_eq!(kinds, [OUTRIGHT, POOL]);
+        assert_eq!(kinds, [OUTRIGHT, POOL, SPECIFIED]);
+        let repo = records[2];
+        assert!(repo.first_payment_day <= repo.value_day_2);
         assert_eq!(doubles(&records), []);
     }
 }

@@ -3,28 +3,30 @@
 use crate::arguments::Flows;
 use crate::ended::{Ended, DONE};
 use crate::figures::chosen::chosen_curves;
-use crate::figures::ladder::{ladder, Sums};
+use crate::figures::ladder::Sums;
 use crate::files::books::accepted;
 use crate::printed::table::{Table, Value};
+use crate::trades::flow_kind::{flows_of, FlowKind};
+use seddolki::Record;
+use seddolki_format::block::Curve;
 use seddolki_format::report::currency_name;
+use seddolki_text::decimal::MONEY;
+use std::collections::{BTreeMap, BTreeSet};
 
-const COLUMNS: [&str; 6] = ["curve", "currency", "day", "in", "out", "net"];
+pub const FORM: &str = "\
+The sums of each day that has a flow, and what its flows are: settlement cash of
+an outright, first leg or second leg of a repo, payment inside the term of a
+repo, which goes out for the repo member and comes in for the reverse-repo
+member, or any other payment of a security. show has each flow by its trade.
+";
+
+const COLUMNS: [&str; 7] = ["curve", "currency", "day", "in", "out", "net", "flows"];
 
 pub fn run(arguments: &Flows) -> Result<u8, Ended> {
     let file = accepted(&arguments.one.book)?;
     let mut table = Table::new("flows", &COLUMNS);
     for curve in chosen_curves(&file, arguments.curve)? {
-        for (day, sums) in ladder(&file.parts.flows_on(curve)) {
-            let Sums { inwards, outwards } = sums;
-            table.push(vec![
-                Value::Id(curve.id.into()),
-                Value::text(currency_name(curve.currency.into())),
-                Value::Whole(day.into()),
-                Value::money(inwards),
-                Value::money(outwards),
-                Value::Signed(inwards - outwards, seddolki_text::decimal::MONEY),
-            ]);
-        }
+        push_days(&mut table, &file.parts.trades, curve);
     }
     arguments.form.print(&[table], |[table]| {
         if table.rows.is_empty() {
@@ -33,4 +35,38 @@ pub fn run(arguments: &Flows) -> Result<u8, Ended> {
         table.text()
     })?;
     Ok(DONE)
+}
+
+/// The flows of a curve on one day: their sums, and what they are.
+#[derive(Default)]
+struct Day {
+    sums: Sums,
+    kinds: BTreeSet<FlowKind>,
+}
+
+fn push_days(table: &mut Table, trades: &[Record], curve: &Curve) {
+    for (number, day) in days(trades, curve) {
+        let Sums { inwards, outwards } = day.sums;
+        let kinds: Vec<&str> = day.kinds.iter().map(|kind| kind.name()).collect();
+        table.push(vec![
+            Value::Id(curve.id.into()),
+            Value::text(currency_name(curve.currency.into())),
+            Value::Whole(number.into()),
+            Value::money(inwards),
+            Value::money(outwards),
+            Value::Signed(inwards - outwards, MONEY),
+            Value::text(kinds.join(", ")),
+        ]);
+    }
+}
+
+fn days(trades: &[Record], curve: &Curve) -> BTreeMap<u64, Day> {
+    let mut days: BTreeMap<u64, Day> = BTreeMap::new();
+    let flows = trades.iter().flat_map(flows_of);
+    for (kind, flow) in flows.filter(|(_, flow)| flow.curve == curve.id) {
+        let day = days.entry(flow.day).or_default();
+        day.sums.add(&flow);
+        day.kinds.insert(kind);
+    }
+    days
 }

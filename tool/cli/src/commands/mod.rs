@@ -9,7 +9,7 @@ mod curves;
 mod diff;
 mod explain;
 mod export;
-mod flows;
+pub mod flows;
 pub mod import;
 mod losses;
 mod man;
@@ -17,7 +17,7 @@ pub mod margin;
 mod new;
 mod plot;
 pub mod preview;
-mod show;
+pub mod show;
 mod strike;
 mod template;
 

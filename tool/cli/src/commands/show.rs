@@ -5,6 +5,8 @@ use crate::ended::{Ended, DONE};
 use crate::figures::node_table::of_curves;
 use crate::files::books::accepted;
 use crate::printed::table::{Table, Value};
+use crate::trades::by_term::ByTerm;
+use crate::trades::flow_kind::flows_of;
 use crate::trades::keyed::cells;
 use crate::trades::words;
 use seddolki::Record;
@@ -12,10 +14,27 @@ use seddolki_format::block::Curve;
 use seddolki_format::report::currency_name;
 use seddolki_format::text::count;
 use seddolki_model::accept::Book;
-use seddolki_model::flows::{named_flows, CashFlow};
+use seddolki_model::flows::CashFlow;
 use seddolki_model::scenario::scenarios;
 use seddolki_text::decimal::{format as decimal, COEFFICIENT, MONEY};
 use seddolki_text::COLUMNS;
+
+pub const FORM: &str = "\
+A repo's security may pay inside the term: after value day 1 and up to value
+day 2. A line below such a repo tells how many payments these are, on which
+days, and how many come after value day 2; among the flows they are marked. The
+security is with the other side then: they go out for the repo member, and come
+in for the reverse-repo member. Once the first leg has settled, only payments
+after value day 2 count.
+
+The table of trades has the columns that append takes and, for each repo with a
+security:
+
+  payments_in_term     how many payments fall inside the term
+  first_in_term        the day of the first of them
+  last_in_term         the day of the last of them
+  payments_after_term  how many payments come after value day 2
+";
 
 pub fn run(arguments: &Show) -> Result<u8, Ended> {
     let book = accepted(&arguments.one.book)?.parts;
@@ -59,7 +78,8 @@ fn show_curve(curve: &Curve) -> String {
 }
 
 fn show_trade(position: usize, record: &Record) -> String {
-    let head = format!("\ntrade {position}: {}\n", words::trade(record));
+    let mut head = format!("\ntrade {position}: {}\n", words::agreed(record));
+    head.extend(words::inside_term(record).map(|words| words + "\n"));
     let mut table = Table::new("flows", &FLOWS);
     push_flows(&mut table, position, record);
     if table.rows.is_empty() {
@@ -102,16 +122,37 @@ fn curves(book: &Book) -> Table {
     table
 }
 
-/// The columns are those that append and import take.
+const TERM: [&str; 4] = [
+    "payments_in_term",
+    "first_in_term",
+    "last_in_term",
+    "payments_after_term",
+];
+
+/// The columns are those that append and import take, and those of the term.
 fn trades(book: &Book) -> Table {
     let names: Vec<&str> = COLUMNS.iter().map(|column| column.name).collect();
-    let mut table = Table::new("trades", &[&["position"], &names[..]].concat());
+    let mut table = Table::new("trades", &[&["position"], &names[..], &TERM].concat());
     for (position, record) in book.trades.iter().enumerate() {
         let mut row = vec![Value::count(position)];
         row.extend(cells(record));
+        row.extend(term_cells(record));
         table.push(row);
     }
     table
+}
+
+fn term_cells(record: &Record) -> [Value; TERM.len()] {
+    let Some(ByTerm { inside, after }) = ByTerm::of(record) else {
+        return [const { Value::Nothing }; TERM.len()];
+    };
+    let day = |day: Option<&u64>| day.map_or(Value::Nothing, |day| Value::Whole((*day).into()));
+    [
+        Value::count(inside.len()),
+        day(inside.first()),
+        day(inside.last()),
+        Value::count(after),
+    ]
 }
 
 const FLOWS: [&str; 5] = ["position", "day", "curve", "amount", "flow"];
@@ -125,13 +166,13 @@ fn flows(book: &Book) -> Table {
 }
 
 fn push_flows(table: &mut Table, position: usize, record: &Record) {
-    for (leg, flow) in named_flows(record) {
+    for (kind, flow) in flows_of(record) {
         table.push(vec![
             Value::count(position),
             Value::Whole(flow.day.into()),
             Value::Id(flow.curve.into()),
             Value::Signed(signed(&flow), MONEY),
-            Value::text(words::flow(record, leg)),
+            Value::text(kind.in_words()),
         ]);
     }
 }

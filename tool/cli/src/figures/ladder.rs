@@ -10,17 +10,22 @@ pub struct Sums {
     pub outwards: i128,
 }
 
+impl Sums {
+    pub fn add(&mut self, flow: &CashFlow) {
+        let sum = if flow.sign > 0 {
+            &mut self.inwards
+        } else {
+            &mut self.outwards
+        };
+        *sum += flow.amount as i128;
+    }
+}
+
 /// The sums of each day that has a flow.
 pub fn ladder(flows: &[CashFlow]) -> BTreeMap<u64, Sums> {
     let mut days: BTreeMap<u64, Sums> = BTreeMap::new();
     for flow in flows {
-        let sums = days.entry(flow.day).or_default();
-        let sum = if flow.sign > 0 {
-            &mut sums.inwards
-        } else {
-            &mut sums.outwards
-        };
-        *sum += flow.amount as i128;
+        days.entry(flow.day).or_default().add(flow);
     }
     days
 }

@@ -1,6 +1,8 @@
 //! Trades that are keyed, added, refused, doubled, and put in words.
 
 pub mod adding;
+pub mod by_term;
+pub mod flow_kind;
 pub mod keyed;
 pub mod keyed_twice;
 mod lines;

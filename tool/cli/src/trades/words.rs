@@ -1,9 +1,9 @@
-//! Trades and their cash flows in plain words.
+//! Trades in plain words.
 
+use crate::trades::by_term::ByTerm;
 use seddolki::Record;
 use seddolki_format::record::{COUPONS, FIRST_SIDE, INDEXED_COUPONS, POOL, SINGLE_PAYMENT};
 use seddolki_format::text::count;
-use seddolki_model::flows::Leg;
 use seddolki_text::decimal::{format as decimal, MONEY, PERCENT};
 
 fn money(amount: u64) -> String {
@@ -14,12 +14,19 @@ fn percent(rate: u32) -> String {
     decimal(rate, PERCENT) + "%"
 }
 
-fn day(day: u16) -> String {
+fn day(day: impl Into<i128>) -> String {
     decimal(day, 0)
 }
 
 /// A trade in one sentence.
 pub fn trade(record: &Record) -> String {
+    let parts = [Some(agreed(record)), inside_term(record)];
+    let parts: Vec<String> = parts.into_iter().flatten().collect();
+    parts.join(", ")
+}
+
+/// What was agreed: the trade without the payments inside its term.
+pub fn agreed(record: &Record) -> String {
     if record.is_repo() {
         repo(record)
     } else {
@@ -101,12 +108,27 @@ pub fn security(record: &Record) -> String {
     }
 }
 
-/// What a flow of a trade is.
-pub fn flow(record: &Record, leg: Leg) -> &'static str {
-    match leg {
-        Leg::First if record.is_repo() => "repo cash, first leg",
-        Leg::First => "settlement cash",
-        Leg::Second => "repo cash and interest less withholding, second leg",
-        Leg::Payment => "payment of the security",
-    }
+/// The payments inside a repo's term, if there are any, and how many come
+/// after it.
+pub fn inside_term(record: &Record) -> Option<String> {
+    let ByTerm { inside, after } = ByTerm::of(record)?;
+    let (first, last) = (*inside.first()?, *inside.last()?);
+    let days = if first == last {
+        format!("on day {}", day(first))
+    } else {
+        format!("from day {} to day {}", day(first), day(last))
+    };
+    let settled = match inside.len() {
+        _ if !record.first_leg_settled() => "",
+        1 => ", which no longer counts",
+        _ => ", which no longer count",
+    };
+    let payments = count(inside.len(), "payment");
+    let after = match after {
+        0 => "none".into(),
+        after => decimal(after as i128, 0),
+    };
+    Some(format!(
+        "{payments} inside the term, {days}{settled}, and {after} after it"
+    ))
 }

@@ -2,6 +2,9 @@
 
 #![allow(dead_code)] // no test uses all of it
 
+pub mod term_repo;
+
+use serde_json::Value;
 use std::fs::{self, File};
 use std::io::{Seek, Write};
 use std::os::unix::process::ExitStatusExt;
@@ -193,6 +196,12 @@ impl Desk {
 
     pub fn refused<S: AsRef<std::ffi::OsStr> + std::fmt::Debug>(&self, arguments: &[S]) -> String {
         self.ended(REFUSED, arguments)
+    }
+
+    /// The tables that a command prints, as JSON.
+    pub fn tables(&self, arguments: &[&str]) -> Value {
+        let text = self.done(&[arguments, &["--json"]].concat());
+        serde_json::from_str(&text).unwrap()
     }
 
     /// Appends a trade that the desk's book takes.
