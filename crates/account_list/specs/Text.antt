@@ -8,8 +8,9 @@ use Rattle.ground.specs.declared.Ground.the-variants.{ReportSpace}
 use Rattle.ground.specs.declared.Verdict.{Verdict}
 use Rattle.ground.specs.declared.Verdict.the-variants.{Accepted, Refused}
 use Rattle.ground.specs.Number.{numberOf}
-use Rattle.book.specs.Parts.{curveCount}
-use Rattle.book.specs.Verdict.{verdict}
+use Rattle.book.specs.Parts.{headerOf, curveCount}
+use Rattle.acceptance.specs.declared.Today.the-variants.{Given}
+use Rattle.acceptance.specs.Verdict.{bookVerdict}
 use Rattle.margin.specs.declared.Margin.{Margin}
 use Rattle.listing.specs.Listing.{listing, refusedLine}
 use Rattle.report.specs.Entry.{marginIn}
@@ -21,9 +22,9 @@ abbrev pub textFor : Verdict → ℕ → Margin → List ℕ
 textFor Accepted count m = listing count m
 textFor (Refused g k) count m = refusedLine (numberOf g) k
 
--- a book of a used length: its verdict, its curves, its margin
+-- a book of a used length: its verdict, its curves, its margin; the day is that of the sentence "the list program takes the book's own"
 unfoldable pub listText : List ℕ → ℕ → List ℕ
-listText s used = textFor (verdict s used) (curveCount s) (marginIn s)
+listText s used = textFor (bookVerdict s used (Given (headerOf s .day))) (curveCount s) (marginIn s)
 
 -- 13, of a text: the space is under its length
 abbrev pub breaksTextSpace : List ℕ → ℕ → Bool

@@ -1,4 +1,5 @@
 // What the list program prints for a book.
+use acceptance::Today;
 use book::parts;
 use ground::Ground;
 use ground::Verdict;
@@ -15,14 +16,15 @@ pub enum Listed {
     Refused(Ground, u64),
 }
 
-// Writes the text into the first bytes of a space that suffices for any, and answers its length.
+// Writes the text into the first bytes of a space that suffices for any, and answers its length. Given its own day, a book is judged as
+// without one.
 fn put_listing(book: &[u8], used: usize, out: &mut [u8]) -> usize
     requires { ⌜ 1481 ≤ length (now out) ⌝ }
     ensures { λ r. ⌜ r ≡ length (listText (now (book .entry)) used) ⌝ }
     ensures { λ r. ⌜ now (out .exit) ≡ listText (now (book .entry)) used ++ drop r (now (out .entry)) ⌝ }
     ensures { λ r. ⌜ r ≤ 1481 ⌝ }
 {
-    let v = book::check(book, used);
+    let v = acceptance::check(book, used, Today::NotGiven);
     match v {
         Verdict::Refused(g, k) => listing::write_refused(out, ground::number(g), k),
         Verdict::Accepted => {

@@ -5,7 +5,7 @@ use Prim.Native.Nat.{ℕ}
 use lib.ListN.{length, take, drop, take-append-drop}
 use Rattle.ground.specs.declared.Verdict.the-variants.{Accepted}
 use Rattle.layout.specs.Bytes.{AreBytes}
-use Rattle.book.specs.Parts.{headerOf, curveCount, curveBlocks, tradeCount, records}
+use Rattle.book.specs.Parts.{headerOf, curveCount, curveBlocks, tradeCount, records, WithRecords}
 use Rattle.book.specs.Verdict.{verdict}
 use Rattle.book.specs.Encode.{encode}
 use Rattle.book.proofs.Places.{length-curveBlocks, length-records}
@@ -14,10 +14,8 @@ use Rattle.book.proofs.Encoded.{header-encoded, curves-encoded, records
 use Rattle.book.proofs.Canonical.{sound-encodable, sound-acceptable, accepted-encoded, length-accepted}
 
 -- t has the parts of s
-pub record SameBook (s t : List ℕ) : Type 0 where
-  pub header : headerOf t ≡ headerOf s
-  pub curves : curveBlocks t ≡ curveBlocks s
-  pub trades : records t ≡ records s
+abbrev pub SameBook : List ℕ → List ℕ → Type 0
+SameBook s t = WithRecords s t (records s)
 
 module _ (s t : List ℕ) where
   pub same-curve-count : curveBlocks t ≡ curveBlocks s → curveCount t ≡ curveCount s

@@ -43,20 +43,28 @@ field-among n v before behind k e h =
 -- each field of a header keeps the width of its place
 pub record HeaderFits (header : Header) : Type 0 where
   pub account-fits : header .account < 256 ^ 4
+  pub day-fits : header .day < 256 ^ 4
 
 pub header-fits : (s : List ℕ) → AreBytes s → HeaderFits (headerOf s)
-header-fits s bytes = record { account-fits = field-bound 4 s 4 bytes }
+header-fits s bytes = record { account-fits = field-bound 4 s 4 bytes; day-fits = field-bound 4 s 12 bytes }
 
 module _ (header : Header) (c t : ℕ) where
   abbrev named : List ℕ
   named = headerBytes header c t
 
+  abbrev account : List ℕ
+  account = bytesOf 4 (header .account)
+
+  abbrev day : List ℕ
+  day = bytesOf 4 (header .day)
+
   is-header : headerBlock header c t ≡ block 1 0 0 named
   unfolding headerBlock
   is-header = refl
 
-  pub length-headerBytes : length named ≡ 8
-  length-headerBytes = simp length-append (omega (arith, length-bytes 4 (header .account), length-bytes 2 c, length-bytes 2 t))
+  pub length-headerBytes : length named ≡ 12
+  length-headerBytes =
+      simp length-append (omega (arith, length-bytes 4 (header .account), length-bytes 2 c, length-bytes 2 t, length-bytes 4 (header .day)))
 
   short : length named ≤ 504
   short = omega (arith, length-headerBytes)
@@ -64,28 +72,34 @@ module _ (header : Header) (c t : ℕ) where
   pub length-header : length (headerBlock header c t) ≡ 512
   length-header = rw is-header (length-block 1 0 0 named short)
 
-  named-part : part (headerBlock header c t) 4 8 ≡ named
+  named-part : part (headerBlock header c t) 4 12 ≡ named
   named-part = rw is-header (rw length-headerBytes at (block-named 1 0 0 named short))
 
   -- a field of the header is the field of its named bytes
-  field-in : (n k : ℕ) → k + n ≤ 8 → numberAt n (headerBlock header c t) (4 + k) ≡ numberAt n named k
-  field-in n k h = sym (field-part n (headerBlock header c t) 4 8 k h) ∙ rw named-part
+  field-in : (n k : ℕ) → k + n ≤ 12 → numberAt n (headerBlock header c t) (4 + k) ≡ numberAt n named k
+  field-in n k h = sym (field-part n (headerBlock header c t) 4 12 k h) ∙ rw named-part
 
   pub header-read : HeaderFits header → headerOf (headerBlock header c t) ≡ header
   header-read fits =
-      let e : numberAt 4 (headerBlock header c t) 4 ≡ header .account =
+      let first : numberAt 4 (headerBlock header c t) 4 ≡ header .account =
       field-in 4 0 (omega arith)
-      ∙ rw (append-assoc (bytesOf 4 (header .account)) (bytesOf 2 c) (bytesOf 2 t)) (field-among 4 (header .account) [] (bytesOf 2 c ++ bytesOf 2 t) 0 refl (fits .account-fits)) in
-      rw e
+      ∙ rw (append-assoc (account ++ bytesOf 2 c) (bytesOf 2 t) day, append-assoc account (bytesOf 2 c) (bytesOf 2 t ++ day))
+      (field-among 4 (header .account) [] (bytesOf 2 c ++ (bytesOf 2 t ++ day)) 0 refl (fits .account-fits)) in
+      let l : 8 ≡ length (account ++ bytesOf 2 c ++ bytesOf 2 t) =
+      simp length-append (omega (arith, length-bytes 4 (header .account), length-bytes 2 c, length-bytes 2 t)) in
+      let last : numberAt 4 (headerBlock header c t) 12 ≡ header .day =
+      field-in 4 8 (omega arith) ∙ rw append-nil at (field-among 4 (header .day) (account ++ bytesOf 2 c ++ bytesOf 2 t) [] 8 l (fits .day-fits)) in
+      rw (first, last)
 
   pub header-curves : c < 65536 → curveCount (headerBlock header c t) ≡ c
-  header-curves h = field-in 2 4 (omega arith) ∙ field-among 2 c (bytesOf 4 (header .account)) (bytesOf 2 t) 4 (sym (length-bytes 4 (header .account))) h
+  header-curves h =
+      field-in 2 4 (omega arith)
+      ∙ rw (append-assoc (account ++ bytesOf 2 c) (bytesOf 2 t) day) (field-among 2 c account (bytesOf 2 t ++ day) 4 (sym (length-bytes 4 (header .account))) h)
 
   pub header-trades : t < 65536 → tradeBlocks (headerBlock header c t) ≡ t
   header-trades h =
-      let a = bytesOf 4 (header .account) in
-      let l : 6 ≡ length (a ++ bytesOf 2 c) = omega (arith, length-append a (bytesOf 2 c), length-bytes 4 (header .account), length-bytes 2 c) in
-      field-in 2 6 (omega arith) ∙ rw append-nil at (field-among 2 t (a ++ bytesOf 2 c) [] 6 l h)
+      let l : 6 ≡ length (account ++ bytesOf 2 c) = omega (arith, length-append account (bytesOf 2 c), length-bytes 4 (header .account), length-bytes 2 c) in
+      field-in 2 6 (omega arith) ∙ field-among 2 t (account ++ bytesOf 2 c) day 6 l h
 
   pub header-breaks-nothing : 1 ≤ c → c ≤ 8 → t < 65536 → HeaderSound (headerBlock header c t) (1 + c + t)
   header-breaks-nothing some most few =
@@ -110,13 +124,15 @@ header-of b n bytes h sound =
     let p = place-kept b 1 0 (sound .placed) in
     let fields = named (headerOf b) (curveCount b) (tradeBlocks b) in
     let l = length-headerBytes (headerOf b) (curveCount b) (tradeBlocks b) in
-    let e : part b 4 8 ≡ fields =
-    part-add b 4 6 2
+    let e : part b 4 12 ≡ fields =
+    part-add b 4 8 4
     ∙ rw (
+      part-add b 4 6 2,
       part-add b 4 4 2,
       bytes-number 4 b 4 bytes (omega arith),
       bytes-number 2 b 8 bytes (omega arith),
       bytes-number 2 b 10 bytes (omega arith),
+      bytes-number 4 b 12 bytes (omega arith),
     ) in
     sym (sound-sealed b bytes (omega arith) (sound .checked))
     ∙ block-of 1 0 0 fields (omega arith) b h (p .0) (sound .counts .second) (number-part b 0 bytes h (p .1)) (rw l e) (rw l (sound .counts .behind))

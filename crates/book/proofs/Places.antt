@@ -13,7 +13,7 @@ use Rattle.book.specs.Parts.{blockAt, headerOf, curveCount, tradeBlocks,
 -- ---- the header's fields, in its block
 
 pub head-fields : (s : List ℕ) → headerOf (blockAt s 0) ≡ headerOf s
-head-fields s = rw (field-part 4 s 0 512 4 (omega arith))
+head-fields s = rw (field-part 4 s 0 512 4 (omega arith), field-part 4 s 0 512 12 (omega arith))
 
 pub head-curves : (s : List ℕ) → curveCount (blockAt s 0) ≡ curveCount s
 head-curves s = field-part 2 s 0 512 8 (omega arith)

@@ -132,7 +132,7 @@ module _ (s : List ℕ) (used k : ℕ) (b : List ℕ) (fine : Replaceable s used
         accepted =
             verdict-blocks t used (rw length-put (length-passed s used (fine .book) .0))
             ∙ first-of (blockVerdict t (used / 512)) 0 (used / 512) (λ j l m. block-accepted j (omega arith) (ℕ-discrete j k));
-        header = rw (head-field 4 4 (omega arith));
+        header = rw (head-field 4 4 (omega arith), head-field 4 12 (omega arith));
         curves = currencies-same;
         trades = records-same;
         block = at-curve;

@@ -47,12 +47,12 @@ pub record Headed (b : List ℕ) (blocks : ℕ) : Type 0 where
   pub most : curveCount b ≤ 8
   pub counts : 1 + curveCount b + tradeBlocks b ≡ blocks
   pub second : byteAt b 1 ≡ 0
-  pub behind : zeros b 12 508 ≡ true
+  pub behind : zeros b 16 508 ≡ true
 
 pub headed : (b : List ℕ) (blocks : ℕ) → breaksHeader b blocks ≡ false → Headed b blocks
 unfolding breaksHeader
 headed b n h =
-    let p = both (leb 1 (curveCount b) && leb (curveCount b) 8 && eqb (1 + curveCount b + tradeBlocks b) n && eqb (byteAt b 1) 0) (zeros b 12 508) (not-false _ h) in
+    let p = both (leb 1 (curveCount b) && leb (curveCount b) 8 && eqb (1 + curveCount b + tradeBlocks b) n && eqb (byteAt b 1) 0) (zeros b 16 508) (not-false _ h) in
     let q = both (leb 1 (curveCount b) && leb (curveCount b) 8 && eqb (1 + curveCount b + tradeBlocks b) n) (eqb (byteAt b 1) 0) (p .0) in
     let r = both (leb 1 (curveCount b) && leb (curveCount b) 8) (eqb (1 + curveCount b + tradeBlocks b) n) (q .0) in
     let t = both (leb 1 (curveCount b)) (leb (curveCount b) 8) (r .0) in

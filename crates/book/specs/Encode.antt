@@ -14,9 +14,9 @@ unfoldable pub block : ℕ → ℕ → ℕ → List ℕ → List ℕ
 block kind count number named =
     sealed (kind ∷ count ∷ bytesOf 2 number ++ named ++ replicate (508 - length named) 0)
 
--- "4-7 account, 8-9 curves C (1 to 8), 10-11 trade blocks T."
+-- "4-7 account, 8-9 curves C (1 to 8), 10-11 trade blocks T"; "bytes 12-15 hold the valuation day"
 abbrev pub headerBytes : Header → ℕ → ℕ → List ℕ
-headerBytes header curves trades = bytesOf 4 (header .account) ++ bytesOf 2 curves ++ bytesOf 2 trades
+headerBytes header curves trades = bytesOf 4 (header .account) ++ bytesOf 2 curves ++ bytesOf 2 trades ++ bytesOf 4 (header .day)
 
 -- "Header (kind 1, block 0)"
 unfoldable pub headerBlock : Header → ℕ → ℕ → List ℕ

@@ -1,5 +1,6 @@
 -- What a book holds (document 01, "Blocks of the book"): bytes as a list, in which the book stands first.
 use Prim.Native.Nat.{ℕ, _+_, _-_, _*_, _/_, _%_}
+use mathlib.Core.Path.{_≡_}
 use mathlib.Core.Bool.{cond}
 use mathlib.Core.List.{List, []}
 use lib.Dec.{eqb}
@@ -14,14 +15,16 @@ use Rattle.record.specs.declared.Curves.{Curves}
 abbrev pub blockAt : List ℕ → ℕ → List ℕ
 blockAt s k = part s (k * 512) 512
 
--- ---- the header, block 0: 4-7 account, 8-9 curves, 10-11 trade blocks
+-- ---- the header, block 0: 4-7 account, 8-9 curves, 10-11 trade blocks, 12-15 valuation day
 
 -- what a header holds besides its counts: it stays when trades come and go
 pub record Header : Type 0 where
   pub account : ℕ
+  -- "the valuation day as days since 1 January 2000"
+  pub day : ℕ
 
 abbrev pub headerOf : List ℕ → Header
-headerOf s = record { account = u32At s 4 }
+headerOf s = record { account = u32At s 4; day = u32At s 12 }
 
 abbrev pub curveCount : List ℕ → ℕ
 curveCount s = u16At s 8
@@ -67,3 +70,11 @@ recordAt s i = recordIn (blockAt s (1 + curveCount s + i / 9)) (i % 9)
 
 unfoldable pub records : List ℕ → List (List ℕ)
 records s = table (recordAt s) 0 (tradeCount s)
+
+-- ---- a book beside another
+
+-- t has the header and the curves of s, and these records
+pub record WithRecords (s t : List ℕ) (rs : List (List ℕ)) : Type 0 where
+  pub header : headerOf t ≡ headerOf s
+  pub curves : curveBlocks t ≡ curveBlocks s
+  pub trades : records t ≡ rs

@@ -11,14 +11,15 @@ use Rattle.book.specs.Parts.{curveCount, tradeBlocks, recordCount, recor
 unfoldable pub breaksLength : ℕ → ℕ → Bool
 breaksLength used lent = eqb used 0 || not (eqb (used % 512) 0) || ltb 65536 used || ltb lent used
 
--- 4. "A header count or unnamed byte is wrong": 1 to 8 curves, 1 + C + T blocks; byte 1, and all from 12 up to the check, are 0
+-- 4. "A header count or unnamed byte is wrong": 1 to 8 curves, 1 + C + T blocks; byte 1, and all from 16 up to the check, are 0 (document 02,
+-- wish 4: "Header bytes 12-15 hold the valuation day ..; rule 4 no longer wants them 0")
 unfoldable pub breaksHeader : List ℕ → ℕ → Bool
 breaksHeader b blocks = not (
     leb 1 (curveCount b)
     && leb (curveCount b) 8
     && eqb (1 + curveCount b + tradeBlocks b) blocks
     && eqb (byteAt b 1) 0
-    && zeros b 12 508)
+    && zeros b 16 508)
 
 -- a count is 1 to 9, and 9 where the block is not the last
 unfoldable pub countFits : ℕ → Bool → Bool

@@ -1,4 +1,5 @@
--- The verdict on a book (document 01: "length first, then block by block, records in order within a block").
+-- The verdict on a book by its length and its blocks, grounds 1 to 12 (document 01: "length first, then block by block, records in order within
+-- a block").
 use Prim.Native.Nat.{ℕ, _+_, _/_}
 use mathlib.Core.Bool.{Bool, cond}
 use mathlib.Core.List.{List, [], _∷_}

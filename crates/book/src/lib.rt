@@ -1,4 +1,4 @@
-// A book: its parts, and the verdict on it.
+// A book: its parts, and the verdict on its blocks.
 mod blocks;
 pub mod parts;
 mod rules;
@@ -29,7 +29,7 @@ fn blocks_verdict(book: &[u8], curves: Curves, n: usize) -> Verdict
     Verdict::Accepted
 }
 
-// The verdict on a lent book and its used length: whatever is lent has an answer. The curves are looked at only once the header has
+// The verdict on a lent book and its used length, by grounds 1 to 12: whatever is lent has an answer. The curves are looked at only once the header has
 // said that they are there.
 pub fn check(book: &[u8], used: usize) -> Verdict
     ensures { λ r. ⌜ r ≡ verdict (now (book .entry)) used ⌝ }

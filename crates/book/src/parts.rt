@@ -56,6 +56,14 @@ pub fn account(book: &[u8]) -> u64
     u32_at(book, 4)
 }
 
+// As days since 1 January 2000.
+pub fn valuation_day(book: &[u8]) -> u64
+    requires { ⌜ 512 ≤ length (now book) ⌝ }
+    ensures { λ r. ⌜ r ≡ headerOf (now (book .entry)) .day ⌝ }
+{
+    u32_at(book, 12)
+}
+
 pub fn curve_count(book: &[u8]) -> usize
     requires { ⌜ 512 ≤ length (now book) ⌝ }
     ensures { λ r. ⌜ r ≡ curveCount (now (book .entry)) ⌝ }

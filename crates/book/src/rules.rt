@@ -26,7 +26,7 @@ pub fn breaks_header(b: &[u8], blocks: usize) -> bool
         & (curves <= 8)
         & (1 + curves + trades == blocks)
         & (b[1] == 0)
-        & zeros(b, 12, 508))
+        & zeros(b, 16, 508))
 }
 
 fn count_fits(n: usize, last: bool) -> bool

@@ -6,7 +6,6 @@ use Prim.Native.Nat.{ℕ, _+_, _*_, _≤_, _<_}
 use native.Mathlib.Omega.{arith}
 use lib.ListN.{length, take, drop, length-set}
 use Rattle.ground.specs.declared.Verdict.the-variants.{Accepted}
-use Rattle.ground.specs.Verdicts.{orElse}
 use Rattle.ground.proofs.Verdicts.{orElse-accepted, unbroken}
 use Rattle.layout.specs.Bytes.{part, onBlock, AreBytes}
 use Rattle.layout.proofs.Bytes.{length-put, length-part, onBlock-lent}
@@ -21,6 +20,9 @@ use Rattle.curve_edit.proofs.Lengthened.{Addable}
 use Rattle.record.proofs.Limits.{InLimits}
 use Rattle.book.specs.Parts.{blockAt, curveCount, curvesOf}
 use Rattle.book.specs.Verdict.{verdict}
+use Rattle.acceptance.specs.declared.Today.the-variants.{Given}
+use Rattle.acceptance.specs.Verdict.{bookVerdict}
+use Rattle.acceptance.proofs.Laws.{book-accepted}
 use Rattle.book.proofs.HeaderBlock.{bytes-part}
 use Rattle.book.proofs.Accepted.{Sound, sound, curve-block-accepted, curve-sound, length-blockAt}
 use Rattle.bond.specs.Limits.{Extends}
@@ -28,7 +30,7 @@ use Rattle.bond.specs.Value.{breaksRateRange}
 use Rattle.bond.proofs.SmallestRate.{found-limit, found-enough, found-above}
 use Rattle.bootstrap.specs.declared.Quote.{Quote}
 use Rattle.bootstrap.specs.Bought.{bondPayments, bondFlows}
-use Rattle.bootstrap.specs.Refusals.{quoteVerdict, openNode, breaksCurveEnd, extensionRules, extensionVerdict, curveAt, bootstrapVerdict}
+use Rattle.bootstrap.specs.Refusals.{quoteVerdict, openNode, breaksCurveEnd, extensionRules, extensionVerdict, curveAt, inBookVerdict, bootstrapVerdict}
 use Rattle.bootstrap.specs.Bootstrap.{newNode, SmallestRate}
 use Rattle.bootstrap.proofs.Extending.{extends}
 use Rattle.bootstrap.proofs.Kept.{id-in-book, quote-kept}
@@ -41,20 +43,23 @@ node-left s curve {n} {m} h en et =
     let long : length (withNode m (part s (curve * 512) 512)) ≡ 512 = simp (length-sealed, length-set, length-put) (length-part s (curve * 512) 512 h) in
     rw (et, en) (onBlock-lent (withNode m) s (curve * 512) h long)
 
-module _ (s : List ℕ) (used : ℕ) (q : Quote) (h : bootstrapVerdict s used q ≡ Accepted) where
-  pub book-accepted : verdict s used ≡ Accepted
+module _ (s : List ℕ) (used day : ℕ) (q : Quote) (h : bootstrapVerdict s used day q ≡ Accepted) where
+  pub accepted-on-day : bookVerdict s used (Given day) ≡ Accepted
   unfolding bootstrapVerdict
-  book-accepted = orElse-accepted (verdict s used) _ h .0
+  accepted-on-day = orElse-accepted (bookVerdict s used (Given day)) _ h .0
 
-  behind-book : orElse (quoteVerdict (curvesOf s) q) (extensionVerdict (curveAt s (q .curve)) q) ≡ Accepted
-  unfolding bootstrapVerdict
-  behind-book = orElse-accepted (verdict s used) _ h .1
+  pub blocks-accepted : verdict s used ≡ Accepted
+  blocks-accepted = book-accepted s used (Given day) accepted-on-day .blocks
+
+  behind-book : (quoteVerdict (curvesOf s) q ≡ Accepted) × (extensionVerdict (curveAt s (q .curve)) q ≡ Accepted)
+  unfolding bootstrapVerdict inBookVerdict
+  behind-book = orElse-accepted (quoteVerdict (curvesOf s) q) _ (orElse-accepted (bookVerdict s used (Given day)) _ h .1)
 
   quote-accepted : quoteVerdict (curvesOf s) q ≡ Accepted
-  quote-accepted = orElse-accepted (quoteVerdict (curvesOf s) q) _ behind-book .0
+  quote-accepted = behind-book .0
 
   extension-accepted : extensionVerdict (curveAt s (q .curve)) q ≡ Accepted
-  extension-accepted = orElse-accepted (quoteVerdict (curvesOf s) q) _ behind-book .1
+  extension-accepted = behind-book .1
 
   end-kept : breaksCurveEnd (curveAt s (q .curve)) (openNode q .day) ≡ false
   unfolding extensionVerdict
@@ -70,7 +75,7 @@ module _ (s : List ℕ) (used : ℕ) (q : Quote) (h : bootstrapVerdict s used q 
   id = id-in-book s q quote-accepted
 
   pub book-sound : Sound s used
-  book-sound = sound s used book-accepted
+  book-sound = sound s used blocks-accepted
 
   extended : Extends (curveAt s (q .curve)) (openNode q) (bondPayments q)
   extended =

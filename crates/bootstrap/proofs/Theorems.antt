@@ -10,53 +10,55 @@ use Rattle.curve_edit.specs.Lengthen.{withNode}
 use Rattle.curve_edit.proofs.Lengthened.{length-with-node, verdict-with-node, currency-with-node, components-with-node, nodes-with-node}
 use Rattle.book.specs.Parts.{blockAt}
 use Rattle.book.proofs.Replaced.{Replaced, replaced}
+use Rattle.acceptance.specs.declared.Today.the-variants.{Given}
+use Rattle.acceptance.proofs.Laws.{same-header}
 use Rattle.bootstrap.specs.declared.Quote.{Quote}
 use Rattle.bootstrap.specs.Refusals.{curveAt, bootstrapVerdict}
 use Rattle.bootstrap.specs.Bootstrap.{newNode, bootstrapped, Extended}
-use Rattle.bootstrap.proofs.Added.{book-accepted, id, addable}
+use Rattle.bootstrap.proofs.Added.{accepted-on-day, blocks-accepted, id, addable}
 
 -- a refusal leaves every lent byte
-pub refused-bootstrap : (s : List ℕ) (used : ℕ) (q : Quote) (g : Ground) (k : ℕ) → bootstrapVerdict s used q ≡ verdict.Refused g k → bootstrapped s used q ≡ s
+pub refused-bootstrap : (s : List ℕ) (used day : ℕ) (q : Quote) (g : Ground) (k : ℕ) → bootstrapVerdict s used day q ≡ verdict.Refused g k → bootstrapped s used day q ≡ s
 unfolding bootstrapped
-refused-bootstrap s used q g k e = rw e
+refused-bootstrap s used day q g k e = rw e
 
-module _ (s : List ℕ) (used : ℕ) (q : Quote) (bytes : AreBytes s) (h : bootstrapVerdict s used q ≡ verdict.Accepted) where
+module _ (s : List ℕ) (used day : ℕ) (q : Quote) (bytes : AreBytes s) (h : bootstrapVerdict s used day q ≡ verdict.Accepted) where
   -- the curve's block with the node
   abbrev block : List ℕ
   block = withNode (newNode (curveAt s (q .curve)) q) (blockAt s (q .curve))
 
-  is-put : bootstrapped s used q ≡ put s (q .curve * 512) block
+  is-put : bootstrapped s used day q ≡ put s (q .curve * 512) block
   unfolding bootstrapped onBlock
   is-put = rw h
 
   node-for-block : Replaced s (put s (q .curve * 512) block) used (q .curve) block
   node-for-block =
-      let a = addable s used q h bytes in
+      let a = addable s used day q h bytes in
       let b = blockAt s (q .curve) in
       let n = newNode (curveAt s (q .curve)) q in
       replaced s used (q .curve) block
       (record {
-        book = book-accepted s used q h;
-        first = id s used q h .low;
-        last = id s used q h .high;
+        book = blocks-accepted s used day q h;
+        first = id s used day q h .low;
+        last = id s used day q h .high;
         long = length-with-node b (q .curve) n a;
         accepted = verdict-with-node b (q .curve) n a;
         currency = currency-with-node n b;
       })
 
   -- the book after it: accepted, and as it was but for the node
-  pub book-extended : Extended s (bootstrapped s used q) used q
+  pub book-extended : Extended s (bootstrapped s used day q) used day q
   book-extended =
       let r = node-for-block in
       let b = blockAt s (q .curve) in
       let n = newNode (curveAt s (q .curve)) q in
       rw is-put
       (record {
-        accepted = r .accepted;
+        accepted = same-header s (put s (q .curve * 512) block) used used (Given day) (accepted-on-day s used day q h) (r .header) (r .accepted);
         header = r .header;
         trades = r .trades;
         others = r .others;
         currency = rw (r .block) (currency-with-node n b);
         components = rw (r .block) (components-with-node n b);
-        nodes = rw (r .block) (nodes-with-node b (q .curve) n (addable s used q h bytes));
+        nodes = rw (r .block) (nodes-with-node b (q .curve) n (addable s used day q h bytes));
       })

@@ -14,7 +14,8 @@ use Rattle.curve.specs.Rates.{nodesOf}
 use Rattle.curve_block.specs.Parts.{currencyOf, componentsOf}
 use Rattle.curve_edit.specs.Lengthen.{withNode}
 use Rattle.book.specs.Parts.{blockAt, headerOf, records}
-use Rattle.book.specs.Verdict as book
+use Rattle.acceptance.specs.declared.Today.the-variants.{Given}
+use Rattle.acceptance.specs.Verdict.{bookVerdict}
 use Rattle.bond.specs.Value.{bondValueAt, rateFor}
 use Rattle.bootstrap.specs.declared.Quote.{Quote}
 use Rattle.bootstrap.specs.declared.decide.Decision.{Decision}
@@ -32,9 +33,9 @@ decisionOf verdict.Accepted n = Add n
 decisionOf (verdict.Refused g k) n = Refused g k
 
 -- nothing but the curve's block is written, and nothing at all where it is refused
-unfoldable pub bootstrapped : List ℕ → ℕ → Quote → List ℕ
-bootstrapped s used q =
-    bytesAfter (bootstrapVerdict s used q) s (onBlock (withNode (newNode (curveAt s (q .curve)) q)) s (q .curve * 512))
+unfoldable pub bootstrapped : List ℕ → ℕ → ℕ → Quote → List ℕ
+bootstrapped s used day q =
+    bytesAfter (bootstrapVerdict s used day q) s (onBlock (withNode (newNode (curveAt s (q .curve)) q)) s (q .curve * 512))
 
 -- ---- what holds where it is not refused (proofs/Added.antt, proofs/Theorems.antt)
 
@@ -49,8 +50,8 @@ pub record SmallestRate (c : Curve) (q : Quote) : Type 0 where
   pub above : (rate : ℕ) → rate < newNode c q .rate → q .cash < valueWith c q rate
 
 -- t is the book s with the node and no other change
-pub record Extended (s t : List ℕ) (used : ℕ) (q : Quote) : Type 0 where
-  pub accepted : book.verdict t used ≡ verdict.Accepted
+pub record Extended (s t : List ℕ) (used day : ℕ) (q : Quote) : Type 0 where
+  pub accepted : bookVerdict t used (Given day) ≡ verdict.Accepted
   pub header : headerOf t ≡ headerOf s
   pub trades : records t ≡ records s
   pub others : (k : ℕ) → k * 512 < used → (k ≡ q .curve → ⊥) → blockAt t k ≡ blockAt s k

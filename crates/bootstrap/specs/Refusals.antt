@@ -17,7 +17,8 @@ use Rattle.record.specs.declared.Curves.{Curves}
 use Rattle.record.specs.Uses.{inLimits}
 use Rattle.flows.specs.Verdict.{recordVerdict}
 use Rattle.book.specs.Parts.{blockAt, curvesOf}
-use Rattle.book.specs.Verdict.{verdict}
+use Rattle.acceptance.specs.declared.Today.the-variants.{Given}
+use Rattle.acceptance.specs.Verdict.{bookVerdict}
 use Rattle.bond.specs.Value.{lastPayment, breaksRateRange}
 use Rattle.bootstrap.specs.declared.Quote.{Quote}
 use Rattle.bootstrap.specs.Bought.{bondFields, bondPayments, bondFlows}
@@ -70,6 +71,10 @@ extensionVerdict c q = firstBroken 0 (extensionRules c q)
 abbrev pub curveAt : List ℕ → ℕ → Curve
 curveAt s id = curveOf (blockAt s id)
 
--- "After the book": its own grounds, the quote's, and those of the curve
-unfoldable pub bootstrapVerdict : List ℕ → ℕ → Quote → Verdict
-bootstrapVerdict s used q = orElse (verdict s used) (orElse (quoteVerdict (curvesOf s) q) (extensionVerdict (curveAt s (q .curve)) q))
+-- what is asked of a quote in an accepted book: its own grounds, and those of the curve
+unfoldable pub inBookVerdict : List ℕ → Quote → Verdict
+inBookVerdict s q = orElse (quoteVerdict (curvesOf s) q) (extensionVerdict (curveAt s (q .curve)) q)
+
+-- given the day: "after the book", whose 19 comes "before .. a curve id is looked at"
+unfoldable pub bootstrapVerdict : List ℕ → ℕ → ℕ → Quote → Verdict
+bootstrapVerdict s used day q = orElse (bookVerdict s used (Given day)) (inBookVerdict s q)

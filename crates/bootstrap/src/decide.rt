@@ -3,6 +3,7 @@ use crate::Quote;
 use crate::bought::payments_of;
 use crate::refusals::breaks_curve_end;
 use crate::refusals::quote_verdict;
+use acceptance::Today;
 use bond::rate::breaks_rate_range;
 use bond::rate::rate_for;
 use bond::value::Extension;
@@ -16,12 +17,10 @@ use ground::Verdict;
 use legs::Leg;
 ghost use mathlib.Core.Path.{_≡_};
 ghost use Rattle.ground.specs.declared.Verdict.the-variants.{Accepted};
-ghost use Rattle.ground.specs.Verdicts.{orElse};
 ghost use Rattle.curve.specs.Limits.{Proper};
-ghost use Rattle.book.specs.Parts.{curvesOf};
 ghost use Rattle.book.specs.Verdict.{verdict};
 ghost use Rattle.bootstrap.specs.Bought.{bondPayments};
-ghost use Rattle.bootstrap.specs.Refusals.{openNode, quoteVerdict, extensionVerdict, curveAt, bootstrapVerdict};
+ghost use Rattle.bootstrap.specs.Refusals.{openNode, extensionVerdict, curveAt, inBookVerdict, bootstrapVerdict};
 ghost use Rattle.bootstrap.specs.Limits.{QuoteLimits};
 ghost use Rattle.bootstrap.specs.Bootstrap.{newNode, decisionOf};
 
@@ -65,7 +64,7 @@ fn extended(c: Curve, q: Quote) -> Decision
 // On an accepted book.
 fn quoted(book: &[u8], used: usize, q: Quote) -> Decision
     requires { ⌜ verdict (now book) used ≡ Accepted ⌝ }
-    ensures { λ r. ⌜ r ≡ decisionOf (orElse (quoteVerdict (curvesOf (now (book .entry))) q) (extensionVerdict (curveAt (now (book .entry)) (q .curve)) q)) (newNode (curveAt (now (book .entry)) (q .curve)) q) ⌝ }
+    ensures { λ r. ⌜ r ≡ decisionOf (inBookVerdict (now (book .entry)) q) (newNode (curveAt (now (book .entry)) (q .curve)) q) ⌝ }
 {
     let v = quote_verdict(curves_of(book), q);
     match v {
@@ -74,11 +73,11 @@ fn quoted(book: &[u8], used: usize, q: Quote) -> Decision
     }
 }
 
-// On any bytes: the book's own grounds first.
-pub fn decided(book: &[u8], used: usize, q: Quote) -> Decision
-    ensures { λ r. ⌜ r ≡ decisionOf (bootstrapVerdict (now (book .entry)) used q) (newNode (curveAt (now (book .entry)) (q .curve)) q) ⌝ }
+// On any bytes: the whole-book check first.
+pub fn decided(book: &[u8], used: usize, day: u64, q: Quote) -> Decision
+    ensures { λ r. ⌜ r ≡ decisionOf (bootstrapVerdict (now (book .entry)) used day q) (newNode (curveAt (now (book .entry)) (q .curve)) q) ⌝ }
 {
-    let v = book::check(book, used);
+    let v = acceptance::check(book, used, Today::Given(day));
     match v {
         Verdict::Refused(g, k) => Decision::Refused(g, k),
         Verdict::Accepted => quoted(book, used, q),

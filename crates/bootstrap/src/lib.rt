@@ -20,12 +20,12 @@ pub struct Quote {
     pub third: i64,
 }
 
-// Adds a node to the curve on the bond's last payment day, or answers the first ground that applies. Takes every input.
-pub fn bootstrap(book: &mut [u8], used: usize, q: Quote) -> Verdict
-    ensures { λ v. ⌜ v ≡ bootstrapVerdict (now (book .entry)) used q ⌝ }
-    ensures { λ _. ⌜ now (book .exit) ≡ bootstrapped (now (book .entry)) used q ⌝ }
+// Adds a node to the curve on the bond's last payment day, or answers the first ground that applies, given the current day. Takes every input.
+pub fn bootstrap(book: &mut [u8], used: usize, day: u64, q: Quote) -> Verdict
+    ensures { λ v. ⌜ v ≡ bootstrapVerdict (now (book .entry)) used day q ⌝ }
+    ensures { λ _. ⌜ now (book .exit) ≡ bootstrapped (now (book .entry)) used day q ⌝ }
 {
-    let d = decide::decided(&book[..], used, q);
+    let d = decide::decided(&book[..], used, day, q);
     match d {
         Decision::Refused(g, k) => Verdict::Refused(g, k),
         Decision::Add(n) => {

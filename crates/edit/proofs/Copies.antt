@@ -8,29 +8,44 @@ use Rattle.ground.specs.declared.Verdict.the-variants.{Accepted}
 use Rattle.layout.specs.Bytes.{AreBytes}
 use Rattle.book.proofs.Accepted.{sound}
 use Rattle.book.proofs.Copied.{SameBook, same-curve-count, same-trade-count, same-book, copy-accepted}
+use Rattle.acceptance.specs.declared.Today.the-variants.{Given}
+use Rattle.acceptance.proofs.Laws.{same-header}
 use Rattle.edit.specs.Refusals.{appendVerdict}
-use Rattle.edit.specs.Edits.{appended}
-use Rattle.edit.proofs.Given.{admitted, admits, roomier}
+use Rattle.edit.specs.Edits.{appendedBook, appended}
+use Rattle.edit.proofs.Given.{Admitted, append-book, admitted, admits, roomier}
 use Rattle.edit.proofs.Theorems.{book-appended}
 
-module _ (s t : List ℕ) (used : ℕ) (r : List ℕ) (bytes : AreBytes s) (ok : appendVerdict s used r ≡ Accepted) (same : take used t ≡ take used s) (wide : 65536 ≤ length t) where
-  pub copy-takes : appendVerdict t used r ≡ Accepted
-  copy-takes =
-      let w = admitted s used r ok in
+module _ (s t : List ℕ) (used : ℕ) (r : List ℕ) (bytes : AreBytes s) (w : Admitted s used r) (same : take used t ≡ take used s) (wide : 65536 ≤ length t) where
+  pub copy-admits : Admitted t used r
+  copy-admits =
       let b = sound s used (w .accepted) in
       let c = same-book s t used bytes (w .accepted) same in
       let count = same-trade-count s t (c .trades) in
-      admits t used r (record {
+      record {
         accepted = copy-accepted s t used bytes (w .accepted) same;
         judged = rw (c .curves, same-curve-count s t (c .curves), count) (w .judged);
         roomy = rw count (roomier _ used (length s) (length t) (w .roomy) (omega (arith, b .blocks)) (b .limit) wide);
-      })
+      }
 
-  pub copy-appended : AreBytes t → length r ≡ 56 → SameBook (appended s used r) (appended t used r)
+  pub copy-appended-book : appendedBook t r ≡ appendedBook s r
+  unfolding appendedBook
+  copy-appended-book =
+      let c = same-book s t used bytes (w .accepted) same in
+      rw (c .header, c .curves, c .trades)
+
+-- the same on a day
+module _ (s t : List ℕ) (used day : ℕ) (r : List ℕ) (bytes : AreBytes s) (ok : appendVerdict s used day r ≡ Accepted) (same : take used t ≡ take used s) (wide : 65536 ≤ length t) where
+  pub copy-takes : appendVerdict t used day r ≡ Accepted
+  copy-takes =
+      let w = admitted s used r day ok in
+      let a = copy-admits s t used r bytes w same wide in
+      admits t used r day (same-header s t used used (Given day) (append-book s used r day ok) (same-book s t used bytes (w .accepted) same .header) (a .accepted)) a
+
+  pub copy-appended : AreBytes t → length r ≡ 56 → SameBook (appended s used day r) (appended t used day r)
   copy-appended copy-bytes long =
-      let c = same-book s t used bytes (admitted s used r ok .accepted) same in
-      let a = book-appended s used bytes r long ok in
-      let d = book-appended t used copy-bytes r long copy-takes in
+      let c = same-book s t used bytes (admitted s used r day ok .accepted) same in
+      let a = book-appended s used bytes r long day ok in
+      let d = book-appended t used copy-bytes r long day copy-takes in
       record {
         header = d .header ∙ c .header ∙ sym (a .header);
         curves = d .curves ∙ c .curves ∙ sym (a .curves);

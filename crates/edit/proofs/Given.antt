@@ -15,6 +15,10 @@ use Rattle.ground.specs.declared.Ground.the-variants.{Position, BookSpace}
 use Rattle.ground.specs.declared.Verdict.the-variants.{Accepted, Refused}
 use Rattle.book.specs.Parts.{curvesOf, tradeCount}
 use Rattle.book.specs.Verdict.{bytesVerdict, verdict}
+use Rattle.acceptance.specs.declared.Today.{Today}
+use Rattle.acceptance.specs.declared.Today.the-variants.{Given}
+use Rattle.acceptance.specs.Verdict.{bookVerdict}
+use Rattle.acceptance.proofs.Laws.{book-accepted}
 use Rattle.ground.proofs.Verdicts.{unless-accepted, orElse-accepted}
 use Rattle.edit.specs.Refusals.{blockOf, breaksPosition, breaksBookSpace, positionVerdict, newRecordVerdict, appendVerdict}
 
@@ -22,29 +26,46 @@ pub record HasTrade (s : List ℕ) (used position : ℕ) : Type 0 where
   pub accepted : verdict s used ≡ Accepted
   pub in-book : position < tradeCount s
 
-pub has-trade : (s : List ℕ) (used position : ℕ) → positionVerdict s used position ≡ Accepted → HasTrade s used position
+pub has-trade : (s : List ℕ) (used : ℕ) (today : Today) (position : ℕ) → positionVerdict s used today position ≡ Accepted → HasTrade s used position
 unfolding positionVerdict breaksPosition
-has-trade s used position h =
-    let p = orElse-accepted (verdict s used) _ h in
+has-trade s used today position h =
+    let p = orElse-accepted (bookVerdict s used today) _ h in
     let q = unless-accepted (breaksPosition s position) Position 0 Accepted (p .1) in
-    record { accepted = p .0; in-book = ltb-true position (tradeCount s) (not-false _ (q .0)) }
+    record { accepted = book-accepted s used today (p .0) .blocks; in-book = ltb-true position (tradeCount s) (not-false _ (q .0)) }
 
 pub record Admitted (s : List ℕ) (used : ℕ) (r : List ℕ) : Type 0 where
   pub accepted : verdict s used ≡ Accepted
   pub judged : bytesVerdict (curvesOf s) r (blockOf s (tradeCount s)) ≡ Accepted
   pub roomy : breaksBookSpace (tradeCount s) used (length s) ≡ false
 
-pub admitted : (s : List ℕ) (used : ℕ) (r : List ℕ) → appendVerdict s used r ≡ Accepted → Admitted s used r
-unfolding appendVerdict newRecordVerdict
-admitted s used r h =
-    let p = orElse-accepted (verdict s used) _ h in
-    let q = orElse-accepted (bytesVerdict (curvesOf s) r (blockOf s (tradeCount s))) _ (p .1) in
-    let t = unless-accepted (breaksBookSpace (tradeCount s) used (length s)) BookSpace 0 Accepted (q .1) in
-    record { accepted = p .0; judged = q .0; roomy = t .0 }
+module _ (s : List ℕ) (used : ℕ) (r : List ℕ) where
+  pub record-admitted : verdict s used ≡ Accepted → newRecordVerdict s used r ≡ Accepted → Admitted s used r
+  unfolding newRecordVerdict
+  record-admitted ok h =
+      let q = orElse-accepted (bytesVerdict (curvesOf s) r (blockOf s (tradeCount s))) _ h in
+      let t = unless-accepted (breaksBookSpace (tradeCount s) used (length s)) BookSpace 0 Accepted (q .1) in
+      record { accepted = ok; judged = q .0; roomy = t .0 }
 
-pub admits : (s : List ℕ) (used : ℕ) (r : List ℕ) → Admitted s used r → appendVerdict s used r ≡ Accepted
-unfolding appendVerdict newRecordVerdict
-admits s used r a = rw (a .accepted, a .judged, a .roomy)
+  pub record-taken : Admitted s used r → newRecordVerdict s used r ≡ Accepted
+  unfolding newRecordVerdict
+  record-taken a = rw (a .judged, a .roomy)
+
+  -- on a day
+  module _ (day : ℕ) where
+    pub append-book : appendVerdict s used day r ≡ Accepted → bookVerdict s used (Given day) ≡ Accepted
+    unfolding appendVerdict
+    append-book h = orElse-accepted (bookVerdict s used (Given day)) _ h .0
+
+    pub append-record : appendVerdict s used day r ≡ Accepted → newRecordVerdict s used r ≡ Accepted
+    unfolding appendVerdict
+    append-record h = orElse-accepted (bookVerdict s used (Given day)) _ h .1
+
+    pub admitted : appendVerdict s used day r ≡ Accepted → Admitted s used r
+    admitted h = record-admitted (book-accepted s used (Given day) (append-book h) .blocks) (append-record h)
+
+    pub admits : bookVerdict s used (Given day) ≡ Accepted → Admitted s used r → appendVerdict s used day r ≡ Accepted
+    unfolding appendVerdict
+    admits ok a = rw (ok, record-taken a)
 
 -- where a new block is needed, there is one to be had
 pub record Room (used lent : ℕ) : Type 0 where
@@ -91,14 +112,14 @@ space-broken trades used lent full (inr l) = rw (eq-eqb (trades % 9) 0 full, lt-
     go true = refl
     go false = refl
 
--- ---- of an accepted book, what an append answers
+-- ---- of a book that is accepted on the day, what an append answers
 
-module _ (s : List ℕ) (used : ℕ) (r : List ℕ) (ok : verdict s used ≡ Accepted) where
-  pub record-refused : (g : Ground) (k : ℕ) → bytesVerdict (curvesOf s) r (blockOf s (tradeCount s)) ≡ Refused g k → appendVerdict s used r ≡ Refused g k
+module _ (s : List ℕ) (used day : ℕ) (r : List ℕ) (ok : bookVerdict s used (Given day) ≡ Accepted) where
+  pub record-refused : (g : Ground) (k : ℕ) → bytesVerdict (curvesOf s) r (blockOf s (tradeCount s)) ≡ Refused g k → appendVerdict s used day r ≡ Refused g k
   unfolding appendVerdict newRecordVerdict
   record-refused g k e = rw (ok, e)
 
   pub space-refused : bytesVerdict (curvesOf s) r (blockOf s (tradeCount s)) ≡ Accepted → breaksBookSpace (tradeCount s) used (length s) ≡ true
-      → appendVerdict s used r ≡ Refused BookSpace 0
+      → appendVerdict s used day r ≡ Refused BookSpace 0
   unfolding appendVerdict newRecordVerdict
   space-refused judged broken = rw (ok, judged, broken)

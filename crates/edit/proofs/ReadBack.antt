@@ -17,27 +17,30 @@ use Rattle.book.specs.Verdict.{bytesVerdict, verdict}
 use Rattle.book.proofs.Places.{curves-count}
 use Rattle.book.proofs.Accepted.{sound, accepted-record, length-recordAt}
 use Rattle.book.proofs.HeaderBlock.{bytes-part}
+use Rattle.acceptance.specs.declared.Today.the-variants.{Given}
+use Rattle.acceptance.proofs.Laws.{book-accepted}
 use Rattle.edit.specs.declared.Found.{Found}
 use Rattle.edit.specs.ReadBack.{recordOfTrade, tradeOfRecord, Writable, ReadsBack}
 use Rattle.edit.specs.Refusals.{blockOf}
 use Rattle.edit.proofs.Given.{admits}
 use Rattle.edit.proofs.Theorems.{append-read-last, append-read-earlier}
 
-pub trade-reads-back : (s : List ℕ) (used : ℕ) (t : Trade) → Writable s used t → ReadsBack s used t
-trade-reads-back s used t w =
+pub trade-reads-back : (s : List ℕ) (used day : ℕ) (t : Trade) → Writable s used day t → ReadsBack s used day t
+trade-reads-back s used day t w =
     let f = fieldsOfTrade t in
     let r = recordOfTrade t in
     let rules = accepted (curvesOf s) f (blockOf s (tradeCount s)) (w .unbroken) in
-    let few : curvesOf s .count < 256 = omega (arith, curves-count s, sound s used (w .accepted) .most) in
+    let blocks = book-accepted s used (Given day) (w .accepted) .blocks in
+    let few : curvesOf s .count < 256 = omega (arith, curves-count s, sound s used blocks .most) in
     let narrow = rules-narrow (curvesOf s) f few (rules .form) (rules .days) (rules .amounts) in
     let judged : bytesVerdict (curvesOf s) r (blockOf s (tradeCount s)) ≡ Accepted = rw (fields-bytes-fields f narrow) (w .unbroken) in
-    let taken = admits s used r (record { accepted = w .accepted; judged = judged; roomy = w .room }) in
-    let written = append-read-last s used (w .bytes) r (length-recordBytes f) taken in
+    let taken = admits s used r day (w .accepted) (record { accepted = blocks; judged = judged; roomy = w .room }) in
+    let written = append-read-last s used (w .bytes) r (length-recordBytes f) day taken in
     record {
       taken = taken;
       written = written;
       same = ap (λ (x : Found). tradeOfRecord (x .bytes)) written ∙ trade-bytes-trade t narrow;
-      earlier = append-read-earlier s used (w .bytes) r (length-recordBytes f) taken;
+      earlier = append-read-earlier s used (w .bytes) r (length-recordBytes f) day taken;
     }
 
 -- ---- an accepted record rewritten

@@ -22,14 +22,18 @@ use Rattle.book.proofs.Places.{length-records}
 use Rattle.book.proofs.Accepted.{sound}
 use Rattle.book.proofs.Verdicts.{any-block}
 use Rattle.book.proofs.Encoded.{Encodable, Acceptable, header-encoded, curves-encoded, trade-count-encoded, record-at-encoded, records-encoded, encoded-accepted}
+use Rattle.acceptance.specs.declared.Today.{Today}
+use Rattle.acceptance.specs.declared.Today.the-variants.{Given, NotGiven}
+use Rattle.acceptance.specs.Verdict.{bookVerdict}
+use Rattle.acceptance.proofs.Laws.{same-header, no-day}
 use Rattle.book.proofs.Canonical.{sound-encodable, sound-acceptable, accepted-encoded, accepted-lent, length-accepted}
 use Rattle.edit.specs.declared.Edited.the-variants as edited
 use Rattle.edit.specs.declared.Found.{Found}
 use Rattle.edit.specs.Refusals.{blockOf, breaksPosition, positionVerdict, appendVerdict}
-use Rattle.edit.specs.Edits.{usedAfter, usedAppended, BookAppended, found, appendedBook, appendAnswer, appended, without, struckBook, strikeAnswer, struck}
+use Rattle.edit.specs.Edits.{usedAppended, usedStruck, BookAppended, BookStruck, found, appendedBook, appendAnswer, appended, without, struckBook, strikeAnswer, struck}
 use Rattle.edit.proofs.Added.{length-one-more}
 use Rattle.edit.proofs.Fewer.{length-without, without-before, without-behind}
-use Rattle.edit.proofs.Given.{has-trade, admitted}
+use Rattle.edit.proofs.Given.{HasTrade, has-trade, Admitted, append-book, admitted}
 use Rattle.edit.proofs.Lent.{encodable-more, narrower}
 
 -- ---- what a read finds, by the list of records
@@ -45,10 +49,14 @@ module _ (header : Header) (cs rs : List (List ℕ)) (rest : List ℕ) (fine : E
   abbrev size : ℕ
   size = length (encode header cs rs)
 
-  position-encoded : (i : ℕ) (b : Bool) → ltb i (length rs) ≡ b → positionVerdict book size i ≡ cond b Accepted (Refused Position 0)
+  position-encoded : (today : Today) → bookVerdict book size today ≡ Accepted → (i : ℕ) (b : Bool) → ltb i (length rs) ≡ b
+      → positionVerdict book size today i ≡ cond b Accepted (Refused Position 0)
   unfolding positionVerdict breaksPosition
-  position-encoded i true e = rw (encoded-accepted header cs rs fine rest good, trade-count-encoded header cs rs fine rest, e)
-  position-encoded i false e = rw (encoded-accepted header cs rs fine rest good, trade-count-encoded header cs rs fine rest, e)
+  position-encoded today ok i true e = rw (ok, trade-count-encoded header cs rs fine rest, e)
+  position-encoded today ok i false e = rw (ok, trade-count-encoded header cs rs fine rest, e)
+
+  encoded-book : bookVerdict book size NotGiven ≡ Accepted
+  encoded-book = no-day book size ∙ encoded-accepted header cs rs fine rest good
 
   pub found-encoded : (i : ℕ) → found book size i ≡ foundIn rs i
   unfolding found
@@ -57,41 +65,42 @@ module _ (header : Header) (cs rs : List (List ℕ)) (rest : List ℕ) (fine : E
       go : Dec (i < length rs) → found book size i ≡ foundIn rs i
       go (yes l) =
           let e = lt-ltb i (length rs) l in
-          rw (position-encoded i true e, e, record-at-encoded header cs rs fine rest i l)
+          rw (position-encoded NotGiven encoded-book i true e, e, record-at-encoded header cs rs fine rest i l)
       go (no l) =
           let e = le-ltb i (length rs) (omega arith) in
-          rw (position-encoded i false e, e)
+          rw (position-encoded NotGiven encoded-book i false e, e)
 
   -- struck at a position
   struck-book : (i : ℕ) → struckBook book i ≡ encode header cs (without rs i)
   unfolding struckBook
   struck-book i = rw (header-encoded header cs rs fine rest, curves-encoded header cs rs fine rest, records-encoded header cs rs fine rest)
 
-  strike-answer : (i : ℕ) → i < length rs → strikeAnswer book size i ≡ edited.Used (length (encode header cs (without rs i)))
-  unfolding strikeAnswer
-  strike-answer i l = rw (position-encoded i true (lt-ltb i (length rs) l), struck-book i)
+  module _ (day : ℕ) (ok : bookVerdict book size (Given day) ≡ Accepted) (i : ℕ) (l : i < length rs) where
+    strike-answer : strikeAnswer book size day i ≡ edited.Used (length (encode header cs (without rs i)))
+    unfolding strikeAnswer
+    strike-answer = rw (position-encoded (Given day) ok i true (lt-ltb i (length rs) l), struck-book i)
 
-  struck-start : (i : ℕ) → i < length rs → take (length (encode header cs (without rs i))) (struck book size i) ≡ encode header cs (without rs i)
-  unfolding struck
-  struck-start i l =
-      let fewer = encode header cs (without rs i) in
-      let zeros : List ℕ = replicate (size - length fewer) 0 in
-      let written : struck book size i ≡ struckBook book i ++ replicate (size - length (struckBook book i)) 0 ++ drop size book =
-      rw (position-encoded i true (lt-ltb i (length rs) l)) in
-      let laid : struck book size i ≡ fewer ++ (zeros ++ drop size book) = written ∙ rw (struck-book i) (append-assoc fewer zeros (drop size book)) in
-      ap (take (length fewer)) laid ∙ take-at fewer (zeros ++ drop size book) (length fewer) refl
+    struck-start : take (length (encode header cs (without rs i))) (struck book size day i) ≡ encode header cs (without rs i)
+    unfolding struck
+    struck-start =
+        let fewer = encode header cs (without rs i) in
+        let zeros : List ℕ = replicate (size - length fewer) 0 in
+        let written : struck book size day i ≡ struckBook book i ++ replicate (size - length (struckBook book i)) 0 ++ drop size book =
+        rw (position-encoded (Given day) ok i true (lt-ltb i (length rs) l)) in
+        let laid : struck book size day i ≡ fewer ++ (zeros ++ drop size book) = written ∙ rw (struck-book i) (append-assoc fewer zeros (drop size book)) in
+        ap (take (length fewer)) laid ∙ take-at fewer (zeros ++ drop size book) (length fewer) refl
 
 -- ---- a refused call: the bytes and the used length stay
 
-pub refused-append : (s : List ℕ) (used : ℕ) (r : List ℕ) (g : Ground) (k : ℕ) → appendVerdict s used r ≡ Refused g k
-    → (appended s used r ≡ s) × (usedAppended s used r ≡ used)
+pub refused-append : (s : List ℕ) (used day : ℕ) (r : List ℕ) (g : Ground) (k : ℕ) → appendVerdict s used day r ≡ Refused g k
+    → (appended s used day r ≡ s) × (usedAppended s used day r ≡ used)
 unfolding appended appendAnswer
-refused-append s used r g k e = (rw e, rw e)
+refused-append s used day r g k e = (rw e, rw e)
 
-pub refused-strike : (s : List ℕ) (used p : ℕ) (g : Ground) (k : ℕ) → positionVerdict s used p ≡ Refused g k
-    → (struck s used p ≡ s) × (usedAfter (strikeAnswer s used p) used ≡ used)
+pub refused-strike : (s : List ℕ) (used day p : ℕ) (g : Ground) (k : ℕ) → positionVerdict s used (Given day) p ≡ Refused g k
+    → (struck s used day p ≡ s) × (usedStruck s used day p ≡ used)
 unfolding struck strikeAnswer
-refused-strike s used p g k e = (rw e, rw e)
+refused-strike s used day p g k e = (rw e, rw e)
 
 -- ---- the same by lists: a record more, and one fewer
 
@@ -149,88 +158,109 @@ module _ (s : List ℕ) (used : ℕ) (bytes : AreBytes s) where
     abbrev more : List (List ℕ)
     more = rs ++ r ∷ []
 
-    module _ (ok : appendVerdict s used r ≡ Accepted) where
+    -- a book that takes the record, with it
+    module _ (w : Admitted s used r) where
       more-fine : Encodable header cs more
-      more-fine = let w = admitted s used r ok in encodable-more s used bytes (w .accepted) r long (w .roomy)
+      more-fine = encodable-more s used bytes (w .accepted) r long (w .roomy)
 
       more-good : Acceptable cs more
       more-good = record { curve = held .curve; trade = λ i l k. go i k (decLt i (length rs)) (omega (arith, length-one-more rs r)) }
         where
           held : Acceptable cs rs
-          held = sound-acceptable s used bytes (sound s used (admitted s used r ok .accepted))
+          held = sound-acceptable s used bytes (sound s used (w .accepted))
 
           go : (i k : ℕ) → Dec (i < length rs) → i < length rs + 1 → bytesVerdict (curvesIn cs) (getD more i []) k ≡ Accepted
           go i k (yes l) h = rw (List·getD-append rs (r ∷ []) [] i l) (held .trade i l k)
-          go i k (no l) h =
-              rw (getD-at rs r [] [] i (omega arith))
-              (any-block (curvesOf s) r (blockOf s (tradeCount s)) k (admitted s used r ok .judged))
+          go i k (no l) h = rw (getD-at rs r [] [] i (omega arith)) (any-block (curvesOf s) r (blockOf s (tradeCount s)) k (w .judged))
+
+      pub with-record : (rest : List ℕ) → BookAppended s (appendedBook s r ++ rest) r
+      unfolding appendedBook
+      with-record rest =
+          record {
+            header = header-encoded header cs more more-fine rest;
+            curves = curves-encoded header cs more more-fine rest;
+            trades = records-encoded header cs more more-fine rest;
+          }
+
+      pub with-record-accepted : (rest : List ℕ) → verdict (appendedBook s r ++ rest) (length (appendedBook s r)) ≡ Accepted
+      unfolding appendedBook
+      with-record-accepted rest = encoded-accepted header cs more more-fine rest more-good
+
+    module _ (day : ℕ) (ok : appendVerdict s used day r ≡ Accepted) where
+      abbrev given : Admitted s used r
+      given = admitted s used r day ok
+
+      abbrev behind : List ℕ
+      behind = drop (length (encode header cs more)) s
 
       -- what the bytes are, and how many of them are used
-      appended-is : appended s used r ≡ encode header cs more ++ drop (length (encode header cs more)) s
+      appended-is : appended s used day r ≡ encode header cs more ++ behind
       unfolding appended appendedBook
       appended-is = rw ok
 
-      pub append-used : usedAppended s used r ≡ length (encode header cs more)
+      pub append-used : usedAppended s used day r ≡ length (encode header cs more)
       unfolding appendAnswer appendedBook
       append-used = rw ok
 
-      found-more : (i : ℕ) → found (appended s used r) (usedAppended s used r) i ≡ foundIn more i
-      found-more i = rw (appended-is, append-used) (found-encoded header cs more (drop (length (encode header cs more)) s) more-fine more-good i)
+      found-more : (i : ℕ) → found (appended s used day r) (usedAppended s used day r) i ≡ foundIn more i
+      found-more i = rw (appended-is, append-used) (found-encoded header cs more behind (more-fine given) (more-good given) i)
 
       -- after an append the last position gives the record
-      pub append-read-last : found (appended s used r) (usedAppended s used r) (tradeCount s) ≡ record { verdict = Accepted; bytes = r }
+      pub append-read-last : found (appended s used day r) (usedAppended s used day r) (tradeCount s) ≡ record { verdict = Accepted; bytes = r }
       append-read-last =
-          ap (found (appended s used r) (usedAppended s used r)) (sym (length-records s)) ∙ found-more (length rs) ∙ found-last rs r
+          ap (found (appended s used day r) (usedAppended s used day r)) (sym (length-records s)) ∙ found-more (length rs) ∙ found-last rs r
 
       -- and every earlier one what it gave before
-      pub append-read-earlier : (i : ℕ) → i < tradeCount s → found (appended s used r) (usedAppended s used r) i ≡ found s used i
+      pub append-read-earlier : (i : ℕ) → i < tradeCount s → found (appended s used day r) (usedAppended s used day r) i ≡ found s used i
       append-read-earlier i l =
           found-more i
           ∙ found-earlier rs r i (rw (length-records s) l)
-          ∙ sym (found-accepted (admitted s used r ok .accepted) i)
+          ∙ sym (found-accepted (given .accepted) i)
 
-      pub book-appended : BookAppended s (appended s used r) r
-      book-appended =
-          let rest = drop (length (encode header cs more)) s in
-          record {
-            header = ap headerOf appended-is ∙ header-encoded header cs more more-fine rest;
-            curves = ap curveBlocks appended-is ∙ curves-encoded header cs more more-fine rest;
-            trades = ap records appended-is ∙ records-encoded header cs more more-fine rest;
-          }
+      pub book-appended : BookAppended s (appended s used day r) r
+      unfolding appendedBook
+      book-appended = rw appended-is (with-record given behind)
 
-      pub appended-accepted : verdict (appended s used r) (usedAppended s used r) ≡ Accepted
-      appended-accepted = rw (appended-is, append-used) (encoded-accepted header cs more more-fine (drop (length (encode header cs more)) s) more-good)
+      -- accepted on every day on which the book was
+      pub appended-accepted : (today : Today) → bookVerdict s used today ≡ Accepted → bookVerdict (appended s used day r) (usedAppended s used day r) today ≡ Accepted
+      unfolding appendedBook
+      appended-accepted today h =
+          same-header s (appended s used day r) used (usedAppended s used day r) today h (book-appended .header)
+          (rw (appended-is, append-used) (with-record-accepted given behind))
 
       -- struck again, the book is as it was
       taken-back : without more (length rs) ≡ rs
       taken-back = rw (take-at rs (r ∷ []) (length rs) refl, drop-append-add rs (r ∷ []) 1) (append-nil rs)
 
       old-size : length (encode header cs rs) ≡ used
-      old-size = length-accepted s used bytes (admitted s used r ok .accepted)
+      old-size = length-accepted s used bytes (given .accepted)
 
       last-in : length rs < length more
       last-in = omega (arith, length-one-more rs r)
 
-      pub append-strike-answer : strikeAnswer (appended s used r) (usedAppended s used r) (tradeCount s) ≡ edited.Used used
+      with-day : bookVerdict (encode header cs more ++ behind) (length (encode header cs more)) (Given day) ≡ Accepted
+      with-day = rw (appended-is, append-used) at (appended-accepted (Given day) (append-book s used r day ok))
+
+      pub append-strike-answer : strikeAnswer (appended s used day r) (usedAppended s used day r) day (tradeCount s) ≡ edited.Used used
       append-strike-answer =
           rw (appended-is, append-used, ← length-records s)
-          (strike-answer header cs more (drop (length (encode header cs more)) s) more-fine more-good (length rs) last-in
+          (strike-answer header cs more behind (more-fine given) (more-good given) day with-day (length rs) last-in
           ∙ ap (λ (l : List (List ℕ)). edited.Used (length (encode header cs l))) taken-back
           ∙ ap edited.Used old-size)
 
-      pub append-strike : take used (struck (appended s used r) (usedAppended s used r) (tradeCount s)) ≡ take used s
+      pub append-strike : take used (struck (appended s used day r) (usedAppended s used day r) day (tradeCount s)) ≡ take used s
       append-strike =
-          let back = struck-start header cs more (drop (length (encode header cs more)) s) more-fine more-good (length rs) last-in in
+          let back = struck-start header cs more behind (more-fine given) (more-good given) day with-day (length rs) last-in in
           rw (appended-is, append-used, ← length-records s)
-          ((rw (taken-back, old-size) at back) ∙ sym (accepted-encoded s used bytes (admitted s used r ok .accepted)))
+          ((rw (taken-back, old-size) at back) ∙ sym (accepted-encoded s used bytes (given .accepted)))
 
     -- an append to an accepted book leaves an accepted book, refused or not
-    pub append-accepted : verdict s used ≡ Accepted → verdict (appended s used r) (usedAppended s used r) ≡ Accepted
-    append-accepted ok = go (appendVerdict s used r) refl
+    pub append-accepted : (day : ℕ) (today : Today) → bookVerdict s used today ≡ Accepted → bookVerdict (appended s used day r) (usedAppended s used day r) today ≡ Accepted
+    append-accepted day today ok = go (appendVerdict s used day r) refl
       where
-        go : (v : Verdict) → appendVerdict s used r ≡ v → verdict (appended s used r) (usedAppended s used r) ≡ Accepted
-        go Accepted e = appended-accepted e
-        go (Refused g k) e = rw (refused-append s used r g k e .0, refused-append s used r g k e .1) ok
+        go : (v : Verdict) → appendVerdict s used day r ≡ v → bookVerdict (appended s used day r) (usedAppended s used day r) today ≡ Accepted
+        go Accepted e = appended-accepted day e today ok
+        go (Refused g k) e = rw (refused-append s used day r g k e .0, refused-append s used day r g k e .1) ok
 
   -- ---- strike
 
@@ -238,50 +268,64 @@ module _ (s : List ℕ) (used : ℕ) (bytes : AreBytes s) where
     abbrev fewer : List (List ℕ)
     fewer = without rs p
 
-    module _ (ok : positionVerdict s used p ≡ Accepted) where
+    module _ (day : ℕ) (ok : positionVerdict s used (Given day) p ≡ Accepted) where
+      abbrev stands : HasTrade s used p
+      stands = has-trade s used (Given day) p ok
+
       in-list : p < length rs
-      in-list = rw (length-records s) (has-trade s used p ok .in-book)
+      in-list = rw (length-records s) (stands .in-book)
 
       fewer-fine : Encodable header cs fewer
-      fewer-fine = let q = has-trade s used p ok in narrower s used bytes (q .accepted) p (q .in-book)
+      fewer-fine = narrower s used bytes (stands .accepted) p (stands .in-book)
 
       fewer-good : Acceptable cs fewer
       fewer-good = record { curve = held .curve; trade = λ i l k. go i k (decLt i p) (rw (length-without rs p in-list) at l) }
         where
           held : Acceptable cs rs
-          held = sound-acceptable s used bytes (sound s used (has-trade s used p ok .accepted))
+          held = sound-acceptable s used bytes (sound s used (stands .accepted))
 
           go : (i k : ℕ) → Dec (i < p) → i < length rs - 1 → bytesVerdict (curvesIn cs) (getD fewer i []) k ≡ Accepted
           go i k (yes l) h = rw (without-before rs p in-list i l) (held .trade i (omega arith) k)
           go i k (no l) h = rw (without-behind rs p in-list i (omega arith)) (held .trade (i + 1) (omega arith) k)
 
-      struck-is : struck s used p ≡ encode header cs fewer ++ (replicate (used - length (encode header cs fewer)) 0 ++ drop used s)
+      abbrev left : List ℕ
+      left = replicate (used - length (encode header cs fewer)) 0 ++ drop used s
+
+      struck-is : struck s used day p ≡ encode header cs fewer ++ left
       unfolding struck struckBook
       struck-is = rw ok (append-assoc (encode header cs fewer) (replicate (used - length (encode header cs fewer)) 0) (drop used s))
 
-      pub strike-used : usedAfter (strikeAnswer s used p) used ≡ length (encode header cs fewer)
+      pub strike-used : usedStruck s used day p ≡ length (encode header cs fewer)
       unfolding strikeAnswer struckBook
       strike-used = rw ok
 
-      found-fewer : (i : ℕ) → found (struck s used p) (usedAfter (strikeAnswer s used p) used) i ≡ foundIn fewer i
-      found-fewer i =
-          rw (struck-is, strike-used) (found-encoded header cs fewer (replicate (used - length (encode header cs fewer)) 0 ++ drop used s) fewer-fine fewer-good i)
+      found-fewer : (i : ℕ) → found (struck s used day p) (usedStruck s used day p) i ≡ foundIn fewer i
+      found-fewer i = rw (struck-is, strike-used) (found-encoded header cs fewer left fewer-fine fewer-good i)
 
       -- after a strike positions before it give what they gave
-      pub strike-read-before : (i : ℕ) → i < p → found (struck s used p) (usedAfter (strikeAnswer s used p) used) i ≡ found s used i
-      strike-read-before i l = found-fewer i ∙ found-before rs p in-list i l ∙ sym (found-accepted (has-trade s used p ok .accepted) i)
+      pub strike-read-before : (i : ℕ) → i < p → found (struck s used day p) (usedStruck s used day p) i ≡ found s used i
+      strike-read-before i l = found-fewer i ∙ found-before rs p in-list i l ∙ sym (found-accepted (stands .accepted) i)
 
       -- and from there on the next one's record, or its refusal
-      pub strike-read-behind : (i : ℕ) → p ≤ i → found (struck s used p) (usedAfter (strikeAnswer s used p) used) i ≡ found s used (i + 1)
-      strike-read-behind i l = found-fewer i ∙ found-behind rs p in-list i l ∙ sym (found-accepted (has-trade s used p ok .accepted) (i + 1))
+      pub strike-read-behind : (i : ℕ) → p ≤ i → found (struck s used day p) (usedStruck s used day p) i ≡ found s used (i + 1)
+      strike-read-behind i l = found-fewer i ∙ found-behind rs p in-list i l ∙ sym (found-accepted (stands .accepted) (i + 1))
 
-      struck-accepted : verdict (struck s used p) (usedAfter (strikeAnswer s used p) used) ≡ Accepted
-      struck-accepted =
-          rw (struck-is, strike-used) (encoded-accepted header cs fewer fewer-fine (replicate (used - length (encode header cs fewer)) 0 ++ drop used s) fewer-good)
+      pub book-struck : BookStruck s (struck s used day p) p
+      book-struck =
+          record {
+            header = ap headerOf struck-is ∙ header-encoded header cs fewer fewer-fine left;
+            curves = ap curveBlocks struck-is ∙ curves-encoded header cs fewer fewer-fine left;
+            trades = ap records struck-is ∙ records-encoded header cs fewer fewer-fine left;
+          }
 
-    pub strike-accepted : verdict s used ≡ Accepted → verdict (struck s used p) (usedAfter (strikeAnswer s used p) used) ≡ Accepted
-    strike-accepted ok = go (positionVerdict s used p) refl
+      struck-accepted : (today : Today) → bookVerdict s used today ≡ Accepted → bookVerdict (struck s used day p) (usedStruck s used day p) today ≡ Accepted
+      struck-accepted today h =
+          same-header s (struck s used day p) used (usedStruck s used day p) today h (book-struck .header)
+          (rw (struck-is, strike-used) (encoded-accepted header cs fewer fewer-fine left fewer-good))
+
+    pub strike-accepted : (day : ℕ) (today : Today) → bookVerdict s used today ≡ Accepted → bookVerdict (struck s used day p) (usedStruck s used day p) today ≡ Accepted
+    strike-accepted day today ok = go (positionVerdict s used (Given day) p) refl
       where
-        go : (v : Verdict) → positionVerdict s used p ≡ v → verdict (struck s used p) (usedAfter (strikeAnswer s used p) used) ≡ Accepted
-        go Accepted e = struck-accepted e
-        go (Refused g k) e = rw (refused-strike s used p g k e .0, refused-strike s used p g k e .1) ok
+        go : (v : Verdict) → positionVerdict s used (Given day) p ≡ v → bookVerdict (struck s used day p) (usedStruck s used day p) today ≡ Accepted
+        go Accepted e = struck-accepted day e today ok
+        go (Refused g k) e = rw (refused-strike s used day p g k e .0, refused-strike s used day p g k e .1) ok

@@ -1,13 +1,13 @@
 -- What a read, an append and a strike answer, and every lent byte afterwards (document 01, "Editing and smaller entries").
-use mathlib.Core.Path.{_≡_}
 use Prim.Native.Nat.{ℕ, _+_, _-_}
 use mathlib.Core.List.{List, [], _∷_, _++_}
 use lib.ListN.{length, take, drop, replicate}
 use Rattle.ground.specs.declared.Verdict.{Verdict}
 use Rattle.ground.specs.declared.Verdict.the-variants as verdict
 use Rattle.ground.specs.Verdicts.{bytesAfter}
-use Rattle.book.specs.Parts.{headerOf, curveBlocks, recordAt, records}
+use Rattle.book.specs.Parts.{headerOf, curveBlocks, recordAt, records, WithRecords}
 use Rattle.book.specs.Encode.{encode}
+use Rattle.acceptance.specs.declared.Today.the-variants.{Given, NotGiven}
 use Rattle.edit.specs.declared.Edited.{Edited}
 use Rattle.edit.specs.declared.Edited.the-variants.{Used, Refused}
 use Rattle.edit.specs.declared.Found.{Found}
@@ -37,7 +37,7 @@ recordFound (verdict.Refused g k) r = replicate 56 0
 -- "Read gives the record at a position from 0."
 unfoldable pub found : List ℕ → ℕ → ℕ → Found
 found s used position =
-    record { verdict = positionVerdict s used position; bytes = recordFound (positionVerdict s used position) (recordAt s position) }
+    record { verdict = positionVerdict s used NotGiven position; bytes = recordFound (positionVerdict s used NotGiven position) (recordAt s position) }
 
 -- ---- append
 
@@ -45,22 +45,20 @@ found s used position =
 unfoldable pub appendedBook : List ℕ → List ℕ → List ℕ
 appendedBook s r = bookOf s (records s ++ r ∷ [])
 
-unfoldable pub appendAnswer : List ℕ → ℕ → List ℕ → Edited
-appendAnswer s used r = answerOf (appendVerdict s used r) (length (appendedBook s r))
+unfoldable pub appendAnswer : List ℕ → ℕ → ℕ → List ℕ → Edited
+appendAnswer s used day r = answerOf (appendVerdict s used day r) (length (appendedBook s r))
 
 -- the used length after an append, refused or not
-abbrev pub usedAppended : List ℕ → ℕ → List ℕ → ℕ
-usedAppended s used r = usedAfter (appendAnswer s used r) used
+abbrev pub usedAppended : List ℕ → ℕ → ℕ → List ℕ → ℕ
+usedAppended s used day r = usedAfter (appendAnswer s used day r) used
 
 -- "bytes behind the book, save a new block's, stay"
-unfoldable pub appended : List ℕ → ℕ → List ℕ → List ℕ
-appended s used r = bytesAfter (appendVerdict s used r) s (appendedBook s r ++ drop (length (appendedBook s r)) s)
+unfoldable pub appended : List ℕ → ℕ → ℕ → List ℕ → List ℕ
+appended s used day r = bytesAfter (appendVerdict s used day r) s (appendedBook s r ++ drop (length (appendedBook s r)) s)
 
 -- the book after it: as it was, and the record behind the others
-pub record BookAppended (s t r : List ℕ) : Type 0 where
-  pub header : headerOf t ≡ headerOf s
-  pub curves : curveBlocks t ≡ curveBlocks s
-  pub trades : records t ≡ records s ++ r ∷ []
+abbrev pub BookAppended : List ℕ → List ℕ → List ℕ → Type 0
+BookAppended s t r = WithRecords s t (records s ++ r ∷ [])
 
 -- ---- strike
 
@@ -71,11 +69,19 @@ without rs position = take position rs ++ drop (position + 1) rs
 unfoldable pub struckBook : List ℕ → ℕ → List ℕ
 struckBook s position = bookOf s (without (records s) position)
 
-unfoldable pub strikeAnswer : List ℕ → ℕ → ℕ → Edited
-strikeAnswer s used position = answerOf (positionVerdict s used position) (length (struckBook s position))
+unfoldable pub strikeAnswer : List ℕ → ℕ → ℕ → ℕ → Edited
+strikeAnswer s used day position = answerOf (positionVerdict s used (Given day) position) (length (struckBook s position))
+
+-- the used length after a strike, refused or not
+abbrev pub usedStruck : List ℕ → ℕ → ℕ → ℕ → ℕ
+usedStruck s used day position = usedAfter (strikeAnswer s used day position) used
+
+-- the book after it: as it was, but for the record
+abbrev pub BookStruck : List ℕ → List ℕ → ℕ → Type 0
+BookStruck s t position = WithRecords s t (without (records s) position)
 
 -- "a block left empty becomes zeros and the used length falls by 512"; bytes behind the book stay
-unfoldable pub struck : List ℕ → ℕ → ℕ → List ℕ
-struck s used position =
-    bytesAfter (positionVerdict s used position) s
+unfoldable pub struck : List ℕ → ℕ → ℕ → ℕ → List ℕ
+struck s used day position =
+    bytesAfter (positionVerdict s used (Given day) position) s
     (struckBook s position ++ replicate (used - length (struckBook s position)) 0 ++ drop used s)

@@ -2,6 +2,7 @@
 // done. A refusal writes nothing.
 pub mod refusals;
 
+use acceptance::Today;
 use book::parts::record_at;
 use book::parts::trade_count;
 use ground::Ground;
@@ -12,10 +13,12 @@ use trade_edit::steps::grow;
 use trade_edit::steps::shrink;
 ghost use mathlib.Core.Path.{_≡_};
 ghost use mathlib.Core.List.{_++_};
-ghost use Prim.Native.Nat.{_-_};
+ghost use Prim.Native.Nat.{_-_, _<_};
 ghost use lib.ListN.{length, drop, replicate};
 ghost use Rattle.ground.specs.declared.Verdict.the-variants.{Accepted};
-ghost use Rattle.edit.specs.Refusals.{positionVerdict, appendVerdict};
+ghost use Rattle.book.specs.Parts.{tradeCount};
+ghost use Rattle.book.specs.Verdict.{verdict};
+ghost use Rattle.edit.specs.Refusals.{newRecordVerdict};
 ghost use Rattle.edit.specs.Edits.{found, appendedBook, appendAnswer, appended, struckBook, strikeAnswer, struck};
 
 // The answer of an append or a strike: the new used length, or the ground and the block.
@@ -34,7 +37,7 @@ pub struct Found {
 pub fn read(book: &[u8], used: usize, position: usize) -> Found
     ensures { λ r. ⌜ r ≡ found (now (book .entry)) used position ⌝ }
 {
-    let v = refusals::position_verdict(book, used, position);
+    let v = refusals::position_verdict(book, used, Today::NotGiven, position);
     match v {
         Verdict::Refused(g, k) => Found {
             verdict: Verdict::Refused(g, k),
@@ -52,7 +55,7 @@ pub fn read(book: &[u8], used: usize, position: usize) -> Found
 
 // Adds a record behind the last of a book that takes it: in the last block, or in a new one if that is full or there is none.
 pub fn add(book: &mut [u8], used: usize, r: [u8; 56]) -> usize
-    requires { ⌜ appendVerdict (now book) used r ≡ Accepted ⌝ }
+    requires { ⌜ (verdict (now book) used ≡ Accepted) × (newRecordVerdict (now book) used r ≡ Accepted) ⌝ }
     ensures { λ n. ⌜ n ≡ length (appendedBook (now (book .entry)) r) ⌝ }
     ensures { λ _. ⌜ now (book .exit) ≡ appendedBook (now (book .entry)) r ++ drop (length (appendedBook (now (book .entry)) r)) (now (book .entry)) ⌝ }
 {
@@ -65,12 +68,12 @@ pub fn add(book: &mut [u8], used: usize, r: [u8; 56]) -> usize
     used
 }
 
-// Appends a record to the book of a used length.
-pub fn append(book: &mut [u8], used: usize, r: [u8; 56]) -> Edited
-    ensures { λ a. ⌜ a ≡ appendAnswer (now (book .entry)) used r ⌝ }
-    ensures { λ _. ⌜ now (book .exit) ≡ appended (now (book .entry)) used r ⌝ }
+// Appends a record to the book of a used length, given the current day.
+pub fn append(book: &mut [u8], used: usize, day: u64, r: [u8; 56]) -> Edited
+    ensures { λ a. ⌜ a ≡ appendAnswer (now (book .entry)) used day r ⌝ }
+    ensures { λ _. ⌜ now (book .exit) ≡ appended (now (book .entry)) used day r ⌝ }
 {
-    let v = refusals::append_verdict(&book[..], used, r);
+    let v = refusals::append_verdict(&book[..], used, day, r);
     match v {
         Verdict::Refused(g, k) => Edited::Refused(g, k),
         Verdict::Accepted => Edited::Used(add(book, used, r)),
@@ -79,7 +82,7 @@ pub fn append(book: &mut [u8], used: usize, r: [u8; 56]) -> Edited
 
 // Takes the record at a position out of a book that has it.
 fn remove(book: &mut [u8], used: usize, position: usize) -> usize
-    requires { ⌜ positionVerdict (now book) used position ≡ Accepted ⌝ }
+    requires { ⌜ (verdict (now book) used ≡ Accepted) × (position < tradeCount (now book)) ⌝ }
     ensures { λ n. ⌜ n ≡ length (struckBook (now (book .entry)) position) ⌝ }
     ensures { λ _. ⌜ now (book .exit) ≡ struckBook (now (book .entry)) position ++ replicate (used - length (struckBook (now (book .entry)) position)) 0 ++ drop used (now (book .entry)) ⌝ }
 {
@@ -92,12 +95,12 @@ fn remove(book: &mut [u8], used: usize, position: usize) -> usize
     used
 }
 
-// Strikes the record at a position from the book of a used length.
-pub fn strike(book: &mut [u8], used: usize, position: usize) -> Edited
-    ensures { λ a. ⌜ a ≡ strikeAnswer (now (book .entry)) used position ⌝ }
-    ensures { λ _. ⌜ now (book .exit) ≡ struck (now (book .entry)) used position ⌝ }
+// Strikes the record at a position from the book of a used length, given the current day.
+pub fn strike(book: &mut [u8], used: usize, day: u64, position: usize) -> Edited
+    ensures { λ a. ⌜ a ≡ strikeAnswer (now (book .entry)) used day position ⌝ }
+    ensures { λ _. ⌜ now (book .exit) ≡ struck (now (book .entry)) used day position ⌝ }
 {
-    let v = refusals::position_verdict(&book[..], used, position);
+    let v = refusals::position_verdict(&book[..], used, Today::Given(day), position);
     match v {
         Verdict::Refused(g, k) => Edited::Refused(g, k),
         Verdict::Accepted => Edited::Used(remove(book, used, position)),

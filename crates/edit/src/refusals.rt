@@ -1,4 +1,5 @@
 // What refuses a read, an append or a strike.
+use acceptance::Today;
 use book::parts::curve_count;
 use book::parts::curves_of;
 use book::parts::trade_count;
@@ -28,11 +29,11 @@ fn breaks_book_space(trades: usize, used: usize, lent: usize) -> bool
     (trades % 9 == 0) & ((used / 512 == 128) | (lent < used + 512))
 }
 
-// A read or a strike: the book's own grounds, then 14.
-pub fn position_verdict(book: &[u8], used: usize, position: usize) -> Verdict
-    ensures { λ r. ⌜ r ≡ positionVerdict (now (book .entry)) used position ⌝ }
+// A strike or a read: the whole-book check, then 14.
+pub fn position_verdict(book: &[u8], used: usize, today: Today, position: usize) -> Verdict
+    ensures { λ r. ⌜ r ≡ positionVerdict (now (book .entry)) used today position ⌝ }
 {
-    let v = book::check(book, used);
+    let v = acceptance::check(book, used, today);
     if !v.is_accepted() {
         return v;
     }
@@ -55,11 +56,11 @@ fn new_record_verdict(book: &[u8], used: usize, r: [u8; 56]) -> Verdict
     )
 }
 
-// An append: the book's own grounds, then the new record's.
-pub fn append_verdict(book: &[u8], used: usize, r: [u8; 56]) -> Verdict
-    ensures { λ v. ⌜ v ≡ appendVerdict (now (book .entry)) used r ⌝ }
+// An append: the whole-book check, then the new record's grounds.
+pub fn append_verdict(book: &[u8], used: usize, day: u64, r: [u8; 56]) -> Verdict
+    ensures { λ v. ⌜ v ≡ appendVerdict (now (book .entry)) used day r ⌝ }
 {
-    let v = book::check(book, used);
+    let v = acceptance::check(book, used, Today::Given(day));
     if !v.is_accepted() {
         return v;
     }

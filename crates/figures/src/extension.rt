@@ -6,9 +6,13 @@ use layout::check::seal;
 use layout::copy_in;
 use layout::put_le;
 use layout::u32_at;
+ghost use mathlib.Core.Path.{_≡_};
+ghost use Rattle.figures.specs.Extension.{knownHeader, knownCurve, couponBond, rateFound};
 
 // One curve, and no trades.
-fn header() -> [u8; 512] {
+fn header() -> [u8; 512]
+    ensures { λ r. ⌜ r ≡ knownHeader ⌝ }
+{
     let mut b = [0u8; 512];
     b[0] = 1;
     put_le(&mut b, 8, 2, 1);
@@ -17,7 +21,9 @@ fn header() -> [u8; 512] {
 }
 
 // Nodes on the days 170 and 323, in lira, not stressed.
-fn known_curve() -> [u8; 512] {
+fn known_curve() -> [u8; 512]
+    ensures { λ r. ⌜ r ≡ knownCurve ⌝ }
+{
     let mut b = [0u8; 512];
     b[0] = 2;
     put_le(&mut b, 2, 2, 1);
@@ -33,7 +39,9 @@ fn known_curve() -> [u8; 512] {
 }
 
 // First payment day, period, payments; a coupon of 5%; the nominal in kurus.
-fn coupon_bond() -> [u8; 20] {
+fn coupon_bond() -> [u8; 20]
+    ensures { λ r. ⌜ r ≡ couponBond ⌝ }
+{
     let mut b = [0u8; 20];
     put_le(&mut b, 0, 2, 170);
     put_le(&mut b, 2, 2, 180);
@@ -44,7 +52,9 @@ fn coupon_bond() -> [u8; 20] {
 }
 
 // The rate that the engine finds for day 350, in millionths; 0 where it refuses.
-pub fn found_rate() -> u64 {
+pub fn found_rate() -> u64
+    ensures { λ r. ⌜ r ≡ rateFound ⌝ }
+{
     let mut book = [0u8; 1024];
     copy_in(&mut book, 0, &header());
     copy_in(&mut book, 512, &known_curve());
@@ -56,7 +66,7 @@ pub fn found_rate() -> u64 {
         second: 0,
         third: 0,
     };
-    let v = bootstrap::bootstrap(&mut book, 1024, quote);
+    let v = bootstrap::bootstrap(&mut book, 1024, 0, quote);
     if !v.is_accepted() {
         return 0;
     }

@@ -1,7 +1,7 @@
 -- The number of each ground (document 01, "Grounds of refusal"; from 17 on, document 02).
 use Prim.Native.Nat.{ℕ}
 use Rattle.ground.specs.declared.Ground.{Ground}
-use Rattle.ground.specs.declared.Ground.the-variants.{Length, Check, Place, Header, Curve, Node, TradeBlock, Form, Days, Amounts, Currency, FlowLimit, ReportSpace, Position, BookSpace, ValueRange, CurveEnd, RateRange}
+use Rattle.ground.specs.declared.Ground.the-variants.{Length, Check, Place, Header, Curve, Node, TradeBlock, Form, Days, Amounts, Currency, FlowLimit, ReportSpace, Position, BookSpace, ValueRange, CurveEnd, RateRange, ValuationDay}
 
 abbrev pub numberOf : Ground → ℕ
 numberOf Length = 1
@@ -22,3 +22,4 @@ numberOf BookSpace = 15
 numberOf ValueRange = 16
 numberOf CurveEnd = 17
 numberOf RateRange = 18
+numberOf ValuationDay = 19

@@ -27,6 +27,7 @@ pub enum Ground {
     ValueRange,
     CurveEnd,
     RateRange,
+    ValuationDay,
 }
 
 // The answer of a check: nothing found, or the first ground that applies and the block that it was found in.
@@ -84,5 +85,6 @@ pub fn number(g: Ground) -> u64
         Ground::ValueRange => 16,
         Ground::CurveEnd => 17,
         Ground::RateRange => 18,
+        Ground::ValuationDay => 19,
     }
 }

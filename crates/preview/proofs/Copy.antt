@@ -7,23 +7,24 @@ use lib.ListN.{length, take, drop}
 use lib.Seq.{length-take-le}
 use Rattle.ground.specs.declared.Verdict.{Verdict}
 use Rattle.ground.specs.declared.Verdict.the-variants.{Accepted}
+use Rattle.ground.specs.Verdicts.{bytesAfter}
 use Rattle.layout.specs.Bytes.{put, AreBytes}
-use Rattle.layout.proofs.Bytes.{length-put, part-put, bytes-put}
+use Rattle.layout.proofs.Bytes.{length-put, part-put}
 use Rattle.book.specs.Verdict.{verdict}
 use Rattle.book.proofs.Accepted.{Sound, sound}
-use Rattle.book.proofs.HeaderBlock.{bytes-part}
 use Rattle.edit.specs.Refusals.{appendVerdict}
-use Rattle.edit.specs.Edits.{appendedBook, appendAnswer, appended, usedAppended}
-use Rattle.edit.proofs.Given.{admitted}
-use Rattle.edit.proofs.Theorems.{appended-accepted}
-use Rattle.edit.proofs.Copies.{copy-takes}
-use Rattle.report.specs.Entry.{marginVerdict, marginBytes}
+use Rattle.edit.specs.Edits.{appendedBook, appended}
+use Rattle.edit.proofs.Given.{Admitted}
+use Rattle.edit.proofs.Theorems.{with-record, with-record-accepted, book-appended}
+use Rattle.edit.proofs.Copies.{copy-admits, copy-appended-book}
+use Rattle.report.specs.Entry.{marginIn, reportVerdict, reported}
+use Rattle.report.proofs.Answers.{same-margin}
 use Rattle.preview.specs.Preview.{previewVerdict, previewBytes}
-use Rattle.preview.proofs.Theorems.{as-after-append, copy-previewed}
+use Rattle.preview.proofs.Theorems.{with-record-reported}
 
-module _ (room : List ℕ) (wide : length room ≡ 65536) (s : List ℕ) (used : ℕ) (r : List ℕ) (ok : appendVerdict s used r ≡ Accepted) where
+module _ (room : List ℕ) (wide : length room ≡ 65536) (s : List ℕ) (used : ℕ) (r : List ℕ) (w : Admitted s used r) where
   held : Sound s used
-  held = sound s used (admitted s used r ok .accepted)
+  held = sound s used (w .accepted)
 
   length-book : length (take used s) ≡ used
   length-book = length-take-le used s (held .lent)
@@ -40,30 +41,38 @@ module _ (room : List ℕ) (wide : length room ≡ 65536) (s : List ℕ) (used :
         let e = part-put room 0 (take used s) (copy-fits used refl) in
         ap (take used) is-copy ∙ (rw length-book at e)
 
-    module _ (room-bytes : AreBytes room) (bytes : AreBytes s) where
-      copy-bytes : AreBytes t
-      copy-bytes = rw is-copy (bytes-put room 0 (take used s) room-bytes (bytes-part s 0 used bytes))
+    module _ (bytes : AreBytes s) where
+      pub copy-admits-record : Admitted t used r
+      copy-admits-record = copy-admits s t used r bytes w same-start wide-copy
 
-      pub copy-takes-record : appendVerdict t used r ≡ Accepted
-      copy-takes-record = copy-takes s t used r bytes ok same-start wide-copy
+      same-appended : appendedBook t r ≡ appendedBook s r
+      same-appended = copy-appended-book s t used r bytes w same-start wide-copy
 
       -- u is the copy with the record, and n its used length
       module _ (long : length r ≡ 56) (u : List ℕ) (n : ℕ) (size : n ≡ length (appendedBook t r)) (added : u ≡ appendedBook t r ++ drop (length (appendedBook t r)) t) where
-        size-is : n ≡ usedAppended t used r
-        unfolding appendAnswer
-        size-is = size ∙ rw copy-takes-record
+        abbrev rest : List ℕ
+        rest = drop (length (appendedBook t r)) t
 
-        added-is : u ≡ appended t used r
-        unfolding appended
-        added-is = added ∙ rw copy-takes-record
+        added-is : u ≡ appendedBook s r ++ rest
+        added-is = added ∙ ap (λ (b : List ℕ). b ++ rest) same-appended
 
         pub copy-accepted-with-record : verdict u n ≡ Accepted
-        copy-accepted-with-record = rw (size-is, added-is) (appended-accepted t used copy-bytes r long copy-takes-record)
+        copy-accepted-with-record = rw (added-is, size ∙ ap length same-appended) (with-record-accepted s used bytes r long w rest)
 
         -- its report is the preview
-        pub copy-shown : (out : List ℕ) {v : Verdict} {after : List ℕ} → v ≡ marginVerdict u n (length out) → after ≡ marginBytes u n out
-            → (v ≡ previewVerdict s used r (length out)) × (after ≡ previewBytes s used r out)
-        copy-shown out answer written =
-            let then = as-after-append t used r out copy-takes-record in
-            let same = copy-previewed s used r out bytes long ok t copy-bytes same-start wide-copy in
-            (answer ∙ rw (size-is, added-is) (sym (then .0)) ∙ same .0, written ∙ rw (size-is, added-is) (sym (then .1)) ∙ same .1)
+        module _ (day : ℕ) (ok : appendVerdict s used day r ≡ Accepted) where
+          same-margins : marginIn u ≡ marginIn (appended s used day r)
+          same-margins =
+              let a = book-appended s used bytes r long day ok in
+              let b = with-record s used bytes r long w rest in
+              same-margin (appended s used day r) u (rw added-is (record {
+                header = b .header ∙ sym (a .header);
+                curves = b .curves ∙ sym (a .curves);
+                trades = b .trades ∙ sym (a .trades);
+              }))
+
+          pub copy-shown : (out : List ℕ) {v : Verdict} {after : List ℕ} → v ≡ reportVerdict (length out) → after ≡ bytesAfter (reportVerdict (length out)) out (reported u out)
+              → (v ≡ previewVerdict s used day r (length out)) × (after ≡ previewBytes s used day r out)
+          copy-shown out answer written =
+              let then = with-record-reported s used day r out bytes long ok in
+              (answer ∙ sym (then .0), (rw same-margins at written) ∙ sym (then .1))

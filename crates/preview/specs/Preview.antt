@@ -8,9 +8,9 @@ use Rattle.edit.specs.Edits.{appended, usedAppended}
 use Rattle.report.specs.Entry.{marginVerdict, marginBytes}
 
 -- "refused when either would be, by append's number first"
-unfoldable pub previewVerdict : List ℕ → ℕ → List ℕ → ℕ → Verdict
-previewVerdict s used r space = orElse (appendVerdict s used r) (marginVerdict (appended s used r) (usedAppended s used r) space)
+unfoldable pub previewVerdict : List ℕ → ℕ → ℕ → List ℕ → ℕ → Verdict
+previewVerdict s used day r space = orElse (appendVerdict s used day r) (marginVerdict (appended s used day r) (usedAppended s used day r) day space)
 
 -- "It equals the report of a copy, in as many lent bytes, after append"
-unfoldable pub previewBytes : List ℕ → ℕ → List ℕ → List ℕ → List ℕ
-previewBytes s used r out = bytesAfter (appendVerdict s used r) out (marginBytes (appended s used r) (usedAppended s used r) out)
+unfoldable pub previewBytes : List ℕ → ℕ → ℕ → List ℕ → List ℕ → List ℕ
+previewBytes s used day r out = bytesAfter (appendVerdict s used day r) out (marginBytes (appended s used day r) (usedAppended s used day r) day out)

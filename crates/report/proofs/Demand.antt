@@ -15,14 +15,12 @@ use Rattle.laws.proofs.Signed.{fits, abs-add}
 use Rattle.ground.specs.declared.Ground.the-variants.{ReportSpace}
 use Rattle.ground.specs.declared.Verdict.{Verdict}
 use Rattle.ground.specs.declared.Verdict.the-variants.{Accepted}
-use Rattle.ground.specs.Verdicts.{unless}
 use Rattle.ground.proofs.Verdicts.{unless-accepted, orElse-accepted}
 use Rattle.decimal.specs.Product.{unit}
 use Rattle.curve.specs.Limits.{Limits}
 use Rattle.curve.proofs.Rates.{each-limits}
 use Rattle.curve.proofs.Scenarios.{scenarios-most}
 use Rattle.book.specs.Parts.{curveCount}
-use Rattle.book.specs.Verdict.{verdict}
 use Rattle.book.proofs.Accepted.{Sound, sound, curve-sound}
 use Rattle.margin.specs.declared.CurveMargin.{CurveMargin}
 use Rattle.margin.specs.declared.CurrencyMargin.{CurrencyMargin}
@@ -38,7 +36,10 @@ use Rattle.report_block.proofs.Report.{Places}
 use Rattle.report_block.proofs.Shown.{curve-shown, shown-initial}
 use Rattle.exposure.specs.Exposures.{exposureAt, exposures}
 use Rattle.exposure.proofs.Fitting.{exposure-fits}
-use Rattle.report.specs.Entry.{marginIn, breaksReportSpace, marginVerdict, marginBytes}
+use Rattle.acceptance.specs.declared.Today.the-variants.{Given}
+use Rattle.acceptance.specs.Verdict.{bookVerdict}
+use Rattle.acceptance.proofs.Laws.{book-accepted}
+use Rattle.report.specs.Entry.{marginIn, breaksReportSpace, reportVerdict, marginVerdict, marginBytes}
 use Rattle.report.specs.Bounded.{Bounded}
 use Rattle.report.proofs.Placed.{length-exposures, length-figures, figures-at, exposures-fit}
 use Rattle.report.proofs.Answers.{space}
@@ -144,15 +145,17 @@ module _ (s : List ℕ) (used : ℕ) (b : Sound s used) where
         initial = λ currency l m. rw (initial-is rest currency l m) (initial-bounded currency (exposures s) exposures-limits);
       }
 
--- For every accepted book, and every report space of 512 bytes, what margin writes there is bounded by the exact values
-pub demand : (s : List ℕ) (used : ℕ) (out : List ℕ) → verdict s used ≡ Accepted → 512 ≤ length out → Bounded s (marginBytes s used out)
+-- For every book that is accepted "with the day that margin was given", and every report space of 512 bytes, what margin writes there is bounded by
+-- the exact values
+pub demand : (s : List ℕ) (used day : ℕ) (out : List ℕ) → bookVerdict s used (Given day) ≡ Accepted → 512 ≤ length out → Bounded s (marginBytes s used day out)
 unfolding marginBytes marginVerdict breaksReportSpace
-demand s used out e h = rw (e, le-ltb (length out) 512 h) (report-bounded s used (sound s used e) (drop 512 out))
+demand s used day out e h =
+    rw (e, le-ltb (length out) 512 h) (report-bounded s used (sound s used (book-accepted s used (Given day) e .blocks)) (drop 512 out))
 
 -- so are the bytes that an accepted call leaves
-pub demand-met : (s : List ℕ) (used : ℕ) (out : List ℕ) {r : Verdict} {after : List ℕ} → r ≡ marginVerdict s used (length out) → after ≡ marginBytes s used out → r ≡ Accepted → Bounded s after
+pub demand-met : (s : List ℕ) (used day : ℕ) (out : List ℕ) {r : Verdict} {after : List ℕ} → r ≡ marginVerdict s used day (length out) → after ≡ marginBytes s used day out
+    → r ≡ Accepted → Bounded s after
 unfolding marginVerdict
-demand-met s used out e f h =
-    let broken = breaksReportSpace (length out) in
-    let both = orElse-accepted (verdict s used) (unless broken ReportSpace 0 Accepted) (sym e ∙ h) in
-    rw f (demand s used out (both .0) (space s used out (unless-accepted broken ReportSpace 0 Accepted (both .1) .0)))
+demand-met s used day out e f h =
+    let both = orElse-accepted (bookVerdict s used (Given day)) (reportVerdict (length out)) (sym e ∙ h) in
+    rw f (demand s used day out (both .0) (space s out (unless-accepted (breaksReportSpace (length out)) ReportSpace 0 Accepted (both .1) .0)))

@@ -22,6 +22,9 @@ use Rattle.book.proofs.Accepted.{Sound, sound, place-held}
 use Rattle.book.proofs.First.{first-of}
 use Rattle.book.proofs.Verdicts.{first-block, curve-place, trade-place, verdict-blocks}
 use Rattle.exposure.specs.Exposures.{tradeAt, flowsUpTo, flowsIn, exposureTo, exposureAt, exposures}
+use Rattle.acceptance.specs.declared.Today.the-variants.{Given}
+use Rattle.acceptance.specs.Verdict.{breaksValuationDay, bookVerdict}
+use Rattle.acceptance.proofs.Laws.{accepted-book}
 use Rattle.report.specs.Entry.{marginIn, breaksReportSpace, marginVerdict, marginBytes}
 use Rattle.report.specs.Earlier.{EarlierBook, earlierFlowsIn, earlierReport}
 
@@ -46,13 +49,19 @@ module _ (s : List ℕ) (used : ℕ) (h : EarlierBook s used) where
       go (no e) true f = let m = leb-true k (curveCount s) f in curve-place s blocks k (omega arith) m ∙ h .curve k (omega arith) m
       go (no e) false f = let m = leb-false k (curveCount s) f in trade-place s blocks k (omega arith) m ∙ trades-accepted-still k m l
 
-  pub earlier-book-accepted : verdict s used ≡ Accepted
-  earlier-book-accepted = verdict-blocks s used (h .long) ∙ first-of (blockVerdict s blocks) 0 blocks (λ k l m. block-accepted k (omega arith))
+  earlier-blocks-accepted : verdict s used ≡ Accepted
+  earlier-blocks-accepted = verdict-blocks s used (h .long) ∙ first-of (blockVerdict s blocks) 0 blocks (λ k l m. block-accepted k (omega arith))
+
+  -- on day 0, the day of a book that has none
+  pub earlier-book-accepted : bookVerdict s used (Given 0) ≡ Accepted
+  unfolding breaksValuationDay
+  earlier-book-accepted =
+      accepted-book s used (Given 0) (record { blocks = earlier-blocks-accepted; day = rw (h .day) })
 
   -- ---- its report
 
   book : Sound s used
-  book = sound s used earlier-book-accepted
+  book = sound s used earlier-blocks-accepted
 
   record-of-then : (i : ℕ) → i < tradeCount s → EarlierRecord (curvesOf s) (fieldsOf (recordAt s i))
   unfolding recordAt
@@ -69,6 +78,6 @@ module _ (s : List ℕ) (used : ℕ) (h : EarlierBook s used) where
   unfolding exposures exposureAt
   exposures-of-then = ap (λ (fs : List Flow). table (exposureTo fs s) 1 (curveCount s)) flows-of-then
 
-  pub earlier-book-reported : (out : List ℕ) → 512 ≤ length out → marginBytes s used out ≡ earlierReport s ++ drop 512 out
+  pub earlier-book-reported : (out : List ℕ) → 512 ≤ length out → marginBytes s used 0 out ≡ earlierReport s ++ drop 512 out
   unfolding marginBytes marginVerdict breaksReportSpace marginIn earlierReport
   earlier-book-reported out space = rw (earlier-book-accepted, le-ltb (length out) 512 space, exposures-of-then)

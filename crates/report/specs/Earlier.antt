@@ -1,5 +1,5 @@
--- A book that document 01 alone accepts, before wish 3 of document 02, and its report of that time. Of the rules of a book only those of a
--- record have moved.
+-- A book that document 01 alone accepts, before wishes 3 and 4 of document 02, and its report of that time. Of the rules of a book only those
+-- of a record have moved, and rule 4, which wanted the bytes of the valuation day to be 0.
 use mathlib.Core.Path.{_≡_}
 use mathlib.Core.Bool.{false}
 use mathlib.Core.List.{List, flatMap}
@@ -25,6 +25,7 @@ pub record EarlierBook (s : List ℕ) (used : ℕ) : Type 0 where
   pub long : breaksLength used (length s) ≡ false
   -- the header by 2 to 4, each curve by 2, 3, 5 and 6
   pub header : headerVerdict (blockAt s 0) (used / 512) ≡ Accepted
+  pub day : headerOf s .day ≡ 0
   pub curve : (k : ℕ) → 1 ≤ k → k ≤ curveCount s → curveVerdict (blockAt s k) k ≡ Accepted
   -- each block of trades by 2, 3 and 7, each of its records by 8 to 12
   pub trades : (k : ℕ) → curveCount s < k → k < used / 512 → firstBroken k (tradesRules (blockAt s k) k (eqb (k + 1) (used / 512))) ≡ Accepted

@@ -9,7 +9,8 @@ use Rattle.ground.specs.declared.Verdict.{Verdict}
 use Rattle.ground.specs.declared.Verdict.the-variants.{Accepted}
 use Rattle.ground.specs.Verdicts.{orElse, unless, bytesAfter}
 use Rattle.book.specs.Parts.{headerOf}
-use Rattle.book.specs.Verdict.{verdict}
+use Rattle.acceptance.specs.declared.Today.the-variants.{Given}
+use Rattle.acceptance.specs.Verdict.{bookVerdict}
 use Rattle.margin.specs.declared.Margin.{Margin}
 use Rattle.margin.specs.Margins.{marginOf}
 use Rattle.report_block.specs.Report.{reportBytes}
@@ -23,10 +24,17 @@ marginIn s = marginOf (headerOf s .account) (exposures s)
 unfoldable pub breaksReportSpace : ℕ → Bool
 breaksReportSpace space = ltb space 512
 
--- the book's own grounds, then 13
-unfoldable pub marginVerdict : List ℕ → ℕ → ℕ → Verdict
-marginVerdict s used space = orElse (verdict s used) (unless (breaksReportSpace space) ReportSpace 0 Accepted)
+-- what is asked of a book that is accepted
+abbrev pub reportVerdict : ℕ → Verdict
+reportVerdict space = unless (breaksReportSpace space) ReportSpace 0 Accepted
+
+-- given the day: the whole-book check, then 13
+unfoldable pub marginVerdict : List ℕ → ℕ → ℕ → ℕ → Verdict
+marginVerdict s used day space = orElse (bookVerdict s used (Given day)) (reportVerdict space)
 
 -- the report in the first 512 bytes, "bytes past it kept"
-unfoldable pub marginBytes : List ℕ → ℕ → List ℕ → List ℕ
-marginBytes s used out = bytesAfter (marginVerdict s used (length out)) out (reportBytes (marginIn s) ++ drop 512 out)
+abbrev pub reported : List ℕ → List ℕ → List ℕ
+reported s out = reportBytes (marginIn s) ++ drop 512 out
+
+unfoldable pub marginBytes : List ℕ → ℕ → ℕ → List ℕ → List ℕ
+marginBytes s used day out = bytesAfter (marginVerdict s used day (length out)) out (reported s out)

@@ -1,4 +1,5 @@
 // The margin entry: from a book to its report.
+use acceptance::Today;
 use book::parts;
 use curve::Components;
 use ground::Ground;
@@ -10,6 +11,7 @@ ghost use mathlib.Core.Path.{_≡_};
 ghost use Prim.Native.Nat.{_≤_};
 ghost use lib.ListN.{length};
 ghost use Rattle.ground.specs.declared.Verdict.the-variants.{Accepted};
+ghost use Rattle.ground.specs.Verdicts.{bytesAfter};
 ghost use Rattle.curve.specs.Limits.{ProperComponents};
 ghost use Rattle.curve_block.specs.Parts.{componentsOf};
 ghost use Rattle.book.specs.Parts.{blockAt, curveCount};
@@ -17,7 +19,7 @@ ghost use Rattle.book.specs.Verdict.{verdict};
 ghost use Rattle.margin.specs.Margins.{curveMargin};
 ghost use Rattle.exposure.specs.Exposures.{exposureAt};
 ghost use Rattle.report.specs.Bounded.{Bounded};
-ghost use Rattle.report.specs.Entry.{marginIn, breaksReportSpace, marginVerdict, marginBytes};
+ghost use Rattle.report.specs.Entry.{marginIn, breaksReportSpace, reportVerdict, marginVerdict, reported, marginBytes};
 
 // The components of a curve of an accepted book: each curve has scenarios of its own.
 fn components_at(book: &[u8], used: usize, curve: usize) -> Components
@@ -74,8 +76,8 @@ fn breaks_report_space(space: usize) -> bool
 // Writes the report of an accepted book, where there is space for it.
 pub fn fill_report(book: &[u8], used: usize, out: &mut [u8]) -> Verdict
     requires { ⌜ verdict (now book) used ≡ Accepted ⌝ }
-    ensures { λ r. ⌜ r ≡ marginVerdict (now (book .entry)) used (length (now (out .entry))) ⌝ }
-    ensures { λ _. ⌜ now (out .exit) ≡ marginBytes (now (book .entry)) used (now (out .entry)) ⌝ }
+    ensures { λ r. ⌜ r ≡ reportVerdict (length (now (out .entry))) ⌝ }
+    ensures { λ _. ⌜ now (out .exit) ≡ bytesAfter (reportVerdict (length (now (out .entry)))) (now (out .entry)) (reported (now (book .entry)) (now (out .entry))) ⌝ }
 {
     if breaks_report_space(out.len()) {
         return Verdict::Refused(Ground::ReportSpace, 0);
@@ -84,13 +86,13 @@ pub fn fill_report(book: &[u8], used: usize, out: &mut [u8]) -> Verdict
     Verdict::Accepted
 }
 
-// Writes the report of a book's margin, or answers the first ground that applies and writes nothing. Takes every input.
-pub fn margin(book: &[u8], used: usize, out: &mut [u8]) -> Verdict
-    ensures { λ r. ⌜ r ≡ marginVerdict (now (book .entry)) used (length (now (out .entry))) ⌝ }
-    ensures { λ _. ⌜ now (out .exit) ≡ marginBytes (now (book .entry)) used (now (out .entry)) ⌝ }
+// Writes the report of a book's margin, or answers the first ground that applies and writes nothing, given the current day. Takes every input.
+pub fn margin(book: &[u8], used: usize, day: u64, out: &mut [u8]) -> Verdict
+    ensures { λ r. ⌜ r ≡ marginVerdict (now (book .entry)) used day (length (now (out .entry))) ⌝ }
+    ensures { λ _. ⌜ now (out .exit) ≡ marginBytes (now (book .entry)) used day (now (out .entry)) ⌝ }
     ensures { λ r. ⌜ (r ≡ Accepted → Bounded (now (book .entry)) (now (out .exit))) ⌝ }
 {
-    let v = book::check(book, used);
+    let v = acceptance::check(book, used, Today::Given(day));
     match v {
         Verdict::Refused(g, k) => Verdict::Refused(g, k),
         Verdict::Accepted => fill_report(book, used, out),

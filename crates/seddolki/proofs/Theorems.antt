@@ -5,7 +5,7 @@ use native.Mathlib.Omega.{arith}
 use lib.Dec.{lit<}
 use Rattle.ground.specs.Number.{numberOf}
 use Rattle.ground.specs.declared.Ground.{Ground}
-use Rattle.ground.specs.declared.Ground.the-variants.{Length, Check, Place, Header, Curve, Node, TradeBlock, Form, Days, Amounts, Currency, FlowLimit, ReportSpace, Position, BookSpace, ValueRange, CurveEnd, RateRange}
+use Rattle.ground.specs.declared.Ground.the-variants.{Length, Check, Place, Header, Curve, Node, TradeBlock, Form, Days, Amounts, Currency, FlowLimit, ReportSpace, Position, BookSpace, ValueRange, CurveEnd, RateRange, ValuationDay}
 use Rattle.ground.specs.declared.Verdict.{Verdict}
 use Rattle.ground.specs.declared.Verdict.the-variants as verdict
 use Rattle.discount.specs.declared.entry.Valued.{Valued}
@@ -33,6 +33,7 @@ number-above-zero BookSpace = lit< tt
 number-above-zero ValueRange = lit< tt
 number-above-zero CurveEnd = lit< tt
 number-above-zero RateRange = lit< tt
+number-above-zero ValuationDay = lit< tt
 
 pub done-accepted : (v : Verdict) → verdictAnswer v .number ≡ 0 → v ≡ verdict.Accepted
 done-accepted verdict.Accepted done = refl

@@ -1,6 +1,8 @@
-// The engine's calls from C. Each takes whatever it is lent: it promises its answer, and every lent byte afterwards.
+// The engine's calls from C. Each takes whatever it is lent: it promises its answer, and every lent byte afterwards. The day is the current one,
+// in days since 1 January 2000.
 mod answers;
 
+use acceptance::Today;
 use answers::edited_answer;
 use answers::valued_answer;
 use answers::valued_tolerance;
@@ -8,7 +10,8 @@ use answers::verdict_answer;
 use bootstrap::Quote;
 ghost use mathlib.Core.Path.{_≡_};
 ghost use lib.ListN.{length};
-ghost use Rattle.book.specs.Verdict.{verdict};
+ghost use Rattle.acceptance.specs.Verdict.{bookVerdict};
+ghost use Rattle.acceptance.specs.declared.Today.the-variants.{NotGiven};
 ghost use Rattle.bootstrap.specs.Bootstrap.{bootstrapped};
 ghost use Rattle.bootstrap.specs.Bought.{quoteOf};
 ghost use Rattle.bootstrap.specs.Refusals.{bootstrapVerdict};
@@ -26,22 +29,22 @@ pub struct Answer {
     pub value: u64,
 }
 
-// The check of a whole book, grounds 1 to 12.
+// The check of a whole book; it is given no day.
 #[no_mangle]
 pub extern "C" fn seddolki_check(book: &[u8], used: usize) -> Answer
-    ensures { λ r. ⌜ r ≡ verdictAnswer (verdict (now (book .entry)) used) ⌝ }
+    ensures { λ r. ⌜ r ≡ verdictAnswer (bookVerdict (now (book .entry)) used NotGiven) ⌝ }
 {
-    verdict_answer(book::check(book, used))
+    verdict_answer(acceptance::check(book, used, Today::NotGiven))
 }
 
 // Writes the report of a book's margin into the first 512 bytes of the report space; a refused call writes nothing.
 #[no_mangle]
-pub extern "C" fn seddolki_margin(book: &[u8], used: usize, report: &mut [u8]) -> Answer
-    ensures { λ r. ⌜ r ≡ verdictAnswer (marginVerdict (now (book .entry)) used (length (now (report .entry)))) ⌝ }
-    ensures { λ _. ⌜ now (report .exit) ≡ marginBytes (now (book .entry)) used (now (report .entry)) ⌝ }
+pub extern "C" fn seddolki_margin(book: &[u8], used: usize, day: u32, report: &mut [u8]) -> Answer
+    ensures { λ r. ⌜ r ≡ verdictAnswer (marginVerdict (now (book .entry)) used day (length (now (report .entry)))) ⌝ }
+    ensures { λ _. ⌜ now (report .exit) ≡ marginBytes (now (book .entry)) used day (now (report .entry)) ⌝ }
     ensures { λ r. ⌜ (r .number ≡ 0 → Bounded (now (book .entry)) (now (report .exit))) ⌝ }
 {
-    verdict_answer(report::margin(book, used, report))
+    verdict_answer(report::margin(book, used, day as u64, report))
 }
 
 // Writes the report of a book's margin as it would be after the append of a record; the book is not written.
@@ -49,34 +52,40 @@ pub extern "C" fn seddolki_margin(book: &[u8], used: usize, report: &mut [u8]) -
 pub extern "C" fn seddolki_preview(
     book: &[u8],
     used: usize,
+    day: u32,
     record: &[u8; 56],
     report: &mut [u8],
 ) -> Answer
-    ensures { λ r. ⌜ r ≡ verdictAnswer (previewVerdict (now (book .entry)) used (now («record» .entry)) (length (now (report .entry)))) ⌝ }
-    ensures { λ _. ⌜ now (report .exit) ≡ previewBytes (now (book .entry)) used (now («record» .entry)) (now (report .entry)) ⌝ }
-    ensures { λ r. ⌜ (r .number ≡ 0 → Bounded (appended (now (book .entry)) used (now («record» .entry))) (now (report .exit))) ⌝ }
+    ensures { λ r. ⌜ r ≡ verdictAnswer (previewVerdict (now (book .entry)) used day (now («record» .entry)) (length (now (report .entry)))) ⌝ }
+    ensures { λ _. ⌜ now (report .exit) ≡ previewBytes (now (book .entry)) used day (now («record» .entry)) (now (report .entry)) ⌝ }
+    ensures { λ r. ⌜ (r .number ≡ 0 → Bounded (appended (now (book .entry)) used day (now («record» .entry))) (now (report .exit))) ⌝ }
 {
     let bytes = *record;
-    verdict_answer(preview::preview(book, used, bytes, report))
+    verdict_answer(preview::preview(book, used, day as u64, bytes, report))
 }
 
 // Appends a record; the value is the new used length.
 #[no_mangle]
-pub extern "C" fn seddolki_append(book: &mut [u8], used: usize, record: &[u8; 56]) -> Answer
-    ensures { λ r. ⌜ r ≡ editedAnswer (appendAnswer (now (book .entry)) used (now («record» .entry))) ⌝ }
-    ensures { λ _. ⌜ now (book .exit) ≡ appended (now (book .entry)) used (now («record» .entry)) ⌝ }
+pub extern "C" fn seddolki_append(
+    book: &mut [u8],
+    used: usize,
+    day: u32,
+    record: &[u8; 56],
+) -> Answer
+    ensures { λ r. ⌜ r ≡ editedAnswer (appendAnswer (now (book .entry)) used day (now («record» .entry))) ⌝ }
+    ensures { λ _. ⌜ now (book .exit) ≡ appended (now (book .entry)) used day (now («record» .entry)) ⌝ }
 {
     let bytes = *record;
-    edited_answer(edit::append(book, used, bytes))
+    edited_answer(edit::append(book, used, day as u64, bytes))
 }
 
 // Strikes the record at a position; the value is the new used length.
 #[no_mangle]
-pub extern "C" fn seddolki_strike(book: &mut [u8], used: usize, position: usize) -> Answer
-    ensures { λ r. ⌜ r ≡ editedAnswer (strikeAnswer (now (book .entry)) used position) ⌝ }
-    ensures { λ _. ⌜ now (book .exit) ≡ struck (now (book .entry)) used position ⌝ }
+pub extern "C" fn seddolki_strike(book: &mut [u8], used: usize, day: u32, position: usize) -> Answer
+    ensures { λ r. ⌜ r ≡ editedAnswer (strikeAnswer (now (book .entry)) used day position) ⌝ }
+    ensures { λ _. ⌜ now (book .exit) ≡ struck (now (book .entry)) used day position ⌝ }
 {
-    edited_answer(edit::strike(book, used, position))
+    edited_answer(edit::strike(book, used, day as u64, position))
 }
 
 // What a desk gives, its components as numbers of 64 bits.
@@ -98,6 +107,7 @@ fn quote_of(curve: usize, bond: [u8; 20], cash: u64, first: i32, second: i32, th
 pub extern "C" fn seddolki_bootstrap(
     book: &mut [u8],
     used: usize,
+    day: u32,
     curve: usize,
     bond: &[u8; 20],
     cash: u64,
@@ -105,12 +115,12 @@ pub extern "C" fn seddolki_bootstrap(
     second: i32,
     third: i32,
 ) -> Answer
-    ensures { λ r. ⌜ r ≡ verdictAnswer (bootstrapVerdict (now (book .entry)) used (quoteOf curve (now (bond .entry)) cash first second third)) ⌝ }
-    ensures { λ _. ⌜ now (book .exit) ≡ bootstrapped (now (book .entry)) used (quoteOf curve (now (bond .entry)) cash first second third) ⌝ }
+    ensures { λ r. ⌜ r ≡ verdictAnswer (bootstrapVerdict (now (book .entry)) used day (quoteOf curve (now (bond .entry)) cash first second third)) ⌝ }
+    ensures { λ _. ⌜ now (book .exit) ≡ bootstrapped (now (book .entry)) used day (quoteOf curve (now (bond .entry)) cash first second third) ⌝ }
 {
     let bytes = *bond;
     let quote = quote_of(curve, bytes, cash, first, second, third);
-    verdict_answer(bootstrap::bootstrap(book, used, quote))
+    verdict_answer(bootstrap::bootstrap(book, used, day as u64, quote))
 }
 
 // Reads the record at a position; a refused call writes zeros.

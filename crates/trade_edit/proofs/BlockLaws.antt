@@ -153,8 +153,9 @@ unfolding withTradeBlocks headerBlock
 recount header curves trades other =
     let before = bytesOf 4 (header .account) ++ bytesOf 2 curves in
     let place : 4 + length before ≡ 10 = omega (arith, length-append (bytesOf 4 (header .account)) (bytesOf 2 curves), length-bytes 4 (header .account), length-bytes 2 curves) in
-    let short : length (before ++ bytesOf 2 trades ++ []) ≤ 504 = rw append-nil (omega (arith, length-headerBytes header curves trades)) in
-    rw place at (simp append-nil at (named-written 1 0 0 before (bytesOf 2 trades) [] (bytesOf 2 other) (length-bytes 2 trades ∙ sym (length-bytes 2 other)) short))
+    let day = bytesOf 4 (header .day) in
+    let short : length (before ++ bytesOf 2 trades ++ day) ≤ 504 = omega (arith, length-headerBytes header curves trades) in
+    rw place at (named-written 1 0 0 before (bytesOf 2 trades) day (bytesOf 2 other) (length-bytes 2 trades ∙ sym (length-bytes 2 other)) short)
 
 -- ---- a gap closed
 

@@ -22,7 +22,7 @@ module _ (c : tie.After-d2) where
   began = let decided = c .before .before in decided .before .before .before
 
   abbrev judged : Verdict
-  judged = bootstrapVerdict (began .args .book .now) (began .args .used) (began .args .q)
+  judged = bootstrapVerdict (began .args .book .now) (began .args .used) (began .args .day) (began .args .q)
 
   abbrev new : Node
   new = newNode (curveAt (began .args .book .now) (began .args .q .curve)) (began .args .q)
@@ -35,8 +35,8 @@ module _ (c : tie.After-d2) where
 
   fits : began .args .q .curve * 512 + 512 ≤ length (began .args .book .now)
   fits =
-      let w = within (began .args .book .now) (began .args .used) (began .args .q) accepted in
-      let b = book-sound (began .args .book .now) (began .args .used) (began .args .q) accepted in
+      let w = within (began .args .book .now) (began .args .used) (began .args .day) (began .args .q) accepted in
+      let b = book-sound (began .args .book .now) (began .args .used) (began .args .day) (began .args .q) accepted in
       omega (arith, b .lent)
 
 mul-at : tie.Need-mul-at
@@ -52,7 +52,7 @@ add-node-requires : tie.Need-add-node-requires
 add-node-requires c κs =
     let d = c .before .before .before in
     let s = began d .args .book .now in
-    rw add-sub-cancel-left (length-part s (began d .args .q .curve * 512) 512 (fits d), node-room s (began d .args .used) (began d .args .q) (accepted d))
+    rw add-sub-cancel-left (length-part s (began d .args .q .curve * 512) 512 (fits d), node-room s (began d .args .used) (began d .args .day) (began d .args .q) (accepted d))
 
 returns : tie.Need-returns
 unfolding bootstrapped

@@ -9,19 +9,20 @@ use Rattle.book.specs.Parts.{tradeCount}
 use Rattle.book.proofs.Accepted.{sound}
 use Rattle.trade_edit.proofs.StepLaws.{fill-left}
 use Rattle.edit.specs.Edits.{appendedBook}
-use Rattle.edit.proofs.Given.{admitted, room}
+use Rattle.edit.proofs.Given.{record-admitted, room}
 use Rattle.edit.proofs.Lent.{length-filled, filled-lent, length-lengthened, lengthened-lent}
 use borrow.Author.Needs.{needs}
 use Rattle.edit.proofs.add.Statement.{statement}
 use Rattle.edit.proofs.add.Tie as tie
 
 trade-count-requires : tie.Need-trade-count-requires
-trade-count-requires c κs = let b = sound _ _ (admitted _ _ _ (c .before .before .pre) .accepted) in omega arith
+trade-count-requires c κs = let b = sound _ _ (c .before .before .pre .0) in omega arith
 
 grow-requires : tie.Need-grow-requires
 grow-requires c κs =
     let counted = c .before .before in
-    let w = admitted _ _ _ (counted .before .before .before .pre) in
+    let given = counted .before .before .before .pre in
+    let w = record-admitted _ _ _ (given .0) (given .1) in
     let b = sound _ _ (w .accepted) in
     let r = room _ _ _ (w .roomy) (ap (λ (n : ℕ). n % 9) (sym (counted .trade-count .ensures)) ∙ c .before .if1 .taken) in
     omega arith
@@ -31,7 +32,7 @@ add-result c =
     let after-grow-arg = c .before .before .before in
     let after-trade-count-arg = after-grow-arg .before .before .before in
     let start = after-trade-count-arg .before .before in
-    let b = sound _ _ (admitted _ _ _ (start .pre) .accepted) in omega arith
+    let b = sound _ _ (start .pre .0) in omega arith
 
 returns : tie.Need-returns
 returns c =
@@ -43,7 +44,7 @@ returns c =
     let used = start .args .used in
     let r = start .args .r in
     let long : length r ≡ 56 = search needs in
-    let w = admitted s used r (start .pre) in
+    let w = record-admitted s used r (start .pre .0) (start .pre .1) in
     let bytes : AreBytes s = λ k. omega (arith, counted .before .before .slice-known .given k) in
     let full = ap (λ (n : ℕ). n % 9) (sym (counted .trade-count .ensures)) ∙ tested .if1 .taken in
     let space = room (tradeCount s) used (length s) (w .roomy) full in
@@ -54,19 +55,19 @@ sub-put-record : tie.Need-sub-put-record
 sub-put-record c =
     let after-slice-known = c .before .before .before in
     let start = after-slice-known .before in
-    let b = sound _ _ (admitted _ _ _ (start .pre) .accepted) in omega arith
+    let b = sound _ _ (start .pre .0) in omega arith
 
 part-put-record-end : tie.Need-part-put-record-end
 part-put-record-end c =
     let after-slice-known = c .before .before .before in
     let start = after-slice-known .before in
-    let b = sound _ _ (admitted _ _ _ (start .pre) .accepted) in omega arith
+    let b = sound _ _ (start .pre .0) in omega arith
 
 put-record-requires : tie.Need-put-record-requires
 put-record-requires c κs =
     let after-trade-count-arg = c .before .before .before in
     let start = after-trade-count-arg .before .before in
-    let b = sound _ _ (admitted _ _ _ (start .pre) .accepted) in omega arith
+    let b = sound _ _ (start .pre .0) in omega arith
 
 returns-2 : tie.Need-returns-2
 returns-2 c =
@@ -78,7 +79,7 @@ returns-2 c =
     let used = start .args .used in
     let r = start .args .r in
     let long : length r ≡ 56 = search needs in
-    let w = admitted s used r (start .pre) in
+    let w = record-admitted s used r (start .pre .0) (start .pre .1) in
     let b = sound s used (w .accepted) in
     let bytes : AreBytes s = λ k. omega (arith, counted .before .before .slice-known .given k) in
     let count = counted .trade-count .ensures in

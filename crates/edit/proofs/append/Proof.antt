@@ -1,12 +1,15 @@
 -- `edit::append` meets its contract.
 use mathlib.Core.Path.{sym, _∙_}
 use Rattle.edit.specs.Edits.{appendAnswer, appended}
+use Rattle.edit.proofs.Given.{record-taken, admitted}
 use borrow.Author.Needs.{needs}
 use Rattle.edit.proofs.append.Statement.{statement}
 use Rattle.edit.proofs.append.Tie as tie
 
 add-requires : tie.Need-add-requires
-add-requires c κs = sym (c .before .before .before .append-verdict .ensures) ∙ c .before .enum-told .given .1
+add-requires c κs =
+    let w = admitted _ _ _ _ (sym (c .before .before .before .append-verdict .ensures) ∙ c .before .enum-told .given .1) in
+    (w .accepted, record-taken _ _ _ w)
 
 returns : tie.Need-returns
 unfolding appendAnswer appended

@@ -10,7 +10,7 @@ use Rattle.edit.proofs.read.Tie as tie
 
 record-at-requires : tie.Need-record-at-requires
 record-at-requires c κs =
-    let p = has-trade _ _ _ (sym (c .before .before .position-verdict .ensures) ∙ c .enum-told .given .1) in
+    let p = has-trade _ _ _ _ (sym (c .before .before .position-verdict .ensures) ∙ c .enum-told .given .1) in
     let b = sound _ _ (p .accepted) in
     let t = blocks-for _ _ b in
     omega arith

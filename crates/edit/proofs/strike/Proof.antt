@@ -1,12 +1,15 @@
 -- `edit::strike` meets its contract.
 use mathlib.Core.Path.{sym, _∙_}
 use Rattle.edit.specs.Edits.{strikeAnswer, struck}
+use Rattle.edit.proofs.Given.{has-trade}
 use borrow.Author.Needs.{needs}
 use Rattle.edit.proofs.strike.Statement.{statement}
 use Rattle.edit.proofs.strike.Tie as tie
 
 remove-requires : tie.Need-remove-requires
-remove-requires c κs = sym (c .before .before .before .position-verdict .ensures) ∙ c .before .enum-told .given .1
+remove-requires c κs =
+    let p = has-trade _ _ _ _ (sym (c .before .before .before .position-verdict .ensures) ∙ c .before .enum-told .given .1) in
+    (p .accepted, p .in-book)
 
 returns : tie.Need-returns
 unfolding strikeAnswer struck

@@ -18,8 +18,8 @@ returns c =
     let a = start .args in
     let quote : quoted .quote-of .result ≡ quoteOf (a .curve) (a .bond .now) (a .cash) (a .first) (a .second) (a .third) =
     quoted .quote-of .ensures ∙ rw (toZ-ofZ (start .fits .first), toZ-ofZ (start .fits .second), toZ-ofZ (start .fits .third)) in (
-      c .verdict-answer .ensures ∙ rw (done .bootstrap .ensures .0) (ap (λ (q : Quote). verdictAnswer (bootstrapVerdict (a .book .now) (a .used) q)) quote),
-      done .bootstrap .ensures .1 ∙ ap (bootstrapped (a .book .now) (a .used)) quote,
+      c .verdict-answer .ensures ∙ rw (done .bootstrap .ensures .0) (ap (λ (q : Quote). verdictAnswer (bootstrapVerdict (a .book .now) (a .used) (a .day) q)) quote),
+      done .bootstrap .ensures .1 ∙ ap (bootstrapped (a .book .now) (a .used) (a .day)) quote,
     )
 
 pub seddolki-bootstrap-spec : {M : Type 1} → statement M

@@ -1,12 +1,13 @@
 -- `bootstrap::decide::decided` meets its contract.
 use mathlib.Core.Path.{sym, _∙_}
 use borrow.Author.Needs.{needs}
+use Rattle.acceptance.proofs.Laws.{book-accepted}
 use Rattle.bootstrap.specs.Refusals.{bootstrapVerdict}
 use Rattle.bootstrap.proofs.decide.decided.Statement.{statement}
 use Rattle.bootstrap.proofs.decide.decided.Tie as tie
 
 quoted-requires : tie.Need-quoted-requires
-quoted-requires c κs = sym (c .before .before .check .ensures) ∙ c .enum-told .given .1
+quoted-requires c κs = book-accepted _ _ _ (sym (c .before .before .check .ensures) ∙ c .enum-told .given .1) .blocks
 
 returns : tie.Need-returns
 unfolding bootstrapVerdict

@@ -6,7 +6,7 @@ use Rattle.ground.specs.declared.Verdict.the-variants.{Accepted}
 use Rattle.record.proofs.Limits.{InLimits}
 use Rattle.book.specs.Parts.{curveCount, curvesOf}
 use Rattle.book.proofs.Accepted.{Sound, sound, curve-sound}
-use Rattle.bootstrap.specs.Refusals.{quoteVerdict}
+use Rattle.bootstrap.specs.Refusals.{quoteVerdict, inBookVerdict}
 use Rattle.bootstrap.proofs.Kept.{id-in-book, quote-kept}
 use Rattle.bootstrap.proofs.decide.quoted.Statement.{statement}
 use Rattle.bootstrap.proofs.decide.quoted.Tie as tie
@@ -42,11 +42,13 @@ extended-requires c κs =
     (rw (c .curve-of .ensures, c .before .block-at .ensures .0) curve, quote-kept _ (s .args .q) (accepted told))
 
 returns : tie.Need-returns
+unfolding inBookVerdict
 returns c =
     let v = c .before in
     rw (sym (judged (v .before .before)) ∙ v .v .given .1)
 
 returns-2 : tie.Need-returns-2
+unfolding inBookVerdict
 returns-2 c =
     let curve = c .before in
     let told = curve .before .before in

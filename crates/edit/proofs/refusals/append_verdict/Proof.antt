@@ -3,6 +3,7 @@ use mathlib.Core.Path.{sym, _∙_}
 use borrow.Author.Needs.{needs}
 use borrow.Author.Tests.{not-true, not-false}
 use Rattle.ground.proofs.Verdicts.{is-accepted, stops}
+use Rattle.acceptance.proofs.Laws.{book-accepted}
 use Rattle.edit.specs.Refusals.{appendVerdict}
 use Rattle.edit.proofs.refusals.append_verdict.Statement.{statement}
 use Rattle.edit.proofs.refusals.append_verdict.Tie as tie
@@ -15,7 +16,7 @@ returns c =
 
 new-record-verdict-requires : tie.Need-new-record-verdict-requires
 new-record-verdict-requires c κs =
-    sym (c .before .before .check .ensures) ∙ is-accepted _ (sym (c .before .is-accepted .ensures) ∙ not-false _ (c .if1 .left))
+    book-accepted _ _ _ (sym (c .before .before .check .ensures) ∙ is-accepted _ (sym (c .before .is-accepted .ensures) ∙ not-false _ (c .if1 .left))) .blocks
 
 returns-2 : tie.Need-returns-2
 unfolding appendVerdict

@@ -6,6 +6,7 @@ use borrow.Author.Tests.{not-true, not-false}
 use Rattle.ground.specs.declared.Ground.the-variants.{Position}
 use Rattle.ground.proofs.Verdicts.{is-accepted, stops, also}
 use Rattle.book.proofs.Accepted.{sound}
+use Rattle.acceptance.proofs.Laws.{book-accepted}
 use Rattle.edit.specs.Refusals.{positionVerdict}
 use Rattle.edit.proofs.refusals.position_verdict.Statement.{statement}
 use Rattle.edit.proofs.refusals.position_verdict.Tie as tie
@@ -19,7 +20,7 @@ returns c =
 breaks-position-requires : tie.Need-breaks-position-requires
 breaks-position-requires c κs =
     let accepted = is-accepted _ (sym (c .before .is-accepted .ensures) ∙ not-false _ (c .if1 .left)) in
-    let b = sound _ _ (sym (c .before .before .check .ensures) ∙ accepted) in
+    let b = sound _ _ (book-accepted _ _ _ (sym (c .before .before .check .ensures) ∙ accepted) .blocks) in
     omega arith
 
 returns-2 : tie.Need-returns-2

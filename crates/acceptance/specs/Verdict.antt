@@ -1,0 +1,26 @@
+-- The whole-book check: "a book is accepted if no ground tested on a book applies to it" (document 01, "The words of demand 3"). It is given a
+-- day or not; entries that are lent a book begin with it.
+use Prim.Native.Nat.{ℕ}
+use mathlib.Core.Bool.{Bool, false, not}
+use mathlib.Core.List.{List, [], _∷_}
+use lib.Dec.{eqb}
+use Rattle.ground.specs.declared.Ground.the-variants.{ValuationDay}
+use Rattle.ground.specs.declared.Verdict.{Verdict}
+use Rattle.ground.specs.Verdicts.{orElse, Rule, firstBroken}
+use Rattle.book.specs.Parts.{headerOf}
+use Rattle.book.specs.Verdict.{verdict}
+use Rattle.acceptance.specs.declared.Today.{Today}
+use Rattle.acceptance.specs.declared.Today.the-variants.{Given, NotGiven}
+
+-- 19. "when the days differ": the book's valuation day, and the current day where one is given
+unfoldable pub breaksValuationDay : ℕ → Today → Bool
+breaksValuationDay day (Given today) = not (eqb day today)
+breaksValuationDay day NotGiven = false
+
+-- what is asked of a book as a whole: "all numbers from 17 on answer block 0"
+abbrev pub bookRules : List ℕ → Today → List Rule
+bookRules s today = (breaksValuationDay (headerOf s .day) today, ValuationDay) ∷ []
+
+-- 19 is "tested after all rules on the book's blocks"
+unfoldable pub bookVerdict : List ℕ → ℕ → Today → Verdict
+bookVerdict s used today = orElse (verdict s used) (firstBroken 0 (bookRules s today))
