@@ -1,6 +1,7 @@
 //! Accepted books drawn at random.
 
 use crate::curve::draw_curves;
+use crate::day::draw_valuation_day;
 use crate::draw::Draw;
 use crate::record::draw_record;
 use seddolki_model::accept::Book;
@@ -10,7 +11,7 @@ use seddolki_model::scenario::scenarios;
 
 /// The bytes of a book.
 pub fn assemble(book: &Book) -> Vec<u8> {
-    block::assemble(book.account, &book.curves, &book.trades)
+    block::assemble(book.account, book.valuation_day, &book.curves, &book.trades)
 }
 
 /// An accepted book. Flows times scenarios, summed over the curves, stay
@@ -25,6 +26,7 @@ pub fn draw_book(draw: &mut Draw, work: usize) -> Book {
         .collect();
     let mut book = Book {
         account: draw.edge(0..=u32::MAX.into()) as u32,
+        valuation_day: draw_valuation_day(draw),
         curves,
         trades,
     };

@@ -19,6 +19,8 @@ pub enum BootstrapEnding {
     HighestRate,
     /// Refused for the book.
     Book(Ground),
+    /// Refused for the day.
+    Day,
     /// Refused for the quote.
     Quote(QuoteDamage),
 }
@@ -26,10 +28,10 @@ pub enum BootstrapEnding {
 impl BootstrapEnding {
     /// All that there are.
     pub fn all() -> impl Iterator<Item = Self> {
-        let done = [Self::LowestRate, Self::Rate, Self::HighestRate];
+        let alone = [Self::LowestRate, Self::Rate, Self::HighestRate, Self::Day];
         let book = Ground::ALL[..12].iter().copied().map(Self::Book);
         let quote = QuoteDamage::ALL.into_iter().map(Self::Quote);
-        done.into_iter().chain(book).chain(quote)
+        alone.into_iter().chain(book).chain(quote)
     }
 
     /// That of a case, by its outcome; none if the call is another.
@@ -40,6 +42,7 @@ impl BootstrapEnding {
         let ending = match accept(&case.lent, case.used) {
             Err(refusal) => Self::Book(refusal.ground),
             Ok(book) => match Ground::from_number(outcome.answer.number) {
+                Some(Ground::ValuationDay) => Self::Day,
                 Some(ground) => Self::Quote(damage_of(ground, quote, &book)),
                 None => at_rate(added_node(outcome, quote).rate.into()),
             },

@@ -3,6 +3,7 @@
 use crate::book::{assemble, draw_book};
 use crate::bootstrap::draw_bootstrap;
 use crate::damage::{book_grounds, damage_anywhere, damage_book, draw_bad_used};
+use crate::day::draw_day;
 use crate::draw::Draw;
 use crate::engine::Engine;
 use crate::near_ties::{draw_near_ties, NearTies};
@@ -10,11 +11,11 @@ use crate::preview::draw_preview;
 use crate::record::draw_record;
 use crate::record_damage::{damage_record, record_grounds};
 use seddolki_model::accept::Book;
-use seddolki_model::block::{seal, BLOCK};
+use seddolki_model::block::{seal, valuation_day, BLOCK};
 use seddolki_model::layout::Layout;
 use seddolki_model::limits::{MAX_AMOUNT, MAX_BLOCKS, MAX_DAY, MAX_RATE, PAYMENTS};
 use seddolki_model::record::RECORD;
-use seddolki_model::{Answer, Quote};
+use seddolki_model::{Answer, Date, Quote};
 
 /// A call with what it is given beside the book, lent bytes included.
 #[derive(Clone, Debug, PartialEq, Eq)]
@@ -61,13 +62,22 @@ impl Call {
             Call::Bootstrap { .. } => "bootstrap",
         }
     }
+
+    /// Whether it is given the current day.
+    pub fn takes_day(&self) -> bool {
+        !matches!(
+            self,
+            Call::Check | Call::Read { .. } | Call::PresentValue { .. }
+        )
+    }
 }
 
-/// A call and the book that it is lent.
+/// A call, the book that it is lent, and the current day.
 #[derive(Clone, Debug, PartialEq, Eq)]
 pub struct Case {
     pub lent: Vec<u8>,
     pub used: usize,
+    pub day: Date,
     pub call: Call,
 }
 
@@ -79,15 +89,21 @@ pub struct Outcome {
 }
 
 impl Case {
+    /// Whether the header names another day; not where the lent bytes end
+    /// before the header does.
+    pub fn is_of_another_day(&self) -> bool {
+        self.lent.len() >= BLOCK && valuation_day(&self.lent) != self.day
+    }
+
     pub fn run(&self, engine: &impl Engine) -> Outcome {
         let mut after = self.clone();
-        let (lent, used) = (&mut after.lent, after.used);
+        let (lent, used, day) = (&mut after.lent, after.used, after.day);
         let answer = match &mut after.call {
             Call::Check => engine.check(lent, used),
-            Call::Margin { report } => engine.margin(lent, used, report),
-            Call::Preview { record, report } => engine.preview(lent, used, record, report),
-            Call::Append { record } => engine.append(lent, used, record),
-            Call::Strike { position } => engine.strike(lent, used, *position),
+            Call::Margin { report } => engine.margin(lent, used, day, report),
+            Call::Preview { record, report } => engine.preview(lent, used, day, record, report),
+            Call::Append { record } => engine.append(lent, used, day, record),
+            Call::Strike { position } => engine.strike(lent, used, day, *position),
             Call::Read { position, record } => engine.read(lent, used, *position, record),
             Call::PresentValue {
                 amount,
@@ -95,7 +111,7 @@ impl Case {
                 day,
                 tolerance,
             } => engine.present_value(*amount, *rate, *day, tolerance),
-            Call::Bootstrap { quote } => engine.bootstrap(lent, used, quote),
+            Call::Bootstrap { quote } => engine.bootstrap(lent, used, day, quote),
         };
         Outcome { answer, after }
     }
@@ -129,7 +145,8 @@ pub(crate) fn draw_any_book(draw: &mut Draw, work: usize) -> Book {
     }
 }
 
-/// A call on this book, whole or spoiled, with so many lent bytes behind it.
+/// A call on this book, whole or spoiled, with so many lent bytes behind it,
+/// now and then on another day than the book's.
 pub(crate) fn draw_case_on(
     draw: &mut Draw,
     book: &Book,
@@ -145,8 +162,14 @@ pub(crate) fn draw_case_on(
         2 => draw.place(lent.len() + BLOCK),
         _ => length,
     };
+    let day = draw_day(draw, book.valuation_day);
     let call = draw_call(draw, book);
-    Case { lent, used, call }
+    Case {
+        lent,
+        used,
+        day,
+        call,
+    }
 }
 
 /// The bytes of the book, half of the time spoiled.
@@ -182,7 +205,7 @@ fn draw_noise(draw: &mut Draw) -> Vec<u8> {
     bytes
 }
 
-fn draw_call(draw: &mut Draw, book: &Book) -> Call {
+pub(crate) fn draw_call(draw: &mut Draw, book: &Book) -> Call {
     match draw.within(0..=7) {
         0 => Call::Check,
         1 => Call::Margin {

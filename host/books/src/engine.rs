@@ -1,19 +1,25 @@
 //! What runs a case: the calls of an engine, and the model as one of them.
 
 use seddolki_model::record::RECORD;
-use seddolki_model::{Answer, Quote};
+use seddolki_model::{Answer, Date, Quote};
 
 /// The eight calls, so that two engines can be given the same case.
 pub trait Engine {
     fn check(&self, book: &[u8], used: usize) -> Answer;
-    fn margin(&self, book: &[u8], used: usize, report: &mut [u8]) -> Answer;
-    fn preview(&self, book: &[u8], used: usize, record: &[u8; RECORD], report: &mut [u8])
-        -> Answer;
-    fn append(&self, book: &mut [u8], used: usize, record: &[u8; RECORD]) -> Answer;
-    fn strike(&self, book: &mut [u8], used: usize, position: usize) -> Answer;
+    fn margin(&self, book: &[u8], used: usize, day: Date, report: &mut [u8]) -> Answer;
+    fn preview(
+        &self,
+        book: &[u8],
+        used: usize,
+        day: Date,
+        record: &[u8; RECORD],
+        report: &mut [u8],
+    ) -> Answer;
+    fn append(&self, book: &mut [u8], used: usize, day: Date, record: &[u8; RECORD]) -> Answer;
+    fn strike(&self, book: &mut [u8], used: usize, day: Date, position: usize) -> Answer;
     fn read(&self, book: &[u8], used: usize, position: usize, record: &mut [u8; RECORD]) -> Answer;
     fn present_value(&self, amount: u64, rate: u64, day: u64, tolerance: &mut u64) -> Answer;
-    fn bootstrap(&self, book: &mut [u8], used: usize, quote: &Quote) -> Answer;
+    fn bootstrap(&self, book: &mut [u8], used: usize, day: Date, quote: &Quote) -> Answer;
 }
 
 /// The second implementation.
@@ -24,26 +30,27 @@ impl Engine for Model {
         seddolki_model::check(book, used)
     }
 
-    fn margin(&self, book: &[u8], used: usize, report: &mut [u8]) -> Answer {
-        seddolki_model::margin(book, used, report)
+    fn margin(&self, book: &[u8], used: usize, day: Date, report: &mut [u8]) -> Answer {
+        seddolki_model::margin(book, used, day, report)
     }
 
     fn preview(
         &self,
         book: &[u8],
         used: usize,
+        day: Date,
         record: &[u8; RECORD],
         report: &mut [u8],
     ) -> Answer {
-        seddolki_model::preview(book, used, record, report)
+        seddolki_model::preview(book, used, day, record, report)
     }
 
-    fn append(&self, book: &mut [u8], used: usize, record: &[u8; RECORD]) -> Answer {
-        seddolki_model::append(book, used, record)
+    fn append(&self, book: &mut [u8], used: usize, day: Date, record: &[u8; RECORD]) -> Answer {
+        seddolki_model::append(book, used, day, record)
     }
 
-    fn strike(&self, book: &mut [u8], used: usize, position: usize) -> Answer {
-        seddolki_model::strike(book, used, position)
+    fn strike(&self, book: &mut [u8], used: usize, day: Date, position: usize) -> Answer {
+        seddolki_model::strike(book, used, day, position)
     }
 
     fn read(&self, book: &[u8], used: usize, position: usize, record: &mut [u8; RECORD]) -> Answer {
@@ -54,7 +61,7 @@ impl Engine for Model {
         seddolki_model::present_value(amount, rate, day, tolerance)
     }
 
-    fn bootstrap(&self, book: &mut [u8], used: usize, quote: &Quote) -> Answer {
-        seddolki_model::bootstrap(book, used, quote)
+    fn bootstrap(&self, book: &mut [u8], used: usize, day: Date, quote: &Quote) -> Answer {
+        seddolki_model::bootstrap(book, used, day, quote)
     }
 }

@@ -4,6 +4,7 @@ use crate::book::assemble;
 use seddolki_model::accept::Book;
 use seddolki_model::block::{Curve, Node, CURVE};
 use seddolki_model::record::{Record, FIRST_SIDE, OUTRIGHT, SECOND_SIDE, SINGLE_PAYMENT};
+use seddolki_model::Date;
 
 /// The book of the buyer's example.
 pub fn buyer() -> Vec<u8> {
@@ -31,6 +32,7 @@ pub fn undiscounted_book() -> Book {
 fn example(side: u8) -> Book {
     Book {
         account: 7,
+        valuation_day: Date::FIRST,
         curves: vec![curve()],
         trades: vec![trade(side)],
     }

@@ -1,6 +1,6 @@
 //! Previews drawn at random, and what each of them is to equal.
 
-use crate::book::hold_to_work;
+use crate::book::{assemble, hold_to_work};
 use crate::call::{draw_any_book, draw_case_on, draw_record_bytes, draw_report_space};
 use crate::call::{Call, Case, Outcome};
 use crate::draw::Draw;
@@ -15,12 +15,8 @@ use seddolki_model::record::RECORD;
 /// block or into a new one or has no room, in lent bytes up to more than any
 /// book takes. `work` is as in `draw_book`, the new trade left out.
 pub fn draw_preview_case(draw: &mut Draw, work: usize) -> Case {
-    let mut book = draw_any_book(draw, work);
-    let count = draw_trade_count(draw, &book);
-    repeat_trades(draw, &mut book, count);
-    hold_to_work(&mut book, work);
-    let blocks = 1 + book.curves.len() + count.div_ceil(FULL_BLOCK);
-    let to_longest = (MAX_BLOCKS - blocks) * BLOCK;
+    let book = draw_filled_book(draw, work);
+    let to_longest = MAX_BLOCKS * BLOCK - assemble(&book).len();
     let behind = draw.pick(&[
         0,
         1,
@@ -37,6 +33,16 @@ pub fn draw_preview_case(draw: &mut Draw, work: usize) -> Case {
             draw_preview(draw, book)
         }
     })
+}
+
+/// An accepted book whose last block has room or is full, or which has as many
+/// trades as a book takes. `work` is as in `draw_book`.
+pub(crate) fn draw_filled_book(draw: &mut Draw, work: usize) -> Book {
+    let mut book = draw_any_book(draw, work);
+    let count = draw_trade_count(draw, &book);
+    repeat_trades(draw, &mut book, count);
+    hold_to_work(&mut book, work);
+    book
 }
 
 /// About as many as the book has, the last block with room or full, or as many
@@ -78,7 +84,7 @@ fn all_wrong(draw: &mut Draw) -> Call {
     }
 }
 
-/// What a preview is to come to, by the words of the wish: the append to a
+/// What a preview is to come to, by the words of the request: the append to a
 /// copy, in as many lent bytes, and then the margin of that copy. The call is
 /// a preview.
 pub fn append_then_margin(case: &Case, engine: &impl Engine) -> Outcome {
@@ -87,9 +93,9 @@ pub fn append_then_margin(case: &Case, engine: &impl Engine) -> Outcome {
         panic!("{} is no preview", case.call.name());
     };
     let mut copy = case.lent.clone();
-    let appended = engine.append(&mut copy, case.used, record);
+    let appended = engine.append(&mut copy, case.used, case.day, record);
     let answer = match appended.number {
-        0 => engine.margin(&copy, appended.value as usize, report),
+        0 => engine.margin(&copy, appended.value as usize, case.day, report),
         _ => appended,
     };
     Outcome { answer, after }

@@ -20,6 +20,8 @@ const LONGEST: usize = MAX_BLOCKS * BLOCK;
 pub enum PreviewFault {
     /// The book, by a ground of 1 to 12.
     Book(Ground),
+    /// The day, which is not the book's.
+    Day,
     /// The record, by a ground of 8 to 12.
     Record(Ground),
     /// A new block is needed, and the book has 128.
@@ -34,20 +36,25 @@ impl PreviewFault {
     fn all() -> impl Iterator<Item = Self> {
         let book = Ground::ALL[..12].iter().copied().map(Self::Book);
         let record = record_grounds().iter().copied().map(Self::Record);
-        let space = [Self::FullBook, Self::LentEnd, Self::ReportSpace];
-        book.chain(record).chain(space)
+        let others = [Self::Day, Self::FullBook, Self::LentEnd, Self::ReportSpace];
+        book.chain(record).chain(others)
     }
 
     /// The faults that can come next, in the order in which they are looked
     /// for. Of a wrong book it is not known what room it has, and of a record
     /// for it only whether any book takes its form.
-    fn followed_by(self) -> &'static [Self] {
+    fn followed_by(self) -> Vec<Self> {
+        let room = [Self::FullBook, Self::LentEnd, Self::ReportSpace];
         match self {
-            Self::Book(_) => &[Self::Record(Ground::Form), Self::ReportSpace],
-            Self::Record(_) => &[Self::FullBook, Self::LentEnd, Self::ReportSpace],
-            Self::FullBook => &[Self::LentEnd, Self::ReportSpace],
-            Self::LentEnd => &[Self::ReportSpace],
-            Self::ReportSpace => &[],
+            Self::Book(_) => vec![Self::Day, Self::Record(Ground::Form), Self::ReportSpace],
+            Self::Day => {
+                let record = record_grounds().iter().copied().map(Self::Record);
+                record.chain(room).collect()
+            }
+            Self::Record(_) => room.to_vec(),
+            Self::FullBook => room[1..].to_vec(),
+            Self::LentEnd => room[2..].to_vec(),
+            Self::ReportSpace => vec![],
         }
     }
 
@@ -55,6 +62,7 @@ impl PreviewFault {
     fn ground(self) -> Ground {
         match self {
             Self::Book(ground) | Self::Record(ground) => ground,
+            Self::Day => Ground::ValuationDay,
             Self::FullBook | Self::LentEnd => Ground::BookSpace,
             Self::ReportSpace => Ground::ReportSpace,
         }
@@ -86,7 +94,7 @@ impl PreviewEnding {
             .into_iter()
             .flat_map(|lent| [false, true].map(|new_block| Self::Done { new_block, lent }));
         let refused = PreviewFault::all().flat_map(|fault| {
-            let others = fault.followed_by().iter().copied().map(Some);
+            let others = fault.followed_by().into_iter().map(Some);
             let next = std::iter::once(None).chain(others);
             next.map(move |next| Self::Refused { fault, next })
         });
@@ -99,10 +107,18 @@ impl PreviewEnding {
             return None;
         };
         let record = Record::decode(record);
-        let mut faults = match accept(&case.lent, case.used) {
-            Err(refusal) => faults_of_refused_book(refusal.ground, &record),
-            Ok(book) => faults_of_accepted_book(case, &book, &record),
-        };
+        let book = accept(&case.lent, case.used);
+        let mut faults = vec![];
+        if let Err(refusal) = &book {
+            faults.push(PreviewFault::Book(refusal.ground));
+        }
+        if case.is_of_another_day() {
+            faults.push(PreviewFault::Day);
+        }
+        faults.extend(match &book {
+            Err(_) => faults_for_any_book(&record),
+            Ok(book) => faults_for_book(case, book, &record),
+        });
         if report.len() < BLOCK {
             faults.push(PreviewFault::ReportSpace);
         }
@@ -125,15 +141,16 @@ impl PreviewEnding {
     }
 }
 
-fn faults_of_refused_book(ground: Ground, record: &Record) -> Vec<PreviewFault> {
-    let mut faults = vec![PreviewFault::Book(ground)];
-    if signs_of(record).is_none() {
-        faults.push(PreviewFault::Record(Ground::Form));
+/// What is wrong with a record whatever the book is.
+fn faults_for_any_book(record: &Record) -> Vec<PreviewFault> {
+    match signs_of(record) {
+        None => vec![PreviewFault::Record(Ground::Form)],
+        Some(_) => vec![],
     }
-    faults
 }
 
-fn faults_of_accepted_book(case: &Case, book: &Book, record: &Record) -> Vec<PreviewFault> {
+/// What is wrong with a record for an accepted book, and with its room.
+fn faults_for_book(case: &Case, book: &Book, record: &Record) -> Vec<PreviewFault> {
     let mut faults = vec![];
     if let Err(ground) = accept_record(record, &book.curves) {
         faults.push(PreviewFault::Record(ground));

@@ -3,6 +3,7 @@
 
 use crate::book::hold_to_work;
 use crate::curve::draw_curves;
+use crate::day::draw_valuation_day;
 use crate::draw::Draw;
 use crate::record::draw_record;
 use seddolki_model::accept::Book;
@@ -30,6 +31,7 @@ pub fn draw_repo_book(draw: &mut Draw, work: usize) -> Book {
     }
     let mut book = Book {
         account: draw.number() as u32,
+        valuation_day: draw_valuation_day(draw),
         curves,
         trades,
     };

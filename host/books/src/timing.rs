@@ -8,6 +8,7 @@ use seddolki_model::block::{Curve, Node, CURVE};
 use seddolki_model::limits::{FULL_BLOCK, MAX_BLOCKS, MAX_CURRENCIES, MAX_STEPS, PAYMENTS};
 use seddolki_model::record::{Record, COUPONS, FIRST_SIDE, OUTRIGHT, SECOND_SIDE, SINGLE_PAYMENT};
 use seddolki_model::units::ONE;
+use seddolki_model::Date;
 
 const NODE_DAYS: [u16; 10] = [1, 30, 91, 182, 365, 730, 1_095, 1_825, 3_650, 7_300];
 
@@ -89,6 +90,7 @@ fn far_payment(curve: &Curve) -> Record {
 fn book(curves: Vec<Curve>, trades: Vec<Record>) -> Book {
     Book {
         account: 42,
+        valuation_day: Date::FIRST,
         curves,
         trades,
     }

@@ -59,7 +59,12 @@ fn run(draw: &mut Draw, book: &Book, quote: Quote) -> (Case, Outcome) {
     let used = lent.len();
     lent.extend(draw.bytes(700));
     let call = Call::Bootstrap { quote };
-    let case = Case { lent, used, call };
+    let case = Case {
+        lent,
+        used,
+        day: book.valuation_day,
+        call,
+    };
     let outcome = case.run(&Model);
     (case, outcome)
 }
@@ -178,7 +183,7 @@ fn a_spoiled_book_answers_before_a_spoiled_quote() {
         let quote = damage_quote(&mut draw, &quote, &book.curves, damage).unwrap_or(quote);
         let (mut bytes, block) = damage_book(&mut draw, &book, ground).unwrap();
         let before = bytes.clone();
-        let answer = bootstrap(&mut bytes, before.len(), &quote);
+        let answer = bootstrap(&mut bytes, before.len(), book.valuation_day, &quote);
         assert_eq!(answer, Err(ground.in_block(block)).into());
         assert_eq!(bytes, before);
     }

@@ -2,7 +2,7 @@
 
 use seddolki_books::buyer;
 use seddolki_model::block::BLOCK;
-use seddolki_model::margin;
+use seddolki_model::{margin, Date};
 
 fn put(bytes: &mut [u8], at: usize, value: &[u8]) {
     bytes[at..at + value.len()].copy_from_slice(value);
@@ -71,6 +71,9 @@ fn the_buyers_report() {
     put(&mut expected, 280, &(-20_000i64).to_le_bytes());
     put_check(&mut expected);
     let (book, mut report) = (buyer(), [0xaa; BLOCK]);
-    assert_eq!(margin(&book, book.len(), &mut report).number, 0);
+    assert_eq!(
+        margin(&book, book.len(), Date::FIRST, &mut report).number,
+        0
+    );
     assert_eq!(report, expected);
 }

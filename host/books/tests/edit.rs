@@ -39,7 +39,7 @@ fn an_appended_record_is_read_and_struck_again() {
         bytes.extend(draw.bytes(2 * BLOCK + 3));
         let before = bytes.clone();
         let record = draw_record(&mut draw, &book.curves, 120);
-        let answer = append(&mut bytes, used, &record.to_bytes());
+        let answer = append(&mut bytes, used, book.valuation_day, &record.to_bytes());
         let position = book.trades.len();
         if position == (MAX_BLOCKS - 1 - book.curves.len()) * FULL_BLOCK {
             assert_eq!(answer, Err(Ground::BookSpace.alone()).into());
@@ -53,7 +53,10 @@ fn an_appended_record_is_read_and_struck_again() {
         assert_eq!(read_at(&bytes, grown, position), record);
         book.trades.pop();
         let appended = bytes.clone();
-        assert_eq!(strike(&mut bytes, grown, position), done(used));
+        assert_eq!(
+            strike(&mut bytes, grown, book.valuation_day, position),
+            done(used)
+        );
         assert_eq!(bytes, left(&book, &appended, grown));
     }
 }
@@ -72,7 +75,7 @@ fn a_struck_record_leaves_no_gap() {
         let before = bytes.clone();
         let position = draw.place(book.trades.len());
         book.trades.remove(position);
-        let answer = strike(&mut bytes, used, position);
+        let answer = strike(&mut bytes, used, book.valuation_day, position);
         assert_eq!(answer, done(assemble(&book).len()));
         assert_eq!(bytes, left(&book, &before, used));
     }
@@ -86,14 +89,16 @@ fn a_book_struck_empty_is_filled_again() {
         book.trades.truncate(40);
         let whole = assemble(&book);
         let (mut bytes, mut used) = (whole.clone(), whole.len());
+        let day = book.valuation_day;
         for remaining in (0..book.trades.len()).rev() {
-            used = strike(&mut bytes, used, draw.place(remaining + 1)).value as usize;
+            let position = draw.place(remaining + 1);
+            used = strike(&mut bytes, used, day, position).value as usize;
         }
         assert_eq!(used, (1 + book.curves.len()) * BLOCK);
         assert!(bytes[used..].iter().all(|&byte| byte == 0));
         assert!(accept(&bytes, used).unwrap().trades.is_empty());
         for record in &book.trades {
-            used = append(&mut bytes, used, &record.to_bytes()).value as usize;
+            used = append(&mut bytes, used, day, &record.to_bytes()).value as usize;
         }
         assert_eq!((bytes, used), (whole.clone(), whole.len()));
     }
@@ -132,15 +137,14 @@ fn a_new_block_needs_lent_bytes() {
         let needs_block = book.trades.len().is_multiple_of(FULL_BLOCK);
         let mut bytes = assemble(&book);
         let used = bytes.len();
-        let without = append(&mut bytes, used, &record.to_bytes());
+        let add = |bytes: &mut [u8]| append(bytes, used, book.valuation_day, &record.to_bytes());
+        let without = add(&mut bytes);
         if needs_block {
             assert_eq!(without, Err(Ground::BookSpace.alone()).into());
             bytes.resize(used + BLOCK - 1, 1);
-            let short = append(&mut bytes, used, &record.to_bytes());
-            assert_eq!(short, without);
+            assert_eq!(add(&mut bytes), without);
             bytes.push(1);
-            let enough = append(&mut bytes, used, &record.to_bytes());
-            assert_eq!(enough, done(used + BLOCK));
+            assert_eq!(add(&mut bytes), done(used + BLOCK));
         } else {
             assert_eq!(without, done(used));
         }

@@ -55,13 +55,14 @@ fn a_spoiled_record_is_refused_for_the_block_it_would_take() {
         let book = draw_book(&mut draw, WORK);
         let mut bytes = assemble(&book);
         let before = bytes.clone();
+        let (used, day) = (before.len(), book.valuation_day);
         let block = 1 + book.curves.len() + book.trades.len() / FULL_BLOCK;
         for &ground in record_grounds() {
             let record = draw_record(&mut draw, &book.curves, 120);
             if let Some(record) = damage_record(&mut draw, &record, &book.curves, ground) {
-                let answer = append(&mut bytes, before.len(), &record.to_bytes());
+                let answer = append(&mut bytes, used, day, &record.to_bytes());
                 assert_eq!(answer, refused(ground, block), "seed {seed} {record:?}");
-                let shown = preview(&bytes, before.len(), &record.to_bytes(), &mut []);
+                let shown = preview(&bytes, used, day, &record.to_bytes(), &mut []);
                 assert_eq!(shown, answer, "seed {seed} {record:?}");
                 assert_eq!(bytes, before);
                 *spoiled.entry(ground).or_insert(0) += 1;

@@ -2,7 +2,7 @@
 
 use seddolki_books::{assemble, assert_demand_3, buyer, draw_book, seller, Draw};
 use seddolki_model::accept::accept;
-use seddolki_model::block::{check_of, BLOCK};
+use seddolki_model::block::{check_of, valuation_day, BLOCK};
 use seddolki_model::exact::exact_value;
 use seddolki_model::layout::Layout;
 use seddolki_model::limits::{MAX_AMOUNT, MAX_DAY, MAX_RATE};
@@ -15,7 +15,8 @@ fn report_of(bytes: &[u8]) -> Report {
         number: 0,
         value: 0,
     };
-    assert_eq!(margin(bytes, bytes.len(), &mut space), done);
+    let day = valuation_day(bytes);
+    assert_eq!(margin(bytes, bytes.len(), day, &mut space), done);
     assert_eq!(space[BLOCK..], [0xaa; 9]);
     let report = Report::decode(&space);
     assert_eq!(report.check, check_of(&space));

@@ -6,7 +6,7 @@ use seddolki_model::block::{seal, BLOCK};
 use seddolki_model::limits::FULL_BLOCK;
 use seddolki_model::record::RECORD;
 use seddolki_model::{append, bootstrap, check, margin, preview, read, strike};
-use seddolki_model::{Answer, Ground, Quote};
+use seddolki_model::{Answer, Date, Ground, Quote};
 
 /// A drawn book with two full blocks of trades.
 fn book() -> Book {
@@ -71,29 +71,42 @@ fn an_earlier_record_answers_first() {
     assert_eq!(answer(&bytes), refused(Ground::TradeBlock, block));
 }
 
-#[test]
-fn the_book_answers_before_what_is_asked_of_it() {
-    let mut bytes = assemble(&book());
+/// What the calls answer that are given a day, all of them asked what no book
+/// allows: margin, preview, append, strike, bootstrap.
+fn wrongly_asked(bytes: &mut [u8], day: Date) -> [Answer; 5] {
     let used = bytes.len();
     let wrong = [u8::MAX; RECORD];
-    let block = used / BLOCK;
-    let wrong_record = refused(Ground::Form, block);
-    assert_eq!(append(&mut bytes, used, &wrong), wrong_record);
-    assert_eq!(preview(&bytes, used, &wrong, &mut []), wrong_record);
-    let position = refused(Ground::Position, 0);
-    assert_eq!(strike(&mut bytes, used, 18), position);
-    assert_eq!(read(&bytes, used, 18, &mut [0; RECORD]), position);
-    let space = refused(Ground::ReportSpace, 0);
-    assert_eq!(margin(&bytes, used, &mut [0; BLOCK - 1]), space);
-    let quote = Quote::default();
-    let form = refused(Ground::Form, 0);
-    assert_eq!(bootstrap(&mut bytes, used, &quote), form);
-    bytes[0] = 2;
-    let first = refused(Ground::Check, 0);
-    assert_eq!(append(&mut bytes, used, &wrong), first);
-    assert_eq!(strike(&mut bytes, used, 18), first);
-    assert_eq!(read(&bytes, used, 18, &mut [0; RECORD]), first);
-    assert_eq!(margin(&bytes, used, &mut []), first);
-    assert_eq!(preview(&bytes, used, &wrong, &mut []), first);
-    assert_eq!(bootstrap(&mut bytes, used, &quote), first);
+    [
+        margin(bytes, used, day, &mut [0; BLOCK - 1]),
+        preview(bytes, used, day, &wrong, &mut []),
+        append(bytes, used, day, &wrong),
+        strike(bytes, used, day, 2 * FULL_BLOCK),
+        bootstrap(bytes, used, day, &Quote::default()),
+    ]
+}
+
+#[test]
+fn the_book_and_then_its_day_answer_before_what_is_asked_of_it() {
+    let book = book();
+    let (day, other) = (book.valuation_day, book.valuation_day.days() ^ 1);
+    let other = Date::from_days(other);
+    let mut bytes = assemble(&book);
+    let (used, block) = (bytes.len(), bytes.len() / BLOCK);
+    let asked = [
+        refused(Ground::ReportSpace, 0),
+        refused(Ground::Form, block),
+        refused(Ground::Form, block),
+        refused(Ground::Position, 0),
+        refused(Ground::Form, 0),
+    ];
+    assert_eq!(wrongly_asked(&mut bytes, day), asked);
+    let another_day = refused(Ground::ValuationDay, 0);
+    assert_eq!(wrongly_asked(&mut bytes, other), [another_day; 5]);
+    let read_behind = |bytes: &[u8]| read(bytes, used, 2 * FULL_BLOCK, &mut [0; RECORD]);
+    assert_eq!(read_behind(&bytes), refused(Ground::Position, 0));
+    bytes[used - 1] ^= 1;
+    let first = refused(Ground::Check, block - 1);
+    assert_eq!(wrongly_asked(&mut bytes, day), [first; 5]);
+    assert_eq!(wrongly_asked(&mut bytes, other), [first; 5]);
+    assert_eq!(read_behind(&bytes), first);
 }

@@ -6,12 +6,15 @@ use seddolki_model::block::{sealed, Curve, BLOCK};
 use seddolki_model::layout::Layout;
 use seddolki_model::record::Record;
 use seddolki_model::report::{CurrencyFigures, CurveFigures, Report, REPORT};
-use seddolki_model::{margin, preview, Answer, Ground, Refusal};
+use seddolki_model::{margin, preview, Answer, Date, Ground, Refusal};
 
 /// Pays 70,000 today and is paid 100,000 in a year.
 fn purchase() -> Record {
     undiscounted_book().trades[0]
 }
+
+/// The day that the books are for.
+const DAY: Date = Date::from_days(9_815);
 
 /// So many purchases. Beside their curve there is one in USD, with one
 /// scenario alone.
@@ -26,6 +29,7 @@ fn book_of(purchases: usize) -> Vec<u8> {
         ..lira
     };
     assemble(&Book {
+        valuation_day: DAY,
         curves: vec![lira, dollars],
         trades: vec![purchase(); purchases],
         ..book
@@ -95,7 +99,7 @@ fn shows(purchases: usize, record: Record, figures: [Figures; 2]) {
     let used = lent.len();
     lent.extend([7; BLOCK]);
     let mut space = [0xaa; BLOCK + 3];
-    let answer = preview(&lent, used, &record.to_bytes(), &mut space);
+    let answer = preview(&lent, used, DAY, &record.to_bytes(), &mut space);
     assert_eq!(answer, done());
     assert_eq!(space[..BLOCK], report_of(figures));
     assert_eq!(space[BLOCK..], [0xaa; 3]);
@@ -140,11 +144,11 @@ fn a_trade_on_another_curve_leaves_the_figures_of_the_first() {
 fn a_report_without_the_trade_is_another() {
     let book = book_of(1);
     let mut without = [0; BLOCK];
-    assert_eq!(margin(&book, book.len(), &mut without), done());
+    assert_eq!(margin(&book, book.len(), DAY, &mut without), done());
     assert_eq!(without, report_of([(30_000, 50_000, 2, 1), NO_FLOWS]));
     for record in [purchase(), sale(), repo()] {
         let mut with = [0; BLOCK];
-        let answer = preview(&book, book.len(), &record.to_bytes(), &mut with);
+        let answer = preview(&book, book.len(), DAY, &record.to_bytes(), &mut with);
         assert_eq!(answer, done());
         assert_ne!(with, without, "{record:?}");
     }
@@ -154,6 +158,7 @@ fn a_report_without_the_trade_is_another() {
 struct Asked {
     lent: Vec<u8>,
     used: usize,
+    day: Date,
     record: Record,
     space: usize,
 }
@@ -174,6 +179,7 @@ fn all_wrong() -> Asked {
     Asked {
         lent,
         used: 5 * BLOCK,
+        day: Date::from_days(DAY.days() + 1),
         record,
         space: BLOCK - 1,
     }
@@ -184,9 +190,10 @@ type Repair = (Refusal, fn(&mut Asked));
 
 #[test]
 fn grounds_are_tried_in_the_order_of_an_append_and_then_a_margin() {
-    let repairs: [Repair; 9] = [
+    let repairs: [Repair; 10] = [
         (Ground::Length.alone(), |a| a.used = 4 * BLOCK),
         (Ground::Check.in_block(1), |a| a.lent[BLOCK + 5] ^= 1),
+        (Ground::ValuationDay.alone(), |a| a.day = DAY),
         (Ground::Form.in_block(4), |a| a.record.kind = 1),
         (Ground::Days.in_block(4), |a| {
             a.record.first_payment_day = 365
@@ -204,7 +211,7 @@ fn grounds_are_tried_in_the_order_of_an_append_and_then_a_margin() {
     let mut asked = all_wrong();
     let answer = |a: &Asked| {
         let mut space = vec![0xaa; a.space];
-        let answer = preview(&a.lent, a.used, &a.record.to_bytes(), &mut space);
+        let answer = preview(&a.lent, a.used, a.day, &a.record.to_bytes(), &mut space);
         (answer, space)
     };
     for (refusal, repair) in repairs {

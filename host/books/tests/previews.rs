@@ -58,7 +58,12 @@ fn preview_of_the_last(draw: &mut Draw, book: &Book) -> Case {
         record: last.to_bytes(),
         report: draw.bytes(BLOCK + 9),
     };
-    Case { lent, used, call }
+    Case {
+        lent,
+        used,
+        day: book.valuation_day,
+        call,
+    }
 }
 
 #[test]

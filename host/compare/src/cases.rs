@@ -1,12 +1,13 @@
-//! Calls on a book that uses all that is lent.
+//! Calls on a book that uses all that is lent, on its own day.
 
 use seddolki_books::{Call, Case, Draw};
-use seddolki_model::block::BLOCK;
+use seddolki_model::block::{valuation_day, BLOCK};
 
 /// A call on a book's bytes.
 pub fn whole_case(bytes: Vec<u8>, call: Call) -> Case {
     Case {
         used: bytes.len(),
+        day: valuation_day(&bytes),
         lent: bytes,
         call,
     }

@@ -3,7 +3,7 @@
 use seddolki::{lent, Answer};
 use seddolki_books::Engine;
 use seddolki_model::record::RECORD;
-use seddolki_model::Quote;
+use seddolki_model::{Date, Quote};
 
 /// The proved engine.
 pub struct Proved;
@@ -13,26 +13,27 @@ impl Engine for Proved {
         lent::check(book, used)
     }
 
-    fn margin(&self, book: &[u8], used: usize, report: &mut [u8]) -> Answer {
-        lent::margin(book, used, report)
+    fn margin(&self, book: &[u8], used: usize, day: Date, report: &mut [u8]) -> Answer {
+        lent::margin(book, used, day, report)
     }
 
     fn preview(
         &self,
         book: &[u8],
         used: usize,
+        day: Date,
         record: &[u8; RECORD],
         report: &mut [u8],
     ) -> Answer {
-        lent::preview(book, used, record, report)
+        lent::preview(book, used, day, record, report)
     }
 
-    fn append(&self, book: &mut [u8], used: usize, record: &[u8; RECORD]) -> Answer {
-        lent::append(book, used, record)
+    fn append(&self, book: &mut [u8], used: usize, day: Date, record: &[u8; RECORD]) -> Answer {
+        lent::append(book, used, day, record)
     }
 
-    fn strike(&self, book: &mut [u8], used: usize, position: usize) -> Answer {
-        lent::strike(book, used, position)
+    fn strike(&self, book: &mut [u8], used: usize, day: Date, position: usize) -> Answer {
+        lent::strike(book, used, day, position)
     }
 
     fn read(&self, book: &[u8], used: usize, position: usize, record: &mut [u8; RECORD]) -> Answer {
@@ -43,7 +44,7 @@ impl Engine for Proved {
         lent::present_value(amount, rate, day, tolerance)
     }
 
-    fn bootstrap(&self, book: &mut [u8], used: usize, quote: &Quote) -> Answer {
-        lent::bootstrap(book, used, quote)
+    fn bootstrap(&self, book: &mut [u8], used: usize, day: Date, quote: &Quote) -> Answer {
+        lent::bootstrap(book, used, day, quote)
     }
 }

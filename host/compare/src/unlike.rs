@@ -15,7 +15,7 @@ pub fn assert_alike(case: &Case, number: u64) -> Outcome {
 
 fn difference(case: &Case, proved: &Outcome, model: &Outcome) -> String {
     let (name, lent, used) = (case.call.name(), case.lent.len(), case.used);
-    let asked = format!("{name} on {lent} lent bytes, {used} used");
+    let asked = format!("{name} on {lent} lent bytes, {used} used, day {}", case.day);
     if proved.answer != model.answer {
         let (proved, model) = (proved.answer, model.answer);
         return format!("{asked}: the engine answers {proved:?}, the model {model:?}");

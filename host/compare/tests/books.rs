@@ -1,18 +1,18 @@
 //! Whole books, and the same books spoiled for every ground.
 
 use seddolki_books::{
-    assemble, assert_demand_3, book_grounds, damage_book, draw_book, near_tie_book, small_book,
-    typical_book, zero_component_book, Call, Draw,
+    assemble, assert_demand_3, book_grounds, damage_book, draw_book, draw_day, near_tie_book,
+    small_book, typical_book, zero_component_book, Call, Case, Draw,
 };
 use seddolki_compare::{assert_alike, books, is_whole, margin_case, whole_case, Proved, Seeds};
-use seddolki_model::accept::Book;
+use seddolki_model::accept::{accept_on, Book};
 use seddolki_model::block::{Node, BLOCK};
 use seddolki_model::flows::{cash_flows, signs_of, TABLE};
 use seddolki_model::layout::Layout;
 use seddolki_model::limits::{MAX_AMOUNT, MAX_BLOCKS, MAX_DAY, MAX_RATE, MAX_STEPS, NODES};
 use seddolki_model::record::Record;
 use seddolki_model::report::Report;
-use seddolki_model::Ground;
+use seddolki_model::{Date, Ground};
 use std::collections::{BTreeMap, BTreeSet};
 
 /// Bounds the time of a margin.
@@ -40,12 +40,21 @@ impl Reached {
         self.reach("128 blocks", blocks == MAX_BLOCKS);
         self.reach("no trade", book.trades.is_empty());
         self.reach("8 curves", book.curves.len() == 8);
+        self.add_day(book.valuation_day);
         for curve in &book.curves {
             let has_flows = !book.flows_on(curve).is_empty();
             self.reach("343 scenarios", curve.steps == [MAX_STEPS; 3] && has_flows);
             self.reach("one scenario", curve.steps == [0; 3] && has_flows);
             self.add_nodes(curve.nodes());
         }
+    }
+
+    fn add_day(&mut self, day: Date) {
+        self.reach("first of all days", day == Date::FIRST);
+        self.reach("last of all days", day == Date::LAST);
+        self.reach("a day of 2026", day.year() == 2026);
+        let bytes = BTreeSet::from(day.days().to_le_bytes());
+        self.reach("a day of four unlike bytes", bytes.len() == 4);
     }
 
     fn add_nodes(&mut self, nodes: &[Node]) {
@@ -91,7 +100,7 @@ impl Reached {
                 assert!(self.forms.contains(&(kind, phase, side, security)));
             }
         }
-        assert_eq!(self.boundaries.len(), 13, "{:?}", self.boundaries);
+        assert_eq!(self.boundaries.len(), 17, "{:?}", self.boundaries);
     }
 }
 
@@ -152,17 +161,38 @@ fn spoiled_books_are_refused_by_the_ground_they_were_spoiled_for() {
     }
 }
 
+/// A book that is accepted on the day that margin was given has a report that
+/// keeps demand 3; of another one nothing is shown.
+fn assert_shown(case: &Case) -> bool {
+    let outcome = case.run(&Proved);
+    match accept_on(&case.lent, case.used, case.day) {
+        Ok(book) => {
+            let Call::Margin { report } = &outcome.after.call else {
+                unreachable!("a margin was asked for");
+            };
+            assert_demand_3(&book, &Report::decode(report));
+            true
+        }
+        Err(refusal) => {
+            assert_eq!(outcome.answer, Err(refusal).into());
+            assert!(outcome.after == *case);
+            false
+        }
+    }
+}
+
 #[test]
-fn reports_keep_demand_3() {
+fn reports_keep_demand_3_on_the_day_that_margin_was_given() {
     let seeds = Seeds::of_this_run();
+    let mut shown = 0;
     for number in 0..books() / 20 {
         println!("book {number}");
         let mut draw = seeds.draw(number);
         let book = draw_book(&mut draw, 5 * WORK);
-        let after = margin_case(&mut draw, assemble(&book)).run(&Proved).after;
-        let Call::Margin { report } = after.call else {
-            unreachable!("a margin was asked for");
-        };
-        assert_demand_3(&book, &Report::decode(&report));
+        let case = margin_case(&mut draw, assemble(&book));
+        let day = draw_day(&mut draw, case.day);
+        shown += u64::from(assert_shown(&Case { day, ..case }));
     }
+    println!("{shown} reports");
+    assert!(!is_whole() || (books() / 40..books() / 20).contains(&shown));
 }

@@ -47,10 +47,12 @@ fn bootstraps_are_the_same_and_reach_every_ending() {
 /// Lengthens curves of one book until a quote is refused; gives the number of
 /// nodes added. The book is then margined alike.
 fn grow(draw: &mut Draw, number: u64) -> usize {
-    let mut bytes = assemble(&draw_book(draw, WORK));
+    let start = draw_book(draw, WORK);
+    let mut bytes = assemble(&start);
     let mut added = 0;
     loop {
         let book = accept(&bytes, bytes.len()).expect("a lengthened curve is accepted");
+        assert_eq!(book.valuation_day, start.valuation_day);
         let quote = draw_quote(draw, &book.curves);
         let case = whole_case(bytes, Call::Bootstrap { quote });
         let outcome = assert_alike(&case, number);

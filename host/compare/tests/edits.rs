@@ -1,7 +1,8 @@
-//! Sequences of append, strike and read in lent bytes larger than the book.
+//! Sequences of append, strike and read in lent bytes larger than the book,
+//! now and then on another day, which no edit changes.
 
-use seddolki_books::{assemble, draw_book, draw_record, Call, Case, Draw};
-use seddolki_compare::{assert_alike, calls, Seeds};
+use seddolki_books::{assemble, draw_book, draw_day, draw_record, Call, Case, Draw};
+use seddolki_compare::{assert_alike, calls, whole_case, Seeds};
 use seddolki_model::accept::Book;
 use seddolki_model::block::BLOCK;
 use seddolki_model::layout::Layout;
@@ -52,7 +53,13 @@ fn play(draw: &mut Draw, number: u64) -> usize {
     for step in 0..LENGTH {
         let grows = step % 50 < 25;
         let call = draw_edit(draw, &book, grows);
-        let case = Case { lent, used, call };
+        let day = draw_day(draw, book.valuation_day);
+        let case = Case {
+            lent,
+            used,
+            day,
+            call,
+        };
         let outcome = assert_alike(&case, number);
         lent = outcome.after.lent;
         if outcome.answer.number != 0 {
@@ -90,9 +97,7 @@ fn a_position_beyond_every_book_is_refused() {
         for position in [book.trades.len(), usize::MAX] {
             let record = [7; RECORD];
             for call in [Call::Strike { position }, Call::Read { position, record }] {
-                let lent = assemble(&book);
-                let used = lent.len();
-                let outcome = assert_alike(&Case { lent, used, call }, number);
+                let outcome = assert_alike(&whole_case(assemble(&book), call), number);
                 assert_eq!(outcome.answer.number, 14);
             }
         }

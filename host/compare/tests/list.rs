@@ -1,7 +1,10 @@
 //! The list program: document 01's cases to the byte, refused input, and random books beside the model.
 
-use seddolki_books::{assemble, book_grounds, buyer, damage_book, draw_book, seller, Draw};
-use seddolki_model::list;
+use seddolki_books::{
+    assemble, book_grounds, buyer, damage_book, draw_book, seller, undiscounted_book, Draw,
+};
+use seddolki_model::accept::accept;
+use seddolki_model::{list, Date};
 use std::io::Write;
 use std::process::{Command, Stdio};
 
@@ -37,6 +40,18 @@ fn the_seller_s_book() {
          curve 1 TRY base -10000 loss 20000 scenario 0 tolerance 1\n\
          currency TRY initial 20000 variation -10000 total -30000\n"
     );
+}
+
+#[test]
+fn a_book_of_any_day_lists_as_on_the_first() {
+    for bytes in [buyer(), seller(), assemble(&undiscounted_book())] {
+        let mut book = accept(&bytes, bytes.len()).unwrap();
+        assert_eq!(book.valuation_day, Date::FIRST);
+        for day in [1, 9_815, 0x0102_0304, u32::MAX] {
+            book.valuation_day = Date::from_days(day);
+            assert_eq!(printed(&assemble(&book)), printed(&bytes), "day {day}");
+        }
+    }
 }
 
 #[test]

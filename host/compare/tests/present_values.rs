@@ -3,6 +3,7 @@
 use seddolki_books::{Call, Case};
 use seddolki_compare::{assert_alike, calls, Seeds};
 use seddolki_model::limits::{MAX_AMOUNT, MAX_DAY, MAX_RATE};
+use seddolki_model::Date;
 
 #[test]
 fn present_values_and_tolerances_are_the_same() {
@@ -15,8 +16,13 @@ fn present_values_and_tolerances_are_the_same() {
             day: draw.edge(0..=MAX_DAY),
             tolerance: draw.number(),
         };
-        let (lent, used) = (vec![], 0);
-        let outcome = assert_alike(&Case { lent, used, call }, number);
+        let case = Case {
+            lent: vec![],
+            used: 0,
+            day: Date::FIRST,
+            call,
+        };
+        let outcome = assert_alike(&case, number);
         assert_eq!(outcome.answer.number, 0);
     }
 }

@@ -74,7 +74,12 @@ fn preview(book: &Book, record: &Record, behind: usize, space: usize) -> Outcome
         record: record.to_bytes(),
         report: vec![0xaa; space],
     };
-    let case = Case { lent, used, call };
+    let case = Case {
+        lent,
+        used,
+        day: book.valuation_day,
+        call,
+    };
     let outcome = assert_alike(&case, 0);
     assert!(outcome.after.lent == case.lent);
     outcome

@@ -26,6 +26,7 @@ fn calls_with(draw: &mut Draw, book: &Book, repo: &Record) -> [Case; 4] {
     let new = |call| Case {
         lent: lent.clone(),
         used,
+        day: book.valuation_day,
         call,
     };
     let mut book = book.clone();

@@ -33,11 +33,12 @@ pub enum Ground {
     ValueRange,
     CurveEnd,
     RateRange,
+    ValuationDay,
 }
 
 impl Ground {
     /// In the order of their numbers, from 1.
-    pub const ALL: [Ground; 18] = [
+    pub const ALL: [Ground; 19] = [
         Ground::Length,
         Ground::Check,
         Ground::Place,
@@ -56,9 +57,10 @@ impl Ground {
         Ground::ValueRange,
         Ground::CurveEnd,
         Ground::RateRange,
+        Ground::ValuationDay,
     ];
 
-    /// The ground of a number; none for 0 and above 18.
+    /// The ground of a number; none for 0 and above 19.
     pub fn from_number(number: u64) -> Option<Ground> {
         let place = usize::try_from(number).ok()?.checked_sub(1)?;
         Ground::ALL.get(place).copied()
@@ -89,6 +91,7 @@ impl Ground {
             Ground::ValueRange => "value range",
             Ground::CurveEnd => "curve end",
             Ground::RateRange => "rate range",
+            Ground::ValuationDay => "valuation day",
         }
     }
 
@@ -132,6 +135,7 @@ impl Ground {
             Ground::RateRange => {
                 "the bond is worth more than the cash even at rate 100%, or less even at rate 0%"
             }
+            Ground::ValuationDay => "the book is for another day than the day given",
         }
     }
 
@@ -189,12 +193,12 @@ impl From<Result<u64, Refusal>> for Answer {
 }
 
 impl From<Answer> for Result<u64, Refusal> {
-    /// Panics on a number above 18, which no call answers.
+    /// Panics on a number above 19, which no call answers.
     fn from(answer: Answer) -> Self {
         if answer.number == 0 {
             return Ok(answer.value);
         }
-        let ground = Ground::from_number(answer.number).expect("a ground has number 1 to 18");
+        let ground = Ground::from_number(answer.number).expect("a ground has number 1 to 19");
         Err(ground.in_block(answer.value as usize))
     }
 }
@@ -210,7 +214,7 @@ mod tests {
             assert_eq!(Ground::from_number(number), Some(ground));
         }
         assert_eq!(Ground::from_number(0), None);
-        assert_eq!(Ground::from_number(19), None);
+        assert_eq!(Ground::from_number(20), None);
     }
 
     #[test]
@@ -223,6 +227,7 @@ mod tests {
             (Ground::Form.alone(), false),
             (Ground::Node.alone(), false),
             (Ground::RateRange.alone(), false),
+            (Ground::ValuationDay.alone(), false),
         ] {
             assert_eq!(refusal.names_block(), named, "{refusal:?}");
             assert_eq!(refusal.to_string().contains(" in block "), named);

@@ -1,5 +1,6 @@
 //! The blocks of a book.
 
+use crate::date::Date;
 use crate::layout::{layout, Layout};
 use crate::limits::FULL_BLOCK;
 use crate::record::Record;
@@ -26,6 +27,8 @@ layout! {
         account: u32 = 4,
         curves: u16 = 8,
         trade_blocks: u16 = 10,
+        /// Days since 1 January 2000.
+        valuation_day: u32 = 12,
         check: u32 = 508,
     }
 }
@@ -108,12 +111,13 @@ pub fn sealed<T: Layout>(content: &T) -> [u8; BLOCK] {
 }
 
 /// The bytes of a book with these parts, whether or not they keep the rules.
-pub fn assemble(account: u32, curves: &[Curve], trades: &[Record]) -> Vec<u8> {
+pub fn assemble(account: u32, valuation_day: Date, curves: &[Curve], trades: &[Record]) -> Vec<u8> {
     let header = Header {
         kind: HEADER,
         account,
         curves: curves.len() as u16,
         trade_blocks: trades.len().div_ceil(FULL_BLOCK) as u16,
+        valuation_day: valuation_day.days(),
         ..Header::default()
     };
     let mut bytes = sealed(&header).to_vec();
@@ -125,6 +129,11 @@ pub fn assemble(account: u32, curves: &[Curve], trades: &[Record]) -> Vec<u8> {
         bytes.extend(sealed(&TradeBlock::new(trades, number)));
     }
     bytes
+}
+
+/// The day that a book is for, by the bytes of its header.
+pub fn valuation_day(book: &[u8]) -> Date {
+    Date::from_days(Header::decode(book).valuation_day)
 }
 
 /// The trades of an accepted book's bytes, in order.

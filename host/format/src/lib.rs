@@ -1,11 +1,12 @@
 //! The forms of documents 01 and 02: the bytes of books, records, quotes and
-//! reports, the limits of their fields, and the grounds of refusal. No rule
-//! is tested here and nothing is valued.
+//! reports, the limits of their fields, dates, and the grounds of refusal. No
+//! rule is tested here and nothing is valued.
 
 #![forbid(unsafe_code)]
 
 pub mod answer;
 pub mod block;
+pub mod date;
 pub mod layout;
 pub mod limits;
 pub mod quote;
@@ -15,6 +16,7 @@ pub mod text;
 
 pub use answer::{Answer, Ground, Refusal};
 pub use block::assemble;
+pub use date::Date;
 pub use quote::Quote;
 pub use record::Record;
 pub use report::Report;

@@ -1,7 +1,8 @@
-//! Accepting a book, grounds 1 to 12, and what it holds.
+//! Accepting a book, grounds 1 to 12 and, on a day, 19, and what it holds.
 
 use crate::answer::{Ground, Refusal};
 use crate::block::{Curve, Header, TradeBlock, BLOCK, CURVE, HEADER, TRADES};
+use crate::date::Date;
 use crate::fault::{BookFault, Fault, Part};
 use crate::flows::{cash_flows, CashFlow};
 use crate::layout::Layout;
@@ -16,6 +17,8 @@ use std::fmt::Display;
 pub struct Book {
     /// The header's account.
     pub account: u32,
+    /// The day that the book is for.
+    pub valuation_day: Date,
     /// In the order of their ids.
     pub curves: Vec<Curve>,
     /// In the order of their positions.
@@ -38,6 +41,15 @@ pub fn accept(lent: &[u8], used: usize) -> Result<Book, Refusal> {
     take(lent, used).map_err(|fault| fault.refusal())
 }
 
+/// The same, on the day that the book is to be for.
+pub fn accept_on(lent: &[u8], used: usize, day: Date) -> Result<Book, Refusal> {
+    let book = accept(lent, used)?;
+    if book.valuation_day != day {
+        return Err(Ground::ValuationDay.alone());
+    }
+    Ok(book)
+}
+
 /// Why a book is refused; none if it is accepted.
 pub fn book_fault(lent: &[u8], used: usize) -> Option<BookFault> {
     take(lent, used).err().map(|fault| *fault)
@@ -51,6 +63,7 @@ fn take(lent: &[u8], used: usize) -> Result<Book, Box<BookFault>> {
     let header = take_header(&blocks).map_err(|fault| fault.in_part(0, Part::Header))?;
     let mut book = Book {
         account: header.account,
+        valuation_day: Date::from_days(header.valuation_day),
         curves: vec![],
         trades: vec![],
     };

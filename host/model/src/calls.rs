@@ -1,9 +1,11 @@
-//! The eight calls over lent bytes.
+//! The eight calls over lent bytes. Those that change a book or work out its
+//! margin are given the day that it is to be for.
 
-use crate::accept::{accept, Book};
+use crate::accept::{accept, accept_on, Book};
 use crate::answer::{Answer, Ground, Refusal};
 use crate::block::{sealed, BLOCK};
 use crate::bootstrap::new_node;
+use crate::date::Date;
 use crate::discount;
 use crate::edit::{add_node, rewrite};
 use crate::layout::Layout;
@@ -19,12 +21,12 @@ pub fn check(book: &[u8], used: usize) -> Answer {
 }
 
 /// Fills the report's first block.
-pub fn margin(book: &[u8], used: usize, report: &mut [u8]) -> Answer {
-    try_margin(book, used, report).into()
+pub fn margin(book: &[u8], used: usize, day: Date, report: &mut [u8]) -> Answer {
+    try_margin(book, used, day, report).into()
 }
 
-fn try_margin(lent: &[u8], used: usize, space: &mut [u8]) -> Result<u64, Refusal> {
-    write_report(&accept(lent, used)?, space)
+fn try_margin(lent: &[u8], used: usize, day: Date, space: &mut [u8]) -> Result<u64, Refusal> {
+    write_report(&accept_on(lent, used, day)?, space)
 }
 
 fn write_report(book: &Book, space: &mut [u8]) -> Result<u64, Refusal> {
@@ -36,33 +38,50 @@ fn write_report(book: &Book, space: &mut [u8]) -> Result<u64, Refusal> {
 /// Fills the report's first block as it would be after an append. The trade
 /// joins what the book holds, and no copy is written and read again: so an
 /// append that writes wrongly is found out where the two are compared.
-pub fn preview(book: &[u8], used: usize, record: &[u8; RECORD], report: &mut [u8]) -> Answer {
-    try_preview(book, used, record, report).into()
+pub fn preview(
+    book: &[u8],
+    used: usize,
+    day: Date,
+    record: &[u8; RECORD],
+    report: &mut [u8],
+) -> Answer {
+    try_preview(book, used, day, record, report).into()
 }
 
 fn try_preview(
     lent: &[u8],
     used: usize,
+    day: Date,
     record: &[u8; RECORD],
     space: &mut [u8],
 ) -> Result<u64, Refusal> {
-    write_report(&accept_append(lent, used, record)?, space)
+    write_report(&accept_append(lent, used, day, record)?, space)
 }
 
 /// Adds a record behind the last; the value is the new used length.
-pub fn append(book: &mut [u8], used: usize, record: &[u8; RECORD]) -> Answer {
-    try_append(book, used, record).into()
+pub fn append(book: &mut [u8], used: usize, day: Date, record: &[u8; RECORD]) -> Answer {
+    try_append(book, used, day, record).into()
 }
 
-fn try_append(lent: &mut [u8], used: usize, record: &[u8; RECORD]) -> Result<u64, Refusal> {
-    let book = accept_append(lent, used, record)?;
+fn try_append(
+    lent: &mut [u8],
+    used: usize,
+    day: Date,
+    record: &[u8; RECORD],
+) -> Result<u64, Refusal> {
+    let book = accept_append(lent, used, day, record)?;
     Ok(rewrite(lent, used, &book))
 }
 
 /// What the book would hold with a record behind its last trade, or the first
 /// ground that refuses the append.
-fn accept_append(lent: &[u8], used: usize, record: &[u8; RECORD]) -> Result<Book, Refusal> {
-    let mut book = accept(lent, used)?;
+fn accept_append(
+    lent: &[u8],
+    used: usize,
+    day: Date,
+    record: &[u8; RECORD],
+) -> Result<Book, Refusal> {
+    let mut book = accept_on(lent, used, day)?;
     let record = Record::decode(record);
     let needs_block = book.trades.len().is_multiple_of(FULL_BLOCK);
     let end = if needs_block { used + BLOCK } else { used };
@@ -75,12 +94,12 @@ fn accept_append(lent: &[u8], used: usize, record: &[u8; RECORD]) -> Result<Book
 }
 
 /// Removes a record; the value is the new used length.
-pub fn strike(book: &mut [u8], used: usize, position: usize) -> Answer {
-    try_strike(book, used, position).into()
+pub fn strike(book: &mut [u8], used: usize, day: Date, position: usize) -> Answer {
+    try_strike(book, used, day, position).into()
 }
 
-fn try_strike(lent: &mut [u8], used: usize, position: usize) -> Result<u64, Refusal> {
-    let mut book = accept(lent, used)?;
+fn try_strike(lent: &mut [u8], used: usize, day: Date, position: usize) -> Result<u64, Refusal> {
+    let mut book = accept_on(lent, used, day)?;
     trade_at(&book, position)?;
     book.trades.remove(position);
     Ok(rewrite(lent, used, &book))
@@ -100,12 +119,12 @@ fn trade_at(book: &Book, position: usize) -> Result<Record, Refusal> {
 
 /// Adds a node to a curve, at the rate that a bond's price calls for; the
 /// value is 0.
-pub fn bootstrap(book: &mut [u8], used: usize, quote: &Quote) -> Answer {
-    try_bootstrap(book, used, quote).into()
+pub fn bootstrap(book: &mut [u8], used: usize, day: Date, quote: &Quote) -> Answer {
+    try_bootstrap(book, used, day, quote).into()
 }
 
-fn try_bootstrap(lent: &mut [u8], used: usize, quote: &Quote) -> Result<u64, Refusal> {
-    let book = accept(lent, used)?;
+fn try_bootstrap(lent: &mut [u8], used: usize, day: Date, quote: &Quote) -> Result<u64, Refusal> {
+    let book = accept_on(lent, used, day)?;
     accept_quote(quote, &book.curves).map_err(Ground::alone)?;
     let curve = &book.curves[quote.curve - 1];
     add_node(lent, curve, new_node(curve, quote));

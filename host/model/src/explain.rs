@@ -110,6 +110,7 @@ fn more_on(ground: Ground) -> Vec<String> {
             reasons::NO_INDICES,
         ]),
         Ground::FlowLimit => said(&[reasons::COUNTED_AHEAD, reasons::COUNTED_SETTLED]),
+        Ground::ValuationDay => said(&[reasons::VALUATION_DAY]),
         _ => vec![],
     }
 }
@@ -151,5 +152,6 @@ fn advice(ground: Ground) -> &'static str {
             "take a bond with a later last payment, or take a node from the curve first"
         }
         Ground::RateRange => "correct the bond or the cash: no rate makes the one worth the other",
+        Ground::ValuationDay => "take the book of the day given, or give the day of this book",
     }
 }

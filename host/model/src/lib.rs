@@ -37,5 +37,5 @@ pub use explain::rule;
 pub use fault::{BookFault, Fault, Part};
 pub use list::list;
 pub use rules::{quote_fault, record_fault};
-pub use seddolki_format::{answer, block, layout, limits, quote, record, report};
-pub use seddolki_format::{Answer, Ground, Quote, Refusal};
+pub use seddolki_format::{answer, block, date, layout, limits, quote, record, report};
+pub use seddolki_format::{Answer, Date, Ground, Quote, Refusal};

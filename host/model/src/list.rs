@@ -4,7 +4,7 @@ use crate::accept::accept;
 use crate::margin::report;
 use crate::report::{currency_name, Report};
 
-/// What the list program prints for a book's bytes.
+/// What the list program prints for a book's bytes. The day is the book's own.
 pub fn list(bytes: &[u8]) -> String {
     match accept(bytes, bytes.len()) {
         Ok(book) => lines(&report(&book)),

@@ -23,3 +23,5 @@ pub const COUNTED_AHEAD: &str =
     "where both legs are ahead, payments are flows only after value day 1 and up to value day 2";
 pub const COUNTED_SETTLED: &str =
     "where the first leg has settled, payments are flows only after value day 2";
+
+pub const VALUATION_DAY: &str = "days of curves and trades are counted from the day of the book";

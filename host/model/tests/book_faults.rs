@@ -1,8 +1,10 @@
 //! What a refused book is told, example by example.
 
+mod samples;
+
+use samples::single_payment;
 use seddolki_model::block::{assemble, seal, Curve, Node, BLOCK, CURVE};
-use seddolki_model::record::Record;
-use seddolki_model::{book_fault, BookFault, Ground};
+use seddolki_model::{book_fault, BookFault, Date, Ground};
 
 /// A curve in TRY of three nodes.
 fn curve(id: u8) -> Curve {
@@ -26,18 +28,12 @@ fn curve(id: u8) -> Curve {
 
 /// A book of three curves and 13 trades, in blocks 0 to 5.
 fn book() -> Vec<u8> {
-    let trade = Record {
-        kind: 1,
-        side: 1,
-        security_curve: 1,
-        cash_curve: 1,
-        security: 1,
-        first_payment_day: 365,
-        nominal: 100_000,
-        price_or_rate: 700_000,
-        ..Record::default()
-    };
-    assemble(7, &[1, 2, 3].map(curve), &[trade; 13])
+    assemble(
+        7,
+        Date::FIRST,
+        &[1, 2, 3].map(curve),
+        &[single_payment(); 13],
+    )
 }
 
 /// What is told of the book with some bytes of a block set.
@@ -138,12 +134,12 @@ fn a_place() {
 #[test]
 fn a_header() {
     const COUNTS: &str = "with the header, curves and trade blocks are the book's 6 blocks";
-    const BYTE: &str = "no field takes byte 12 in a header";
+    const BYTE: &str = "no field takes byte 16 in a header";
     for (at, byte, found, why) in [
         (8, 9, "curves: 9 is there, 1 to 5 is due", COUNTS),
         (8, 0, "curves: 0 is there, 1 to 5 is due", COUNTS),
         (10, 3, "trade_blocks: 3 is there, 2 is due", COUNTS),
-        (12, 5, "unnamed: 5 is there, 0 is due", BYTE),
+        (16, 5, "unnamed: 5 is there, 0 is due", BYTE),
     ] {
         let expected = format!("header (block 0), field {found}: {why}");
         assert_eq!(told(0, at, &[byte]), expected);

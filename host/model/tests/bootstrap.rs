@@ -4,7 +4,10 @@ use seddolki_model::block::{assemble, Curve, Node, BLOCK, CURVE};
 use seddolki_model::bootstrap::{bond_value, new_node};
 use seddolki_model::quote::{bond_of, BOND};
 use seddolki_model::record::Record;
-use seddolki_model::{bootstrap, check, Answer, Ground, Quote};
+use seddolki_model::{bootstrap, check, Answer, Date, Ground, Quote};
+
+/// The day that the books are for.
+const DAY: Date = Date::from_days(9_815);
 
 /// The most that an amount can be.
 const MOST: u64 = 1_000_000_000_000;
@@ -55,9 +58,9 @@ fn quote(bond: [u8; BOND], cash: u64) -> Quote {
 
 /// What the call answers, and the bytes that it leaves of a book of one curve.
 fn run(curve: &Curve, quote: &Quote) -> (Answer, Vec<u8>) {
-    let mut bytes = assemble(7, &[*curve], &[]);
+    let mut bytes = assemble(7, DAY, &[*curve], &[]);
     let used = bytes.len();
-    let answer = bootstrap(&mut bytes, used, quote);
+    let answer = bootstrap(&mut bytes, used, DAY, quote);
     (answer, bytes)
 }
 
@@ -80,7 +83,7 @@ fn gives(curve: &Curve, bond: [u8; BOND], rates: &[(u64, u32)]) {
             rate,
             components: COMPONENTS,
         };
-        let left = assemble(7, &[longer], &[]);
+        let left = assemble(7, DAY, &[longer], &[]);
         assert_eq!(run(curve, &quote), (done(), left), "cash {cash}");
         assert_eq!(new_node(curve, &quote), longer.places[2]);
     }
@@ -121,7 +124,7 @@ fn no_rate_fits() {
     let curve = flat(250_000);
     for (nominal, cash) in [(MOST, 124_999_999_999), (MOST - 1, MOST), (77, 78), (16, 1)] {
         let quote = quote(bond(1_095, 1, 0, nominal), cash);
-        let whole = assemble(7, &[curve], &[]);
+        let whole = assemble(7, DAY, &[curve], &[]);
         assert_eq!(run(&curve, &quote), (refused(Ground::RateRange), whole));
     }
 }
@@ -187,10 +190,10 @@ fn put(bytes: &mut [u8], at: usize, value: &[u8]) {
 
 #[test]
 fn the_block_that_is_written() {
-    let before = assemble(7, &[flat(250_000)], &[]);
+    let before = assemble(7, DAY, &[flat(250_000)], &[]);
     let quote = quote(bond(1_095, 1, 0, MOST), 512_000_000_000);
     let mut lent = [&before[..], &[7; BLOCK + 3]].concat();
-    assert_eq!(bootstrap(&mut lent, before.len(), &quote), done());
+    assert_eq!(bootstrap(&mut lent, before.len(), DAY, &quote), done());
     let mut expected = before.clone();
     let block = &mut expected[BLOCK..];
     put(block, 6, &[3]);
@@ -224,20 +227,20 @@ fn only_the_named_curve_grows_and_the_trades_stay() {
         price_or_rate: 700_000,
         ..Record::default()
     };
-    let mut bytes = assemble(7, &curves, &[trade; 10]);
+    let mut bytes = assemble(7, DAY, &curves, &[trade; 10]);
     let used = bytes.len();
     let quote = Quote {
         curve: 2,
         ..quote(bond(1_095, 1, 0, MOST), 125_000_000_000)
     };
-    assert_eq!(bootstrap(&mut bytes, used, &quote), done());
+    assert_eq!(bootstrap(&mut bytes, used, DAY, &quote), done());
     curves[1].node_count = 3;
     curves[1].places[2] = Node {
         day: 1_095,
         rate: 1_000_000,
         components: COMPONENTS,
     };
-    assert_eq!(bytes, assemble(7, &curves, &[trade; 10]));
+    assert_eq!(bytes, assemble(7, DAY, &curves, &[trade; 10]));
 }
 
 /// Sets a field of the bond.
@@ -272,7 +275,7 @@ fn grounds_are_tried_in_the_order_of_their_sentence() {
         }),
         (Ground::RateRange, |q| q.cash -= 1),
     ];
-    let whole = assemble(7, &[flat(250_000)], &[]);
+    let whole = assemble(7, DAY, &[flat(250_000)], &[]);
     for (ground, repair) in repairs {
         let left = run(&flat(250_000), &wrong);
         assert_eq!(left, (refused(ground), whole.clone()), "{wrong:?}");
@@ -285,12 +288,12 @@ fn grounds_are_tried_in_the_order_of_their_sentence() {
 
 #[test]
 fn a_curve_takes_up_to_24_nodes() {
-    let mut bytes = assemble(7, &[flat(250_000)], &[]);
+    let mut bytes = assemble(7, DAY, &[flat(250_000)], &[]);
     let used = bytes.len();
     for count in 3..=25 {
         let day = 365 * count;
         let quote = quote(bond(day, 1, 0, MOST), MOST / 10 * 9);
-        let answer = bootstrap(&mut bytes, used, &quote);
+        let answer = bootstrap(&mut bytes, used, DAY, &quote);
         let expected = if count <= 24 {
             done()
         } else {
@@ -322,12 +325,15 @@ fn the_last_payment_is_after_the_last_node_and_by_the_last_day() {
 
 #[test]
 fn the_answer_to_a_wrong_book_comes_first() {
-    let mut bytes = assemble(7, &[flat(250_000)], &[]);
+    let mut bytes = assemble(7, DAY, &[flat(250_000)], &[]);
     let used = bytes.len();
     bytes[BLOCK + 21] ^= 1;
     let before = bytes.clone();
-    let answer = bootstrap(&mut bytes, used, &Quote::default());
+    let answer = bootstrap(&mut bytes, used, DAY, &Quote::default());
     assert_eq!(answer, Err(Ground::Check.in_block(1)).into());
-    assert_eq!(bootstrap(&mut bytes, used - 1, &Quote::default()).number, 1);
+    assert_eq!(
+        bootstrap(&mut bytes, used - 1, DAY, &Quote::default()).number,
+        1
+    );
     assert_eq!(bytes, before);
 }

@@ -47,6 +47,10 @@ fn a_rule_has_the_limits_of_its_fields() {
         (Ground::CurveEnd, "node_count: 2 to 24, nodes of"),
         (Ground::RateRange, "cash: 0.01 to 10,000,000,000.00, what"),
         (Ground::RateRange, "rate: 0.0000% to 100.0000%, the rate"),
+        (
+            Ground::ValuationDay,
+            "days of curves and trades are counted from the day of the book\n",
+        ),
     ] {
         let rule = rule(ground);
         assert!(rule.contains(&format!("\n  {line}")), "{rule}");

@@ -1,5 +1,8 @@
 //! What a refused record is told, example by example.
 
+mod samples;
+
+use samples::single_payment;
 use seddolki_model::block::Curve;
 use seddolki_model::record::Record;
 use seddolki_model::{record_fault, Ground};
@@ -15,16 +18,8 @@ fn curves() -> [Curve; 3] {
 /// A buyer's trade with a single payment.
 fn single() -> Record {
     Record {
-        kind: 1,
-        side: 1,
-        security_curve: 1,
-        cash_curve: 1,
-        security: 1,
         value_day_1: 1,
-        first_payment_day: 365,
-        nominal: 100_000,
-        price_or_rate: 700_000,
-        ..Record::default()
+        ..single_payment()
     }
 }
 

@@ -5,9 +5,12 @@ use seddolki_model::accept::{accept, Book};
 use seddolki_model::block::{assemble, Curve, Node, BLOCK, CURVE};
 use seddolki_model::exact::exact_valuation;
 use seddolki_model::layout::Layout;
-use seddolki_model::margin;
 use seddolki_model::record::{Record, COUPONS, FIRST_SIDE, SECOND_SIDE, SPECIFIED};
 use seddolki_model::report::Report;
+use seddolki_model::{margin, Date};
+
+/// The day that the books are for.
+const DAY: Date = Date::from_days(9_815);
 
 /// Three scenarios. The component moves the nodes by its double, so that the
 /// last scenario takes a rate of 100% to 0.
@@ -35,7 +38,7 @@ fn curve(id: u8, rate: u32, component: i32) -> Curve {
 /// scenario 2 at 0.
 fn book_of(trade: Record) -> Book {
     let curves = [curve(1, 0, 0), curve(2, 1_000_000, -1_000_000)];
-    let bytes = assemble(7, &curves, &[trade]);
+    let bytes = assemble(7, DAY, &curves, &[trade]);
     accept(&bytes, bytes.len()).expect("the trade keeps the rules")
 }
 
@@ -62,9 +65,9 @@ fn repo(side: u8) -> Record {
 }
 
 fn report_of(book: &Book) -> Report {
-    let bytes = assemble(book.account, &book.curves, &book.trades);
+    let bytes = assemble(book.account, DAY, &book.curves, &book.trades);
     let mut space = [0; BLOCK];
-    assert_eq!(margin(&bytes, bytes.len(), &mut space).number, 0);
+    assert_eq!(margin(&bytes, bytes.len(), DAY, &mut space).number, 0);
     Report::decode(&space)
 }
 

@@ -1,0 +1,70 @@
+//! The day that a call is given: every case of another one than the book's,
+//! and figures that do not depend on it.
+
+use seddolki_books::{
+    assemble, draw_book, draw_other_day, draw_other_day_case, Call, DayCase, Draw, Endings,
+    OtherDay,
+};
+use seddolki_compare::{assert_alike, books, calls, is_whole, margin_case, Proved, Seeds};
+use seddolki_model::accept::Book;
+use seddolki_model::block::valuation_day;
+use seddolki_model::Ground;
+
+/// Bounds the time of a margin.
+const WORK: usize = 300;
+
+/// The calls that are given a day.
+const CALLS: [&str; 5] = ["margin", "preview", "append", "strike", "bootstrap"];
+
+#[test]
+fn another_day_is_refused_alike_in_every_case_and_nothing_is_written() {
+    let seeds = Seeds::of_this_run();
+    let (mut reached, mut differed) = (Endings::default(), Endings::default());
+    for number in 0..calls() / 3 {
+        let case = draw_other_day_case(&mut seeds.draw(number), WORK);
+        let outcome = assert_alike(&case, number);
+        let Some(day_case) = DayCase::of(&case, &Proved) else {
+            continue;
+        };
+        let answered = Ground::from_number(outcome.answer.number);
+        assert_eq!(answered, Some(day_case.ground()), "case {number}");
+        assert!(outcome.after == case, "case {number}");
+        reached.add(day_case);
+        if answered == Some(Ground::ValuationDay) {
+            assert_eq!(outcome.answer.value, 0, "case {number}");
+            let other = OtherDay::of(valuation_day(&case.lent), case.day);
+            differed.add((case.call.name(), other.expect("another day")));
+        }
+    }
+    reached.assert_all(DayCase::all(), is_whole().into());
+    let all = CALLS
+        .into_iter()
+        .flat_map(|call| OtherDay::ALL.map(|other| (call, other)));
+    differed.assert_all(all, is_whole().into());
+}
+
+/// The report of a book on its own day.
+fn report_of(book: &Book, number: u64) -> Vec<u8> {
+    let case = margin_case(&mut Draw::new(number), assemble(book));
+    let outcome = assert_alike(&case, number);
+    assert_eq!(outcome.answer.number, 0);
+    let Call::Margin { report } = outcome.after.call else {
+        unreachable!("a margin was asked for");
+    };
+    report
+}
+
+#[test]
+fn the_same_book_of_another_day_has_the_same_report() {
+    let seeds = Seeds::of_this_run();
+    for number in 0..books() / 10 {
+        let mut draw = seeds.draw(number);
+        let book = draw_book(&mut draw, WORK);
+        let valuation_day = draw_other_day(&mut draw, book.valuation_day);
+        let other = Book {
+            valuation_day,
+            ..book.clone()
+        };
+        assert!(report_of(&book, number) == report_of(&other, number));
+    }
+}
