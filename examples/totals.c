@@ -1,12 +1,12 @@
-/* Prints the totals of a book: totals BOOK */
+/* Prints the totals of a book on a day: totals BOOK DATE, the date as 2026-11-16 */
 #include "seddolki.h"
 
 #include <inttypes.h>
 #include <stdio.h>
 #include <stdlib.h>
 
-#if SEDDOLKI_VERSION != 3
-#error "this program is written for version 3 of seddolki.h"
+#if SEDDOLKI_VERSION != 4
+#error "this program is written for version 4 of seddolki.h"
 #endif
 
 /* A file that is longer than the largest book is refused by its length. */
@@ -27,6 +27,17 @@ static size_t load(const char *name) {
     return used;
 }
 
+/* The days from 1 January 2000 to a date. */
+static uint32_t day_of(const char *date) {
+    unsigned year, month, day_of_month;
+    uint32_t day;
+    char more;
+    int parts = sscanf(date, "%4u-%2u-%2u%c", &year, &month, &day_of_month, &more);
+    if (parts == 3 && seddolki_day_of(year, month, day_of_month, &day)) return day;
+    fprintf(stderr, "%s: not a date as 2026-11-16\n", date);
+    exit(1);
+}
+
 static void print_totals(const seddolki_report *report) {
     static const char *const names[SEDDOLKI_MAX_CURRENCIES] = {"TRY", "USD", "EUR"};
     for (int i = 0; i < SEDDOLKI_MAX_CURRENCIES; i++) {
@@ -44,11 +55,12 @@ static void close_output(void) {
 }
 
 int main(int count, char **names) {
-    if (count != 2) return fprintf(stderr, "usage: totals BOOK\n"), 1;
+    if (count != 3) return fprintf(stderr, "usage: totals BOOK DATE\n"), 1;
+    uint32_t day = day_of(names[2]);
     size_t used = load(names[1]);
     seddolki_report report;
     seddolki_answer answer =
-        seddolki_margin(book, sizeof book, used, (uint8_t *)&report, sizeof report);
+        seddolki_margin(book, sizeof book, used, day, (uint8_t *)&report, sizeof report);
     if (answer.number != SEDDOLKI_DONE) {
         fprintf(stderr, "%s: refused by ground %" PRIu64 " in block %" PRIu64 "\n", names[1],
                 answer.number, answer.value);

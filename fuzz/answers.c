@@ -3,7 +3,7 @@
 #include <stdio.h>
 #include <stdlib.h>
 
-enum { ANSWERS = SEDDOLKI_RATE_RANGE + 1 };
+enum { ANSWERS = SEDDOLKI_VALUATION_DAY + 1 };
 
 /* Each call, ground and block; of a call that is done, whether the book's length changes. */
 KEPT reached[CALLS][ANSWERS][16];

@@ -5,6 +5,7 @@
 #include "answers.h"
 #include "bond.h"
 #include "calls.h"
+#include "day.h"
 #include "held.h"
 #include "lent.h"
 
@@ -56,7 +57,7 @@ static void expect_lengthened(const input *in, uint8_t *book, size_t id) {
     expect(seddolki_check(book, in->len, in->used).number == 0, "a lengthened book is accepted");
     uint8_t *report = lend(2, due.bytes, sizeof due);
     expect(!is_quick(book, in->used) ||
-               !seddolki_margin(book, in->len, in->used, report, sizeof due).number,
+               !seddolki_margin(book, in->len, in->used, in->day, report, sizeof due).number,
            "a lengthened book has a margin");
     note_lengthened(before->node_count, rate);
 }
@@ -72,7 +73,7 @@ static void expect_not_to_fit(const input *in, uint64_t ground, size_t id) {
            "by 18 no rate fits the cash");
 }
 
-void try_bootstrap(const input *in, seddolki_answer checked) {
+void try_bootstrap(const input *in, seddolki_answer due) {
     const input_head *head = in->head;
     const int32_t components[] = {seddolki_get_i32(&head->components[0]),
                                   seddolki_get_i32(&head->components[1]),
@@ -82,14 +83,16 @@ void try_bootstrap(const input *in, seddolki_answer checked) {
     uint8_t *book = lend(0, in->lent, in->len), *bond = lend(1, given, SEDDOLKI_BOND);
     seddolki_answer answer =
         seen(BOOTSTRAP,
-             seddolki_bootstrap(book, in->len, in->used, id, bond, seddolki_get_u64(&head->cash),
-                                components[0], components[1], components[2]));
+             seddolki_bootstrap(book, in->len, in->used, in->day, id, bond,
+                                seddolki_get_u64(&head->cash), components[0], components[1],
+                                components[2]));
     expect(!memcmp(bond, given, SEDDOLKI_BOND), "bootstrap leaves the bond");
-    expect(!checked.number || same(answer, checked), "bootstrap refuses what check refuses");
-    expect(checked.number || answer.value == 0, "bootstrap names no block of an accepted book");
+    expect_due(answer, due, "bootstrap refuses what check refuses, and another day");
+    expect(due.number || answer.value == 0, "bootstrap names no block of an accepted book");
     if (answer.number) {
         expect(!memcmp(book, in->lent, in->len), "a refused bootstrap writes nothing");
-        if (answer.number >= SEDDOLKI_CURVE_END) expect_not_to_fit(in, answer.number, id);
+        if (answer.number == SEDDOLKI_CURVE_END || answer.number == SEDDOLKI_RATE_RANGE)
+            expect_not_to_fit(in, answer.number, id);
         return;
     }
     expect_lengthened(in, book, id);

@@ -5,6 +5,7 @@
 #include "calls.h"
 
 #include "answers.h"
+#include "day.h"
 #include "flows.h"
 #include "held.h"
 #include "lent.h"
@@ -29,14 +30,14 @@ static void expect_sums(const uint8_t *book, size_t used, const seddolki_report 
     }
 }
 
-static void try_margin(const input *in, seddolki_answer checked) {
+static void try_margin(const input *in, seddolki_answer due) {
     uint8_t *book = lend(0, in->lent, in->len);
-    if (checked.number == 0 && !is_quick(book, in->used)) return;
+    if (due.number == 0 && !is_quick(book, in->used)) return;
     uint8_t *report = lend_painted(1, in->report_len);
     seddolki_answer answer =
-        seen(MARGIN, seddolki_margin(book, in->len, in->used, report, in->report_len));
+        seen(MARGIN, seddolki_margin(book, in->len, in->used, in->day, report, in->report_len));
     expect(!memcmp(book, in->lent, in->len), "margin leaves the book");
-    expect(!checked.number || same(answer, checked), "margin refuses what check refuses");
+    expect_due(answer, due, "margin refuses what check refuses, and another day");
     if (answer.number) {
         expect(is_painted(report, in->report_len), "a refused margin writes nothing");
         return;
@@ -53,22 +54,23 @@ static void try_margin(const input *in, seddolki_answer checked) {
     expect_sums(book, in->used, &block->report);
 }
 
-static void try_read(const input *in, seddolki_answer checked) {
+static void try_read(const input *in, seddolki_answer due) {
     uint8_t *book = lend(0, in->lent, in->len);
     uint8_t *record = lend(1, in->record, SEDDOLKI_RECORD);
     seddolki_answer answer =
         seen(READ, seddolki_read(book, in->len, in->used, in->position, record));
     expect(!memcmp(book, in->lent, in->len), "read leaves the book");
-    expect(!checked.number || same(answer, checked), "read refuses what check refuses");
+    expect_due(answer, due, "read refuses what check refuses");
     expect(!answer.number || all_zero(record, SEDDOLKI_RECORD), "a refused read gives zeros");
 }
 
-static void try_append(const input *in, seddolki_answer checked) {
+static void try_append(const input *in, seddolki_answer due) {
     uint8_t *book = lend(0, in->lent, in->len);
     uint8_t *record = lend(1, in->record, SEDDOLKI_RECORD);
-    seddolki_answer answer = seen(APPEND, seddolki_append(book, in->len, in->used, record));
+    seddolki_answer answer =
+        seen(APPEND, seddolki_append(book, in->len, in->used, in->day, record));
     expect(!memcmp(record, in->record, SEDDOLKI_RECORD), "append leaves the record");
-    expect(!checked.number || same(answer, checked), "append refuses what check refuses");
+    expect_due(answer, due, "append refuses what check refuses, and another day");
     if (answer.number) {
         expect(!memcmp(book, in->lent, in->len), "a refused append writes nothing");
         return;
@@ -78,6 +80,7 @@ static void try_append(const input *in, seddolki_answer checked) {
     note_length(APPEND, in->used, used);
     expect(!memcmp(book + used, in->lent + used, in->len - used), "bytes behind stay");
     expect(seddolki_check(book, in->len, used).number == 0, "an appended book is accepted");
+    expect_same_day(in, book);
     note_held(book, used);
     size_t blocks = seddolki_get_u16(&blocks_of(book)->header.trade_blocks);
     size_t count = blocks_of(book + used - SEDDOLKI_BLOCK)->trades.count;
@@ -86,15 +89,16 @@ static void try_append(const input *in, seddolki_answer checked) {
     memset(again, 0, SEDDOLKI_RECORD);
     expect(seddolki_read(book, in->len, used, last, again).number == 0, "a new record is read");
     expect(!memcmp(again, in->record, SEDDOLKI_RECORD), "a new record is the one given");
-    seddolki_answer struck = seddolki_strike(book, in->len, used, last);
+    seddolki_answer struck = seddolki_strike(book, in->len, used, in->day, last);
     expect(struck.number == 0 && struck.value == in->used, "a new record is struck");
     expect(!memcmp(book, in->lent, in->used), "append and strike cancel");
 }
 
-static void try_strike(const input *in, seddolki_answer checked) {
+static void try_strike(const input *in, seddolki_answer due) {
     uint8_t *book = lend(0, in->lent, in->len);
-    seddolki_answer answer = seen(STRIKE, seddolki_strike(book, in->len, in->used, in->position));
-    expect(!checked.number || same(answer, checked), "strike refuses what check refuses");
+    seddolki_answer answer =
+        seen(STRIKE, seddolki_strike(book, in->len, in->used, in->day, in->position));
+    expect_due(answer, due, "strike refuses what check refuses, and another day");
     if (answer.number) {
         expect(!memcmp(book, in->lent, in->len), "a refused strike writes nothing");
         return;
@@ -105,10 +109,11 @@ static void try_strike(const input *in, seddolki_answer checked) {
     expect(all_zero(book + used, in->used - used), "a block left empty becomes zeros");
     expect(!memcmp(book + in->used, in->lent + in->used, in->len - in->used), "bytes behind stay");
     expect(seddolki_check(book, in->len, used).number == 0, "a struck book is accepted");
+    expect_same_day(in, book);
 }
 
-static void try_present_value(const input *in, seddolki_answer checked) {
-    (void)checked;
+static void try_present_value(const input *in, seddolki_answer due) {
+    (void)due;
     uint64_t amount = seddolki_get_u64(&in->head->amount), rate = seddolki_get_u64(&in->head->rate);
     uint64_t day = seddolki_get_u64(&in->head->day), tolerance = 7;
     seddolki_answer answer =
@@ -124,6 +129,7 @@ static input parse(const uint8_t *data, size_t size) {
     in.position = seddolki_get_u32(&head->position);
     in.report_len = seddolki_get_u16(&head->report_len) % PAINTED_MOST;
     in.used = in.len - seddolki_get_u32(&head->behind);
+    in.day = valuation_day(in.lent, in.len) ^ seddolki_get_u32(&head->days_apart);
     return in;
 }
 
@@ -138,8 +144,9 @@ static void try_calls(const input *in, seddolki_answer checked) {
         [STRIKE] = try_strike,       [READ] = try_read,     [PRESENT_VALUE] = try_present_value,
         [BOOTSTRAP] = try_bootstrap,
     };
+    seddolki_answer on_day = due_on_day(in, checked);
     for (int call = CHECK + 1; call < CALLS; call++)
-        if (ALONE == CALLS || ALONE == call) tries[call](in, checked);
+        if (ALONE == CALLS || ALONE == call) tries[call](in, call == READ ? checked : on_day);
 }
 
 int LLVMFuzzerTestOneInput(const uint8_t *data, size_t size) {
@@ -149,6 +156,7 @@ int LLVMFuzzerTestOneInput(const uint8_t *data, size_t size) {
     seddolki_answer checked = seen(CHECK, seddolki_check(book, in.len, in.used));
     expect(!memcmp(book, in.lent, in.len), "check leaves the book");
     expect(checked.number || checked.value == 0, "an accepted book has value 0");
+    expect(checked.number <= SEDDOLKI_FLOW_LIMIT, "check refuses by 1 to 12");
     if (checked.number == 0) note_held(book, in.used);
     try_calls(&in, checked);
     return 0;

@@ -5,8 +5,8 @@
 #include "input.h"
 #include "seddolki.h"
 
-/* `checked` is what the check of the input's book has answered. */
-typedef void try_call(const input *in, seddolki_answer checked);
+/* `due` is how the call is to refuse the input's book, number 0 where it is not. */
+typedef void try_call(const input *in, seddolki_answer due);
 
 try_call try_bootstrap, try_preview;
 

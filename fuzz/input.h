@@ -17,6 +17,8 @@ typedef struct {
     seddolki_bond bond;                           /* 96 */
     seddolki_u64 cash;                            /* 116 */
     seddolki_i32 components[SEDDOLKI_COMPONENTS]; /* 124 */
+    seddolki_u32 days_apart;                      /* 136: the bits in which the current day
+                                                          differs from the book's */
 } input_head;
 
 enum { HEAD = sizeof(input_head) };
@@ -26,6 +28,7 @@ typedef struct {
     const input_head *head;
     const uint8_t *record, *lent;
     size_t len, used, position, report_len;
+    uint32_t day;
 } input;
 
 #endif

@@ -7,7 +7,7 @@ static void mend_header(seddolki_header *header, size_t blocks) {
     header->kind = SEDDOLKI_HEADER_KIND;
     header->zero_after_kind = 0;
     if (curves < blocks) seddolki_set_u16(&header->trade_blocks, (uint16_t)(blocks - 1 - curves));
-    CLEAR(header->zero_after_trade_blocks);
+    CLEAR(header->zero_after_valuation_day);
 }
 
 static void mend_curve(seddolki_curve *curve, size_t id) {

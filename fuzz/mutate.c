@@ -1,10 +1,10 @@
 /*
  * Changes inputs so that many get past the length, the checks and the rules
- * of a book: one time in nine any bytes change, otherwise a field in its
- * place, a whole record, the days of its payments, the bond and its cash, or
- * the lengths that are lent.
- * The length of the book, the places of its blocks and their checks are then
- * mended.
+ * of a book: one time in ten any bytes change, otherwise a field in its
+ * place, a whole record, the days of its payments, the bond and its cash, the
+ * day that the book is for or the current day, or the lengths that are lent.
+ * The current day is that of the book most times. The length of the book, the
+ * places of its blocks and their checks are then mended.
  */
 #include "bond.h"
 #include "input.h"
@@ -145,6 +145,15 @@ static void quote_bond(uint8_t *data, size_t blocks, uint64_t *state) {
                          (int32_t)draw(state, 2 * SEDDOLKI_MAX_COMPONENT) - SEDDOLKI_MAX_COMPONENT);
 }
 
+/* Changes bytes of the day that the book is for, or of the current day, at times one alone. */
+static void change_day(uint8_t *data, size_t blocks, uint64_t *state) {
+    int of_book = blocks && draw(state, 2);
+    seddolki_u32 *day =
+        of_book ? &block_at(data, 0)->header.valuation_day : &head_of(data)->days_apart;
+    for (size_t left = draw(state, 2) ? 1 : sizeof day->bytes; left; left--)
+        day->bytes[draw(state, sizeof day->bytes)] = (uint8_t)draw(state, 256);
+}
+
 /* Gives what is lent behind the book, or for the report, a length at which an answer may change. */
 static size_t move_end(uint8_t *data, size_t size, size_t most, uint64_t *state) {
     static const uint16_t ends[] = {0, 1, SEDDOLKI_BLOCK - 1, SEDDOLKI_BLOCK, SEDDOLKI_BLOCK + 1};
@@ -180,8 +189,9 @@ static size_t mend(uint8_t *data, size_t size, uint64_t *state) {
 
 size_t LLVMFuzzerCustomMutator(uint8_t *data, size_t size, size_t most, unsigned seed) {
     uint64_t state = seed;
-    size_t way = size < HEAD ? 0 : draw(&state, 9);
+    size_t way = size < HEAD ? 0 : draw(&state, 10);
     size_t blocks = size < HEAD ? 0 : used_of(data, size) / SEDDOLKI_BLOCK;
+    if (size >= HEAD && draw(&state, 8)) seddolki_set_u32(&head_of(data)->days_apart, 0);
     switch (way) {
     case 0: size = LLVMFuzzerMutate(data, size, most); break;
     case 1: put_record(data, blocks); break;
@@ -189,6 +199,7 @@ size_t LLVMFuzzerCustomMutator(uint8_t *data, size_t size, size_t most, unsigned
     case 3: quote_bond(data, blocks, &state); break;
     case 4: size = move_end(data, size, most, &state); break;
     case 5: move_some_payments(data, blocks, &state); break;
+    case 6: change_day(data, blocks, &state); break;
     default: change_some_field(data, blocks, &state);
     }
     return size < HEAD ? size : mend(data, size, &state);

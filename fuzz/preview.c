@@ -5,6 +5,7 @@
  */
 #include "answers.h"
 #include "calls.h"
+#include "day.h"
 #include "held.h"
 #include "lent.h"
 
@@ -25,7 +26,7 @@ static void note_previewed(const input *in, const uint8_t *longer, size_t used) 
 static void expect_margin(const input *in, const uint8_t *longer, size_t used,
                           seddolki_answer answer, const uint8_t *report) {
     uint8_t *due = lend_painted(1, in->report_len);
-    seddolki_answer margin = seddolki_margin(longer, in->len, used, due, in->report_len);
+    seddolki_answer margin = seddolki_margin(longer, in->len, used, in->day, due, in->report_len);
     expect(same(answer, margin), "preview answers as margin does after the append");
     expect(!memcmp(report, due, in->report_len), "preview shows the margin after the append");
     if (answer.number) return;
@@ -35,17 +36,17 @@ static void expect_margin(const input *in, const uint8_t *longer, size_t used,
     note_worst(&blocks_of(report)->report);
 }
 
-void try_preview(const input *in, seddolki_answer checked) {
+void try_preview(const input *in, seddolki_answer due) {
     uint8_t *longer = lend(3, in->lent, in->len);
-    seddolki_answer appended = seddolki_append(longer, in->len, in->used, in->record);
+    seddolki_answer appended = seddolki_append(longer, in->len, in->used, in->day, in->record);
     if (appended.number == 0 && !is_quick(longer, appended.value)) return;
     uint8_t *book = lend(0, in->lent, in->len), *record = lend(1, in->record, SEDDOLKI_RECORD);
     uint8_t *report = lend_painted(2, in->report_len);
-    seddolki_answer answer =
-        seen(PREVIEW, seddolki_preview(book, in->len, in->used, record, report, in->report_len));
+    seddolki_answer answer = seen(PREVIEW, seddolki_preview(book, in->len, in->used, in->day,
+                                                            record, report, in->report_len));
     expect(!memcmp(book, in->lent, in->len), "preview leaves the book");
     expect(!memcmp(record, in->record, SEDDOLKI_RECORD), "preview leaves the record");
-    expect(!checked.number || same(answer, checked), "preview refuses what check refuses");
+    expect_due(answer, due, "preview refuses what check refuses, and another day");
     expect(!answer.number || is_painted(report, in->report_len),
            "a refused preview writes nothing");
     expect(!appended.number || same(answer, appended), "preview refuses what append refuses");

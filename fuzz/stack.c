@@ -16,6 +16,7 @@ enum { STACK = 4 << 20, PAINT = 0xa5, CALLS = 8 };
 
 static uint8_t book[SEDDOLKI_LARGEST_BOOK + SEDDOLKI_BLOCK], report[SEDDOLKI_BLOCK];
 static size_t used;
+static uint32_t day;
 
 static void *none(void *unused) { return unused; }
 
@@ -25,7 +26,7 @@ static void *check(void *unused) {
 }
 
 static void *margin(void *unused) {
-    seddolki_margin(book, sizeof book, used, report, sizeof report);
+    seddolki_margin(book, sizeof book, used, day, report, sizeof report);
     return unused;
 }
 
@@ -37,20 +38,20 @@ static void *read_first(void *unused) {
 }
 
 static void *append_it(void *unused) {
-    seddolki_append(book, sizeof book, used, record);
+    seddolki_append(book, sizeof book, used, day, record);
     return unused;
 }
 
 static void *strike_first(void *unused) {
-    seddolki_strike(book, sizeof book, used, 0);
+    seddolki_strike(book, sizeof book, used, day, 0);
     return unused;
 }
 
 /* The trade is struck before, which needs less, so that a full book has room for it. */
 static void *preview_first(void *unused) {
-    seddolki_answer struck = seddolki_strike(book, sizeof book, used, 0);
+    seddolki_answer struck = seddolki_strike(book, sizeof book, used, day, 0);
     if (struck.number == SEDDOLKI_DONE)
-        seddolki_preview(book, sizeof book, struck.value, record, report, sizeof report);
+        seddolki_preview(book, sizeof book, struck.value, day, record, report, sizeof report);
     return unused;
 }
 
@@ -77,7 +78,7 @@ static seddolki_bond bond;
 static uint64_t cash;
 
 static void *bootstrap_first(void *unused) {
-    seddolki_bootstrap(book, sizeof book, used, 1, (const uint8_t *)&bond, cash, 0, 0, 0);
+    seddolki_bootstrap(book, sizeof book, used, day, 1, (const uint8_t *)&bond, cash, 0, 0, 0);
     return unused;
 }
 
@@ -104,7 +105,9 @@ static void load(const char *name) {
     if (!file) perror(name), exit(1);
     used = fread(book, 1, SEDDOLKI_LARGEST_BOOK, file);
     fclose(file);
-    const seddolki_curve *curve = &((const seddolki_block *)book)[1].curve;
+    const seddolki_block *blocks = (const seddolki_block *)book;
+    const seddolki_curve *curve = &blocks[1].curve;
+    day = seddolki_get_u32(&blocks->header.valuation_day);
     if (curve->node_count < SEDDOLKI_MIN_NODES || curve->node_count >= SEDDOLKI_MAX_NODES) return;
     bond = longest_bond(curve);
     seddolki_curve longer = lengthened(curve, &bond, 132500);

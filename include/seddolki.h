@@ -4,9 +4,15 @@
  * A book is 2 to 128 blocks of 512 bytes: a header, 1 to 8 curves, then the
  * trades, nine records of 56 bytes to a block. The caller lends the bytes:
  * `book` points at `len` of them, and the book is the first `used`. Money is
- * in whole hundredths of its currency, rates and prices are in millionths,
- * days are counted from today, day 0. The second half of this file has the
- * layouts of the blocks, and functions that get and set their fields.
+ * in whole hundredths of its currency, rates and prices are in millionths. The
+ * second half of this file has the layouts of the blocks, functions that get
+ * and set their fields, and one that counts the days to a date.
+ *
+ * A book is for one day, its valuation day: the header has it, in days since
+ * 1 January 2000. The days of curves and trades are counted from there, so it
+ * is day 0. Margin, preview, append, strike and bootstrap are given the
+ * current day as `day`, in days since 1 January 2000 too, and refuse a book
+ * that is for another day. Edits keep the day that the book has.
  *
  * Every function returns; none allocates, keeps a pointer, reads or writes a
  * file, or holds state between calls. Calls on different bytes may run at
@@ -16,7 +22,8 @@
  * `curve`, `cash` and of the components may be passed.
  *
  * Every function that is lent a book looks at all of it first, and refuses
- * it by the first of grounds 1 to 12 that applies.
+ * it by the first of grounds 1 to 12 that applies; then, where it is given the
+ * current day, by 19.
  */
 #ifndef SEDDOLKI_H
 #define SEDDOLKI_H
@@ -34,14 +41,14 @@ extern "C" {
  * has. The next version may change the parameters of a function, or leave them
  * and change which books are accepted and what they mean. A program that says
  *
- *     #if SEDDOLKI_VERSION != 3
- *     #error "this program is written for version 3 of seddolki.h"
+ *     #if SEDDOLKI_VERSION != 4
+ *     #error "this program is written for version 4 of seddolki.h"
  *     #endif
  *
  * does not compile with another. The archive has no number: it is to be the
  * one that was made with the header.
  */
-#define SEDDOLKI_VERSION 3
+#define SEDDOLKI_VERSION 4
 
 /* Bytes of a block, and of a report. */
 #define SEDDOLKI_BLOCK 512
@@ -61,7 +68,7 @@ extern "C" {
  * number  0: done. Otherwise the ground on which the call was refused.
  * value   If done: the result that the function names, else 0. If refused:
  *         the block that the ground was found in, counted from 0; for a new
- *         record, the block that it would take; 0 for grounds 1 and 13 to 18,
+ *         record, the block that it would take; 0 for grounds 1 and 13 to 19,
  *         and for what a bootstrap is given beside the book.
  */
 typedef struct {
@@ -71,10 +78,10 @@ typedef struct {
 
 /*
  * The grounds of refusal, in the order in which they are tried: the length
- * first, then block by block, and in a trade block record by record; then a
- * new record, by 8 to 12; then 13, 14 or 15, of which a preview alone has two,
- * 15 before 13. 16 is of the present value alone, 17 and 18 are of the
- * bootstrap, which says its own order.
+ * first, then block by block, and in a trade block record by record; then 19,
+ * where the current day is given; then a new record, by 8 to 12; then 13, 14 or
+ * 15, of which a preview alone has two, 15 before 13. 16 is of the present
+ * value alone, 17 and 18 are of the bootstrap, which says its own order.
  */
 enum {
     SEDDOLKI_DONE = 0,
@@ -113,7 +120,9 @@ enum {
     /* The curve has 24 nodes, or the bond's last payment is not after its last node. */
     SEDDOLKI_CURVE_END = 17,
     /* Even at rate 1,000,000 the bond is worth more than the cash, or even at 0 less. */
-    SEDDOLKI_RATE_RANGE = 18
+    SEDDOLKI_RATE_RANGE = 18,
+    /* The book's valuation day is not the current day. */
+    SEDDOLKI_VALUATION_DAY = 19
 };
 
 /*
@@ -130,10 +139,10 @@ seddolki_answer seddolki_check(const uint8_t *book, size_t len, size_t used);
  * curve the base value, the worst loss, its scenario, the currency and the
  * tolerance; for each currency the initial, the variation and the total.
  * Bytes of `report` past the 512th keep their values.
- * Refused: 1 to 12, then 13. Nothing is written. The book is never written.
+ * Refused: 1 to 12, 19, then 13. Nothing is written. The book is never written.
  */
-seddolki_answer seddolki_margin(const uint8_t *book, size_t len, size_t used, uint8_t *report,
-                                size_t report_len);
+seddolki_answer seddolki_margin(const uint8_t *book, size_t len, size_t used, uint32_t day,
+                                uint8_t *report, size_t report_len);
 
 /*
  * Adds a record behind the last trade, in a new block where the last is full
@@ -141,23 +150,23 @@ seddolki_answer seddolki_margin(const uint8_t *book, size_t len, size_t used, ui
  *
  * Done: value is the new used length. Written are the header, the block that
  * took the record, and nothing else: bytes behind the book keep their values.
- * Refused: 1 to 12 for the book, 8 to 12 for the record, then 15. Nothing is
- * written. `record` is never written.
+ * Refused: 1 to 12 and 19 for the book, 8 to 12 for the record, then 15.
+ * Nothing is written. `record` is never written.
  */
-seddolki_answer seddolki_append(uint8_t *book, size_t len, size_t used,
+seddolki_answer seddolki_append(uint8_t *book, size_t len, size_t used, uint32_t day,
                                 const uint8_t record[SEDDOLKI_RECORD]);
 
 /*
  * The margin of a book as it would be with one more trade: what an append and
- * then a margin give on a copy of the book, in as many lent bytes.
+ * then a margin give on a copy of the book, in as many lent bytes, on that day.
  *
  * Done: value 0, and the first 512 bytes of `report` are the report. Bytes of
  * `report` past the 512th keep their values.
- * Refused: as an append, by 1 to 12 for the book, 8 to 12 for the record and
- * 15, although no new block is written here; then 13. Nothing is written. The
- * book and `record` are never written.
+ * Refused: as an append, by 1 to 12 and 19 for the book, 8 to 12 for the record
+ * and 15, although no new block is written here; then 13. Nothing is written.
+ * The book and `record` are never written.
  */
-seddolki_answer seddolki_preview(const uint8_t *book, size_t len, size_t used,
+seddolki_answer seddolki_preview(const uint8_t *book, size_t len, size_t used, uint32_t day,
                                  const uint8_t record[SEDDOLKI_RECORD], uint8_t *report,
                                  size_t report_len);
 
@@ -167,9 +176,10 @@ seddolki_answer seddolki_preview(const uint8_t *book, size_t len, size_t used,
  * Done: value is the new used length. A block left empty becomes zeros, and
  * the used length falls by 512. Bytes behind the used length that was passed
  * keep their values.
- * Refused: 1 to 12, then 14. Nothing is written.
+ * Refused: 1 to 12, 19, then 14. Nothing is written.
  */
-seddolki_answer seddolki_strike(uint8_t *book, size_t len, size_t used, size_t position);
+seddolki_answer seddolki_strike(uint8_t *book, size_t len, size_t used, uint32_t day,
+                                size_t position);
 
 /*
  * Gives the trade at a position, counted from 0.
@@ -182,7 +192,7 @@ seddolki_answer seddolki_read(const uint8_t *book, size_t len, size_t used, size
                               uint8_t record[SEDDOLKI_RECORD]);
 
 /*
- * What an amount on a day is worth today, at a yearly rate compounded yearly.
+ * What an amount on a day is worth on day 0, at a yearly rate compounded yearly.
  *
  * Done: value is the present value, rounded down, and `*tolerance` is how far
  * from it the exact value may be.
@@ -201,13 +211,13 @@ seddolki_answer seddolki_present_value(uint64_t amount, uint64_t rate, uint64_t 
  *
  * Done: value 0. Written are the node, the node count and the check in the
  * block of the curve, and nothing else.
- * Refused: 1 to 12 for the book; then 8 for a curve that it lacks, 9, 10 and
- * 12 for the bond, 6 for the components, 10 for the cash, 17, 18, each of
+ * Refused: 1 to 12 and 19 for the book; then 8 for a curve that it lacks, 9, 10
+ * and 12 for the bond, 6 for the components, 10 for the cash, 17, 18, each of
  * these with block 0. Nothing is written. `bond` is never written.
  */
-seddolki_answer seddolki_bootstrap(uint8_t *book, size_t len, size_t used, size_t curve,
-                                   const uint8_t bond[SEDDOLKI_BOND], uint64_t cash, int32_t first,
-                                   int32_t second, int32_t third);
+seddolki_answer seddolki_bootstrap(uint8_t *book, size_t len, size_t used, uint32_t day,
+                                   size_t curve, const uint8_t bond[SEDDOLKI_BOND], uint64_t cash,
+                                   int32_t first, int32_t second, int32_t third);
 
 #ifdef __cplusplus
 }
@@ -324,14 +334,15 @@ typedef struct {
 
 /* Block 0. The blocks of a book are 1 + curves + trade_blocks, at most MAX_BLOCKS. */
 typedef struct {
-    uint8_t kind;                         /* 0: HEADER_KIND */
-    uint8_t zero_after_kind;              /* 1 */
-    seddolki_u16 number;                  /* 2: 0 */
-    seddolki_u32 account;                 /* 4: any */
-    seddolki_u16 curves;                  /* 8: MIN_CURVES to MAX_CURVES */
-    seddolki_u16 trade_blocks;            /* 10: from 0 */
-    uint8_t zero_after_trade_blocks[496]; /* 12 */
-    seddolki_u32 check;                   /* 508 */
+    uint8_t kind;                          /* 0: HEADER_KIND */
+    uint8_t zero_after_kind;               /* 1 */
+    seddolki_u16 number;                   /* 2: 0 */
+    seddolki_u32 account;                  /* 4: any */
+    seddolki_u16 curves;                   /* 8: MIN_CURVES to MAX_CURVES */
+    seddolki_u16 trade_blocks;             /* 10: from 0 */
+    seddolki_u32 valuation_day;            /* 12: in days since 1 January 2000, any */
+    uint8_t zero_after_valuation_day[492]; /* 16 */
+    seddolki_u32 check;                    /* 508 */
 } seddolki_header;
 
 /* A node of a curve. Days rise strictly from node to node. */
@@ -577,6 +588,36 @@ SEDDOLKI_INLINE seddolki_bond seddolki_bond_of(const seddolki_record *record) {
     bond.coupon = record->coupon;
     bond.nominal = record->nominal;
     return bond;
+}
+
+/* The days from year 1 to the end of a year. */
+SEDDOLKI_INLINE uint64_t seddolki_days_through(uint64_t year) {
+    return 365 * year + year / 4 - year / 100 + year / 400;
+}
+
+/* The days of a month, 1 to 12, of a year from 1 on. */
+SEDDOLKI_INLINE uint32_t seddolki_month_length(uint32_t year, uint32_t month) {
+    static const uint8_t lengths[] = {31, 28, 31, 30, 31, 30, 31, 31, 30, 31, 30, 31};
+    int is_leap = seddolki_days_through(year) - seddolki_days_through(year - 1) > 365;
+    return lengths[month - 1] + (month == 2 && is_leap ? 1u : 0u);
+}
+
+/*
+ * Counts the days from 1 January 2000 to a date, as a valuation day and the
+ * current day are counted. Returns 1; or 0, nothing written, where there is no
+ * such date, it is before 2000 or its days are more than 32 bits hold.
+ */
+SEDDOLKI_INLINE int seddolki_day_of(uint32_t year, uint32_t month, uint32_t day_of_month,
+                                    uint32_t *day) {
+    uint64_t days;
+    uint32_t before;
+    if (year < 2000 || month < 1 || month > 12) return 0;
+    if (day_of_month < 1 || day_of_month > seddolki_month_length(year, month)) return 0;
+    days = seddolki_days_through(year - 1) - seddolki_days_through(1999) + day_of_month - 1;
+    for (before = 1; before < month; before++) days += seddolki_month_length(year, before);
+    if (days > UINT32_MAX) return 0;
+    *day = days & UINT32_MAX;
+    return 1;
 }
 
 /* The check that the other bytes of a block call for. */

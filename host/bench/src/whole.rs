@@ -1,7 +1,7 @@
 //! Whole margins by the C interface, of which books they are taken, and how
 //! much work they are.
 
-use seddolki::{lent, Refusal, Report};
+use seddolki::{lent, Date, Refusal, Report};
 use seddolki_books::{full_book, small_book, typical_book};
 use seddolki_model::accept::Book;
 use seddolki_model::block::BLOCK;
@@ -19,9 +19,9 @@ pub fn sized_books() -> [(&'static str, Book); 3] {
 }
 
 /// The report of a book, every byte of which is used.
-pub fn margin(book: &[u8]) -> Result<Report, Refusal> {
+pub fn margin(book: &[u8], day: Date) -> Result<Report, Refusal> {
     let mut report = [0; BLOCK];
-    Result::from(lent::margin(book, book.len(), &mut report))?;
+    Result::from(lent::margin(book, book.len(), day, &mut report))?;
     Ok(Report::decode(&report))
 }
 

@@ -2,32 +2,39 @@
 
 use crate::doubles::{doubles, Double};
 use crate::ffi;
-use seddolki_format::block::{trades, BLOCK};
+use seddolki_format::block::{trades, valuation_day, BLOCK};
 use seddolki_format::layout::Layout;
 use seddolki_format::record::RECORD;
-use seddolki_format::{Answer, Quote, Record, Refusal, Report};
+use seddolki_format::{Answer, Date, Quote, Record, Refusal, Report};
 
 /// The bytes of a book, and how many of them it uses.
 ///
 /// Any bytes can be held. Each call looks at all of them first and is
-/// refused, nothing changed, where a rule is broken. An append, a strike or a
-/// bootstrap leaves an accepted book accepted.
+/// refused, nothing changed, where a rule is broken; a call that is given the
+/// current day is then refused where the book is for another. An append, a
+/// strike or a bootstrap leaves an accepted book accepted, and its valuation
+/// day as it is.
 ///
 /// ```
-/// use seddolki::{Book, Record};
-/// # let bytes = include_bytes!("../../../examples/buyer.book");
+/// use seddolki::{Book, Date, Ground, Record};
+/// # let bytes = include_bytes!("../../../examples/repo.book");
 ///
 /// let mut book = Book::from_bytes(bytes.to_vec());
 /// book.check()?;
 ///
+/// let today: Date = "2026-11-16".parse()?;
 /// let trade = book.read(0)?;
-/// let position = book.append(&Record { side: 2, ..trade })?;
+/// let position = book.append(today, &Record { side: 2, ..trade })?;
 /// assert_eq!(position, 1);
 /// assert_eq!(book.records()?.count(), 2);
 ///
-/// book.strike(position)?;
+/// let tomorrow: Date = "2026-11-17".parse()?;
+/// let refusal = book.strike(tomorrow, position).unwrap_err();
+/// assert_eq!(refusal.ground, Ground::ValuationDay);
+///
+/// book.strike(today, position)?;
 /// assert_eq!(book.as_bytes(), bytes);
-/// # Ok::<(), seddolki::Refusal>(())
+/// # Ok::<(), Box<dyn std::error::Error>>(())
 /// ```
 #[derive(Clone, Debug)]
 pub struct Book {
@@ -67,12 +74,30 @@ impl Book {
         done(ffi::check(&self.bytes, self.used))
     }
 
+    /// The day that the book is for, day 0 of its curves and trades.
+    ///
+    /// ```
+    /// # use seddolki::Book;
+    /// # let bytes = include_bytes!("../../../examples/repo.book");
+    /// let day = Book::from_bytes(bytes.to_vec()).valuation_day()?;
+    /// assert_eq!(day.to_string(), "2026-11-16");
+    /// # Ok::<(), seddolki::Refusal>(())
+    /// ```
+    ///
+    /// # Errors
+    /// Grounds 1 to 12.
+    pub fn valuation_day(&self) -> Result<Date, Refusal> {
+        self.check()?;
+        Ok(valuation_day(self.as_bytes()))
+    }
+
     /// The margin of the book.
     ///
     /// ```
     /// # use seddolki::Book;
     /// # let bytes = include_bytes!("../../../examples/buyer.book");
-    /// let report = Book::from_bytes(bytes.to_vec()).margin()?;
+    /// let book = Book::from_bytes(bytes.to_vec());
+    /// let report = book.margin(book.valuation_day()?)?;
     /// assert_eq!(report.account, 7);
     ///
     /// let (id, curve) = report.present_curves().next().unwrap();
@@ -84,9 +109,9 @@ impl Book {
     /// ```
     ///
     /// # Errors
-    /// Grounds 1 to 12.
-    pub fn margin(&self) -> Result<Report, Refusal> {
-        reported(|report| ffi::margin(&self.bytes, self.used, report))
+    /// Grounds 1 to 12; 19 where the book is for another day.
+    pub fn margin(&self, day: Date) -> Result<Report, Refusal> {
+        reported(|report| ffi::margin(&self.bytes, self.used, day, report))
     }
 
     /// The margin of the book as it would be with one more trade. The book
@@ -97,31 +122,33 @@ impl Book {
     /// # let bytes = include_bytes!("../../../examples/buyer.book");
     ///
     /// let mut book = Book::from_bytes(bytes.to_vec());
+    /// let day = book.valuation_day()?;
     /// let sale = Record { side: 2, ..book.read(0)? };
-    /// let shown = book.preview(&sale)?;
+    /// let shown = book.preview(day, &sale)?;
     /// assert_eq!(book.as_bytes(), bytes);
     ///
-    /// book.append(&sale)?;
-    /// assert_eq!(book.margin()?, shown);
+    /// book.append(day, &sale)?;
+    /// assert_eq!(book.margin(day)?, shown);
     /// # Ok::<(), seddolki::Refusal>(())
     /// ```
     ///
     /// # Errors
-    /// As an append: grounds 8 to 12 for the record, with the block that it
-    /// would take; 15 where the book is full.
-    pub fn preview(&self, record: &Record) -> Result<Report, Refusal> {
+    /// As an append: ground 19 where the book is for another day; 8 to 12 for
+    /// the record, with the block that it would take; 15 where the book is
+    /// full.
+    pub fn preview(&self, day: Date, record: &Record) -> Result<Report, Refusal> {
         let record: [u8; RECORD] = (*record).into();
-        reported(|report| ffi::preview(&self.bytes, self.used, &record, report))
+        reported(|report| ffi::preview(&self.bytes, self.used, day, &record, report))
     }
 
     /// Adds a trade behind the last and gives its position.
     ///
     /// # Errors
-    /// Grounds 8 to 12 for the record, with the block that it would take; 15
-    /// where the book is full.
-    pub fn append(&mut self, record: &Record) -> Result<usize, Refusal> {
+    /// Ground 19 where the book is for another day; 8 to 12 for the record,
+    /// with the block that it would take; 15 where the book is full.
+    pub fn append(&mut self, day: Date, record: &Record) -> Result<usize, Refusal> {
         let record: [u8; RECORD] = (*record).into();
-        let answer = ffi::append(&mut self.bytes, self.used, &record);
+        let answer = ffi::append(&mut self.bytes, self.used, day, &record);
         self.used = used_of(answer)?;
         self.make_room();
         Ok(trades(self.as_bytes()).count() - 1)
@@ -130,9 +157,10 @@ impl Book {
     /// Removes the trade at a position; those behind it move up.
     ///
     /// # Errors
-    /// Ground 14 where no trade has that position.
-    pub fn strike(&mut self, position: usize) -> Result<(), Refusal> {
-        let answer = ffi::strike(&mut self.bytes, self.used, position);
+    /// Ground 19 where the book is for another day; 14 where no trade has that
+    /// position.
+    pub fn strike(&mut self, day: Date, position: usize) -> Result<(), Refusal> {
+        let answer = ffi::strike(&mut self.bytes, self.used, day, position);
         self.used = used_of(answer)?;
         Ok(())
     }
@@ -147,6 +175,7 @@ impl Book {
     ///
     /// // a curve at 25% up to day 730, and a bond that pays as much each year
     /// let mut book = Book::from_bytes(bytes.to_vec());
+    /// let day = book.valuation_day()?;
     /// let bond = Record {
     ///     first_payment_day: 365,
     ///     period: 365,
@@ -161,7 +190,7 @@ impl Book {
     ///     cash: 100_000_000,
     ///     components: [250_000, 0, 0],
     /// };
-    /// book.bootstrap(&quote)?;
+    /// book.bootstrap(day, &quote)?;
     /// book.check()?;
     ///
     /// // the third node of block 1: its day, and its rate in millionths
@@ -170,17 +199,18 @@ impl Book {
     /// assert_eq!(node[4..8], 250_000_u32.to_le_bytes());
     ///
     /// // now the bond's last payment is not after the last node
-    /// let refusal = book.bootstrap(&quote).unwrap_err();
+    /// let refusal = book.bootstrap(day, &quote).unwrap_err();
     /// assert_eq!(refusal.ground, Ground::CurveEnd);
     /// # Ok::<(), seddolki::Refusal>(())
     /// ```
     ///
     /// # Errors
-    /// Without a block: ground 8 where the book has no such curve, 9, 10 and
-    /// 12 for the bond, 6 for the components, 10 for the cash, 17 where the
-    /// curve takes no node there, 18 where no rate fits.
-    pub fn bootstrap(&mut self, quote: &Quote) -> Result<(), Refusal> {
-        done(ffi::bootstrap(&mut self.bytes, self.used, quote))
+    /// Without a block: ground 19 where the book is for another day, 8 where
+    /// it has no such curve, 9, 10 and 12 for the bond, 6 for the components,
+    /// 10 for the cash, 17 where the curve takes no node there, 18 where no
+    /// rate fits.
+    pub fn bootstrap(&mut self, day: Date, quote: &Quote) -> Result<(), Refusal> {
+        done(ffi::bootstrap(&mut self.bytes, self.used, day, quote))
     }
 
     /// The trade at a position, counted from 0.
@@ -211,7 +241,7 @@ impl Book {
     /// let mut book = Book::from_bytes(bytes.to_vec());
     /// assert_eq!(book.doubles()?, []);
     ///
-    /// book.append(&book.read(0)?)?;
+    /// book.append(book.valuation_day()?, &book.read(0)?)?;
     /// assert_eq!(book.doubles()?[0].likeness, Likeness::Same);
     /// # Ok::<(), seddolki::Refusal>(())
     /// ```

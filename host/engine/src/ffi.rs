@@ -2,7 +2,7 @@
 
 use seddolki_format::quote::BOND;
 use seddolki_format::record::RECORD;
-use seddolki_format::{Answer, Quote};
+use seddolki_format::{Answer, Date, Quote};
 
 mod archive {
     use super::{Answer, BOND, RECORD};
@@ -13,6 +13,7 @@ mod archive {
             book: *const u8,
             len: usize,
             used: usize,
+            day: u32,
             report: *mut u8,
             report_len: usize,
         ) -> Answer;
@@ -20,12 +21,14 @@ mod archive {
             book: *mut u8,
             len: usize,
             used: usize,
+            day: u32,
             record: *const [u8; RECORD],
         ) -> Answer;
         pub unsafe fn seddolki_preview(
             book: *const u8,
             len: usize,
             used: usize,
+            day: u32,
             record: *const [u8; RECORD],
             report: *mut u8,
             report_len: usize,
@@ -34,6 +37,7 @@ mod archive {
             book: *mut u8,
             len: usize,
             used: usize,
+            day: u32,
             position: usize,
         ) -> Answer;
         pub unsafe fn seddolki_read(
@@ -53,6 +57,7 @@ mod archive {
             book: *mut u8,
             len: usize,
             used: usize,
+            day: u32,
             curve: usize,
             bond: *const [u8; BOND],
             cash: u64,
@@ -73,27 +78,34 @@ pub fn check(book: &[u8], used: usize) -> Answer {
 }
 
 /// Fills the first 512 bytes of the report.
-pub fn margin(book: &[u8], used: usize, report: &mut [u8]) -> Answer {
-    let (space, length) = (report.as_mut_ptr(), report.len());
-    unsafe { archive::seddolki_margin(book.as_ptr(), book.len(), used, space, length) }
+pub fn margin(book: &[u8], used: usize, day: Date, report: &mut [u8]) -> Answer {
+    let (bytes, length) = (book.as_ptr(), book.len());
+    let (space, space_length) = (report.as_mut_ptr(), report.len());
+    unsafe { archive::seddolki_margin(bytes, length, used, day.days(), space, space_length) }
 }
 
 /// Adds a record behind the last; the value is the new used length.
-pub fn append(book: &mut [u8], used: usize, record: &[u8; RECORD]) -> Answer {
-    unsafe { archive::seddolki_append(book.as_mut_ptr(), book.len(), used, record) }
+pub fn append(book: &mut [u8], used: usize, day: Date, record: &[u8; RECORD]) -> Answer {
+    unsafe { archive::seddolki_append(book.as_mut_ptr(), book.len(), used, day.days(), record) }
 }
 
 /// Fills the first 512 bytes of the report as a margin would after an append
 /// of the record.
-pub fn preview(book: &[u8], used: usize, record: &[u8; RECORD], report: &mut [u8]) -> Answer {
-    let (bytes, length) = (book.as_ptr(), book.len());
+pub fn preview(
+    book: &[u8],
+    used: usize,
+    day: Date,
+    record: &[u8; RECORD],
+    report: &mut [u8],
+) -> Answer {
+    let (bytes, length, day) = (book.as_ptr(), book.len(), day.days());
     let (space, space_length) = (report.as_mut_ptr(), report.len());
-    unsafe { archive::seddolki_preview(bytes, length, used, record, space, space_length) }
+    unsafe { archive::seddolki_preview(bytes, length, used, day, record, space, space_length) }
 }
 
 /// Removes a record; the value is the new used length.
-pub fn strike(book: &mut [u8], used: usize, position: usize) -> Answer {
-    unsafe { archive::seddolki_strike(book.as_mut_ptr(), book.len(), used, position) }
+pub fn strike(book: &mut [u8], used: usize, day: Date, position: usize) -> Answer {
+    unsafe { archive::seddolki_strike(book.as_mut_ptr(), book.len(), used, day.days(), position) }
 }
 
 /// Gives the record at a position; 0 bytes if refused.
@@ -107,15 +119,15 @@ pub fn present_value(amount: u64, rate: u64, day: u64, tolerance: &mut u64) -> A
 }
 
 /// Adds a node to a curve, at the rate that a bond's cash today calls for.
-pub fn bootstrap(book: &mut [u8], used: usize, quote: &Quote) -> Answer {
-    let (bytes, length) = (book.as_mut_ptr(), book.len());
+pub fn bootstrap(book: &mut [u8], used: usize, day: Date, quote: &Quote) -> Answer {
+    let (bytes, length, day) = (book.as_mut_ptr(), book.len(), day.days());
     let Quote {
         curve, bond, cash, ..
     } = quote;
     let [first, second, third] = quote.components;
     unsafe {
         archive::seddolki_bootstrap(
-            bytes, length, used, *curve, bond, *cash, first, second, third,
+            bytes, length, used, day, *curve, bond, *cash, first, second, third,
         )
     }
 }

@@ -7,14 +7,18 @@
 //! bytes and gives its answers names.
 //!
 //! Money is in hundredths of the currency, rates and prices are in
-//! millionths, days are counted from today, day 0.
+//! millionths. A book is for one day, its valuation day, and the days of its
+//! curves and trades are counted from there. Calls that work out a margin or
+//! change the book are given the current day, and refuse a book that is for
+//! another.
 //!
 //! ```no_run
-//! use seddolki::Book;
+//! use seddolki::{Book, Date};
 //!
 //! # fn main() -> Result<(), Box<dyn std::error::Error>> {
+//! let today: Date = "2026-11-16".parse()?;
 //! let book = Book::from_bytes(std::fs::read("account.book")?);
-//! let report = book.margin()?;
+//! let report = book.margin(today)?;
 //! for (currency, figures) in report.present_currencies() {
 //!     println!("{currency} needs {} more", -figures.total);
 //! }
@@ -48,7 +52,7 @@ mod ffi;
 mod value;
 
 /// The eight calls as they are in C, over lent bytes. The caller lends the
-/// bytes, and says how many of them the book uses.
+/// bytes, and says how many of them the book uses; `day` is the current day.
 pub mod lent {
     pub use crate::ffi::{append, bootstrap, check, margin, present_value, preview, read, strike};
 }
@@ -56,7 +60,8 @@ pub mod lent {
 pub use book::Book;
 pub use doubles::{doubles, doubles_among, doubles_at, doubles_of, stands_already};
 pub use doubles::{Double, Likeness, Placed, Standing};
+pub use seddolki_format::date::NoDate;
 pub use seddolki_format::quote::bond_of;
 pub use seddolki_format::report::{CurrencyFigures, CurveFigures};
-pub use seddolki_format::{Answer, Ground, Quote, Record, Refusal, Report};
+pub use seddolki_format::{Answer, Date, Ground, Quote, Record, Refusal, Report};
 pub use value::{present_value, PresentValue};

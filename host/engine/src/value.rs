@@ -12,7 +12,7 @@ pub struct PresentValue {
     pub tolerance: u64,
 }
 
-/// What an amount on a day is worth today at a yearly rate in millionths,
+/// What an amount on a day is worth on day 0 at a yearly rate in millionths,
 /// compounded yearly.
 ///
 /// ```

@@ -1,6 +1,6 @@
 //! A book that owns its bytes.
 
-use seddolki::{present_value, Book, Ground, Quote, Record};
+use seddolki::{present_value, Book, Date, Ground, Quote, Record};
 use seddolki_books::{assemble, buyer, draw_book, draw_record, seller, Draw};
 use seddolki_model::limits::{FULL_BLOCK, MAX_BLOCKS};
 
@@ -26,17 +26,18 @@ fn a_book_is_filled_to_the_last_trade_and_emptied_again() {
     drawn.trades.clear();
     let empty = assemble(&drawn);
     let mut book = Book::from_bytes(empty.clone());
+    let day = drawn.valuation_day;
     let full = (MAX_BLOCKS - 1 - drawn.curves.len()) * FULL_BLOCK;
     let trade = draw_record(&mut draw, &drawn.curves, 2);
     for position in 0..full {
-        assert_eq!(book.append(&trade).unwrap(), position);
+        assert_eq!(book.append(day, &trade).unwrap(), position);
     }
     let before = book.as_bytes().to_vec();
-    assert_eq!(book.append(&trade), Err(Ground::BookSpace.alone()));
-    assert_eq!(book.preview(&trade), Err(Ground::BookSpace.alone()));
+    assert_eq!(book.append(day, &trade), Err(Ground::BookSpace.alone()));
+    assert_eq!(book.preview(day, &trade), Err(Ground::BookSpace.alone()));
     assert_eq!(book.as_bytes(), before);
     for _ in 0..full {
-        book.strike(0).unwrap();
+        book.strike(day, 0).unwrap();
     }
     assert_eq!(book.as_bytes(), empty);
 }
@@ -47,10 +48,11 @@ fn a_preview_is_the_margin_after_an_append() {
         let mut draw = Draw::new(seed);
         let drawn = draw_book(&mut draw, 100);
         let trade = draw_record(&mut draw, &drawn.curves, 12);
+        let day = drawn.valuation_day;
         let mut book = Book::from_bytes(assemble(&drawn));
-        let shown = book.preview(&trade);
+        let shown = book.preview(day, &trade);
         assert_eq!(book.as_bytes(), assemble(&drawn), "seed {seed}");
-        let due = book.append(&trade).and_then(|_| book.margin());
+        let due = book.append(day, &trade).and_then(|_| book.margin(day));
         assert_eq!(shown, due, "seed {seed}");
     }
 }
@@ -58,33 +60,35 @@ fn a_preview_is_the_margin_after_an_append() {
 #[test]
 fn every_place_of_a_block_is_previewed() {
     let mut book = Book::from_bytes(buyer());
+    let day = book.valuation_day().unwrap();
     let trade = book.read(0).unwrap();
-    book.strike(0).unwrap();
+    book.strike(day, 0).unwrap();
     let places = 0..=2 * FULL_BLOCK;
     for trades in places.clone() {
-        let shown = book.preview(&trade).unwrap();
+        let shown = book.preview(day, &trade).unwrap();
         assert_eq!(shown.curves[0].base, 10_000 * (trades as i64 + 1));
-        book.append(&trade).unwrap();
-        assert_eq!(book.margin().unwrap(), shown);
+        book.append(day, &trade).unwrap();
+        assert_eq!(book.margin(day).unwrap(), shown);
     }
     for last in places.rev() {
-        let shown = book.margin().unwrap();
-        book.strike(last).unwrap();
-        assert_eq!(book.preview(&trade).unwrap(), shown);
+        let shown = book.margin(day).unwrap();
+        book.strike(day, last).unwrap();
+        assert_eq!(book.preview(day, &trade).unwrap(), shown);
     }
 }
 
 #[test]
 fn a_refused_record_names_the_block_it_would_take() {
     let mut book = Book::from_bytes(buyer());
+    let day = book.valuation_day().unwrap();
     let trade = book.read(0).unwrap();
     let late = Record {
         first_payment_day: 10_951,
         ..trade
     };
-    let refusal = book.append(&late).unwrap_err();
+    let refusal = book.append(day, &late).unwrap_err();
     assert_eq!(refusal, Ground::Days.in_block(2));
-    assert_eq!(book.preview(&late), Err(refusal));
+    assert_eq!(book.preview(day, &late), Err(refusal));
     assert_eq!(book.as_bytes(), buyer());
     assert_eq!(
         refusal.to_string(),
@@ -97,14 +101,16 @@ fn a_refused_record_names_the_block_it_would_take() {
 fn any_bytes_can_be_held() {
     for length in [0, 1, 511, 512, 1_024, 65_536, 70_000] {
         let mut book = Book::from_bytes(vec![0; length]);
+        let day = Date::FIRST;
         assert!(book.check().is_err());
-        assert!(book.margin().is_err());
-        assert!(book.preview(&Record::default()).is_err());
+        assert!(book.valuation_day().is_err());
+        assert!(book.margin(day).is_err());
+        assert!(book.preview(day, &Record::default()).is_err());
         assert!(book.records().is_err());
         assert!(book.read(0).is_err());
-        assert!(book.strike(0).is_err());
-        assert!(book.append(&Record::default()).is_err());
-        assert!(book.bootstrap(&Quote::default()).is_err());
+        assert!(book.strike(day, 0).is_err());
+        assert!(book.append(day, &Record::default()).is_err());
+        assert!(book.bootstrap(day, &Quote::default()).is_err());
         assert_eq!(book.as_bytes(), vec![0; length]);
     }
 }
@@ -112,7 +118,7 @@ fn any_bytes_can_be_held() {
 #[test]
 fn the_example_books_have_their_margins() {
     let totals = [buyer(), seller()].map(|bytes| {
-        let report = Book::from_bytes(bytes).margin().unwrap();
+        let report = Book::from_bytes(bytes).margin(Date::FIRST).unwrap();
         report.currencies[0].total
     });
     assert_eq!(totals, [-20_000, -30_000]);

@@ -1,12 +1,15 @@
 //! A curve lengthened by a bond's price.
 
-use seddolki::{bond_of, present_value, Book, Ground, Quote, Record};
+use seddolki::{bond_of, present_value, Book, Date, Ground, Quote, Record};
 use seddolki_books::buyer;
 use seddolki_format::block::{Curve, Node, BLOCK};
 use seddolki_format::layout::Layout;
 use seddolki_model::curve::rate_on;
 use seddolki_model::flows::payments;
 use seddolki_model::limits::{MAX_AMOUNT, MAX_COMPONENT, NODES};
+
+/// The day that the buyer's book is for.
+const DAY: Date = Date::FIRST;
 
 /// For so many years it pays what the curve of the buyer's book yields.
 fn bond(years: u16) -> Record {
@@ -47,7 +50,7 @@ fn value(nodes: &[Node], quote: &Quote) -> u64 {
 fn a_bond_at_its_nominal_goes_on_with_a_flat_curve() {
     let mut book = Book::from_bytes(buyer());
     let before = curve_of(&book);
-    book.bootstrap(&at_par(&bond(3))).unwrap();
+    book.bootstrap(DAY, &at_par(&bond(3))).unwrap();
     let node = Node {
         day: 1_095,
         rate: 250_000,
@@ -66,8 +69,8 @@ fn a_curve_is_lengthened_until_it_is_full() {
     let most = u16::from(*NODES.end());
     for years in 3..=most {
         let quote = at_par(&bond(years));
-        book.bootstrap(&quote).unwrap();
-        book.margin().unwrap();
+        book.bootstrap(DAY, &quote).unwrap();
+        book.margin(DAY).unwrap();
         let mut curve = curve_of(&book);
         assert_eq!(u16::from(curve.node_count), years);
         assert!(value(curve.nodes(), &quote) <= quote.cash);
@@ -75,7 +78,7 @@ fn a_curve_is_lengthened_until_it_is_full() {
         assert!(value(curve.nodes(), &quote) > quote.cash);
     }
     let full = book.as_bytes().to_vec();
-    let refusal = book.bootstrap(&at_par(&bond(1 + most))).unwrap_err();
+    let refusal = book.bootstrap(DAY, &at_par(&bond(1 + most))).unwrap_err();
     assert_eq!(refusal, Ground::CurveEnd.alone());
     assert_eq!(book.as_bytes(), full);
 }
@@ -138,7 +141,7 @@ fn wrong_quotes() -> Vec<(Quote, Ground)> {
 fn a_refused_bootstrap_names_no_block_and_leaves_the_book() {
     let mut book = Book::from_bytes(buyer());
     for (quote, ground) in wrong_quotes() {
-        let refusal = book.bootstrap(&quote).unwrap_err();
+        let refusal = book.bootstrap(DAY, &quote).unwrap_err();
         assert_eq!(refusal, ground.alone(), "{quote:?}");
         assert!(!refusal.to_string().contains("block"), "{refusal}");
         assert_eq!(book.as_bytes(), buyer());
@@ -152,7 +155,7 @@ fn the_book_is_looked_at_first() {
     let mut book = Book::from_bytes(bytes.clone());
     let wrong = wrong_quotes().into_iter().map(|(quote, _)| quote);
     for quote in wrong.chain([at_par(&bond(3))]) {
-        let refusal = book.bootstrap(&quote).unwrap_err();
+        let refusal = book.bootstrap(DAY, &quote).unwrap_err();
         assert_eq!(refusal, Ground::Check.in_block(1));
         assert_eq!(book.as_bytes(), bytes);
     }

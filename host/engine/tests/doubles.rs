@@ -1,7 +1,9 @@
 //! Generated doubles of every kind are found where they stand, and nothing
 //! else is.
 
-use seddolki::{doubles, doubles_among, doubles_at, doubles_of, Book, Double, Likeness, Record};
+use seddolki::{
+    doubles, doubles_among, doubles_at, doubles_of, Book, Date, Double, Likeness, Record,
+};
 use seddolki_books::curve::draw_curves;
 use seddolki_books::doubles::{
     are_different, draw_different, draw_one_field, draw_opposite, draw_same, draw_second_leg,
@@ -77,9 +79,10 @@ fn assert_found(draw: &mut Draw, among: &Among, likeness: Likeness) {
 
 /// The engine takes every one of the trades, doubles too.
 fn assert_engine_takes(curves: &[Curve], trades: &[Record]) -> Book {
-    let mut book = Book::from_bytes(assemble(1, curves, &[]));
+    let mut book = Book::from_bytes(assemble(1, Date::FIRST, curves, &[]));
     for (position, trade) in trades.iter().enumerate() {
-        assert_eq!(book.append(trade), Ok(position), "{trade:?}");
+        let appended = book.append(Date::FIRST, trade);
+        assert_eq!(appended, Ok(position), "{trade:?}");
     }
     book
 }
@@ -257,7 +260,7 @@ fn nothing_is_found_in_a_full_book_of_different_trades() {
     let mut curves = draw_curves(&mut draw);
     curves.truncate(1);
     let trades = draw_different(&mut draw, &curves, full(&curves));
-    let book = Book::from_bytes(assemble(1, &curves, &trades));
+    let book = Book::from_bytes(assemble(1, Date::FIRST, &curves, &trades));
     assert_eq!(book.doubles().unwrap(), []);
 }
 

@@ -3,6 +3,7 @@
 mod c;
 
 use c::{compilers, Compiler, ROOT};
+use seddolki::Date;
 use seddolki_format::block::{check_of, BLOCK};
 use std::fs::{create_dir, read, remove_dir_all, write, File};
 use std::path::{Path, PathBuf};
@@ -163,6 +164,41 @@ fn payments_in_the_term_of_a_repo_are_margined_by_the_names_of_the_header() {
     assert_prints("coupons_in_term.c", "examples/repo.book", &expected);
 }
 
+/// Eight wrong calls, and the same without what is wrong, on six other days.
+#[test]
+fn a_book_for_another_day_is_refused_by_the_names_of_the_header() {
+    let line = |day| format!("day {day}: {} calls refused by 19\n", 8 * 2 * 6);
+    let expected = [0, 9_816, 0x0102_0304, u32::MAX].map(line).concat();
+    assert_prints("valuation_day.c", "examples/repo.book", &expected);
+}
+
+/// A line for each date of a year, as the program prints it.
+fn dates_of(year: u32) -> String {
+    let line = |month, day_of_month| {
+        let date = Date::from_calendar(year, month, day_of_month)?;
+        Some(format!("{year} {month} {day_of_month}: {}\n", date.days()))
+    };
+    let months = 1..=12;
+    months
+        .flat_map(|month| (1..=31).filter_map(move |day| line(month, day)))
+        .collect()
+}
+
+#[test]
+fn days_to_a_date_are_counted_as_in_rust() {
+    let last = Date::LAST.year();
+    let near_the_last = last - 1..=last + 1;
+    let years = (1_998..=2_105).chain(2_399..=2_401).chain(near_the_last);
+    let years: Vec<u32> = years.chain([1, u32::MAX]).collect();
+    let expected: String = years.iter().map(|year| dates_of(*year)).collect();
+    let asked: Vec<String> = years.iter().map(u32::to_string).collect();
+    let asked: Vec<&str> = asked.iter().map(String::as_str).collect();
+    for compiler in compilers() {
+        let program = Program::build(compiler, "host/engine/tests/c/dates.c");
+        assert_eq!(program.prints(&asked), expected);
+    }
+}
+
 /// A line of a type's name, a number, and its bytes.
 fn line(name: &str, number: i128, bytes: &[u8]) -> String {
     let bytes: String = bytes.iter().map(|byte| format!(" {byte:02x}")).collect();
@@ -213,12 +249,20 @@ fn assert_fails(output: Output, message: &str) {
 #[test]
 fn the_example_in_c_prints_the_totals() {
     for program in totals() {
-        for (book, figures) in [
-            ("buyer", "initial 30000 variation 10000 total -20000"),
-            ("repo", "initial 625000 variation -200000 total -825000"),
+        for (book, date, figures) in [
+            (
+                "buyer",
+                "2000-01-01",
+                "initial 30000 variation 10000 total -20000",
+            ),
+            (
+                "repo",
+                "2026-11-16",
+                "initial 625000 variation -200000 total -825000",
+            ),
         ] {
             assert_eq!(
-                program.prints(&[&format!("examples/{book}.book")]),
+                program.prints(&[&format!("examples/{book}.book"), date]),
                 format!(
                     "TRY {figures}\n\
                      USD initial 0 variation 0 total 0\n\
@@ -233,23 +277,50 @@ fn the_example_in_c_prints_the_totals() {
 fn the_example_in_c_says_why_it_has_no_totals() {
     let failures = [
         (
-            &["examples/buyer.csv"][..],
+            "examples/buyer.csv",
             "examples/buyer.csv: refused by ground 1 in block 0\n",
         ),
+        ("/dev/zero", "/dev/zero: refused by ground 1 in block 0\n"),
         (
-            &["/dev/zero"],
-            "/dev/zero: refused by ground 1 in block 0\n",
+            "examples/repo.book",
+            "examples/repo.book: refused by ground 19 in block 0\n",
         ),
-        (&["examples"], "examples: Is a directory\n"),
+        ("examples", "examples: Is a directory\n"),
         (
-            &["examples/absent.book"],
+            "examples/absent.book",
             "examples/absent.book: No such file or directory\n",
         ),
-        (&[], "usage: totals BOOK\n"),
     ];
     for program in totals() {
-        for (arguments, message) in failures {
-            assert_fails(program.command(arguments).output().unwrap(), message);
+        for (book, message) in failures {
+            let output = program.command(&[book, "2026-11-17"]).output().unwrap();
+            assert_fails(output, message);
+        }
+    }
+}
+
+#[test]
+fn the_example_in_c_asks_for_a_book_and_a_date() {
+    let wrong_dates = [
+        "",
+        "today",
+        "9816",
+        "2026-11",
+        "2026-02-29",
+        "2026-13-01",
+        "1999-12-31",
+        "2026--1-01",
+        "2026-11-16T00",
+    ];
+    for program in totals() {
+        for arguments in [&[][..], &["examples/repo.book"]] {
+            let output = program.command(arguments).output().unwrap();
+            assert_fails(output, "usage: totals BOOK DATE\n");
+        }
+        for date in wrong_dates {
+            let output = program.command(&["examples/repo.book", date]).output();
+            let message = format!("{date}: not a date as 2026-11-16\n");
+            assert_fails(output.unwrap(), &message);
         }
     }
 }
@@ -263,14 +334,15 @@ fn the_example_in_c_says_where_a_book_is_wrong() {
         write(&book, &bytes).unwrap();
         let book = book.to_str().unwrap();
         let message = format!("{book}: refused by ground 2 in block 1\n");
-        assert_fails(program.command(&[book]).output().unwrap(), &message);
+        let output = program.command(&[book, "2000-01-01"]).output().unwrap();
+        assert_fails(output, &message);
     }
 }
 
 #[test]
 fn the_example_in_c_says_that_its_output_is_lost() {
     for program in totals() {
-        let mut full = program.command(&["examples/buyer.book"]);
+        let mut full = program.command(&["examples/buyer.book", "2000-01-01"]);
         full.stdout(File::options().write(true).open("/dev/full").unwrap());
         let message = "standard output: No space left on device\n";
         assert_fails(full.stderr(Stdio::piped()).output().unwrap(), message);

@@ -97,8 +97,9 @@ fn empty_book() -> Book {
 /// What the report shows of the security curve with the trade alone.
 fn shown(trade: &Record) -> Result<CurveFigures, Refusal> {
     let mut book = empty_book();
-    let previewed = book.preview(trade);
-    let report = book.append(trade).and_then(|_| book.margin());
+    let day = book.valuation_day()?;
+    let previewed = book.preview(day, trade);
+    let report = book.append(day, trade).and_then(|_| book.margin(day));
     assert_eq!(previewed, report);
     report.map(|report| report.curves[0])
 }

@@ -61,13 +61,14 @@ fn quote(book: &Book, first_payment_day: u16, period: u16, payments: u16) -> Quo
 fn time(book: &Book, quote: &Quote) -> Result<(), Refusal> {
     let flows = payments(&quote.purchase());
     let bytes = assemble(book);
+    let day = book.valuation_day;
     let mut lengthened = bytes.clone();
-    Result::from(lent::bootstrap(&mut lengthened, bytes.len(), quote))?;
+    Result::from(lent::bootstrap(&mut lengthened, bytes.len(), day, quote))?;
     let check = best_turn(|| lent::check(&bytes, bytes.len()));
     let bootstrap = best_turn(|| {
         // a kilobyte copied is nothing beside the call
         lengthened.copy_from_slice(&bytes);
-        lent::bootstrap(&mut lengthened, bytes.len(), quote)
+        lent::bootstrap(&mut lengthened, bytes.len(), day, quote)
     });
     let valuation = time_valuation(book, quote, &flows);
     let end = u64::from(book.curves[0].last_node().day);

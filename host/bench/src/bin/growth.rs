@@ -78,8 +78,8 @@ fn measured(books: [Book; 5]) -> Vec<Measured> {
     let bytes: Vec<Vec<u8>> = books.iter().map(assemble).collect();
     let mut times = vec![vec![]; books.len()];
     for _ in 0..ROUNDS {
-        for (bytes, times) in bytes.iter().zip(&mut times) {
-            times.push(processor_time(|| margin(bytes)));
+        for ((book, bytes), times) in books.iter().zip(&bytes).zip(&mut times) {
+            times.push(processor_time(|| margin(bytes, book.valuation_day)));
         }
     }
     let measured = books.into_iter().zip(times);

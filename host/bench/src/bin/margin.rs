@@ -5,7 +5,7 @@
 //! `margin [--model] [BOOK]`: a book file in place of these; the model is
 //! timed on the full ones too where it is asked for.
 
-use seddolki::Book;
+use seddolki::{Book, Date};
 use seddolki_bench::{best_time, paying_repo_book, ratio, repo_book, shown, work, Work};
 use seddolki_books::{
     assemble, full_book, near_tie_book, small_book, typical_book, zero_component_book,
@@ -40,12 +40,11 @@ fn book_of(parts: &accept::Book) -> Book {
 
 /// One line of the table.
 fn time_margin(name: &str, book: &Book, with_model: bool) -> Result<(), Box<dyn Error>> {
-    book.check()?;
-    let bytes = book.as_bytes();
+    let (bytes, day) = (book.as_bytes(), book.valuation_day()?);
     let parts = accept(bytes, bytes.len()).map_err(|refusal| refusal.to_string())?;
     let Work { flows, valuations } = work(&parts);
-    let engine = best_time(|| book.margin());
-    let model = with_model.then(|| best_time(|| model_margin(bytes)));
+    let engine = best_time(|| book.margin(day));
+    let model = with_model.then(|| best_time(|| model_margin(bytes, day)));
     println!(
         "{name:<14} {:>6}  {:>6}  {flows:>7}  {valuations:>10}  {:>10}  {:>10}  {:>5}",
         parts.curves.len(),
@@ -59,15 +58,16 @@ fn time_margin(name: &str, book: &Book, with_model: bool) -> Result<(), Box<dyn 
     Ok(())
 }
 
-fn model_margin(bytes: &[u8]) -> [u8; BLOCK] {
+fn model_margin(bytes: &[u8], day: Date) -> [u8; BLOCK] {
     let mut report = [0; BLOCK];
-    seddolki_model::margin(bytes, bytes.len(), &mut report);
+    seddolki_model::margin(bytes, bytes.len(), day, &mut report);
     report
 }
 
 /// The first trade is struck and appended again, so that every block moves.
 fn time_other_calls(mut book: Book) -> Result<(), Box<dyn Error>> {
     let whole = book.clone();
+    let day = book.valuation_day()?;
     let count = book.records()?.count();
     let Some(last) = count.checked_sub(1) else {
         return Ok(());
@@ -78,13 +78,13 @@ fn time_other_calls(mut book: Book) -> Result<(), Box<dyn Error>> {
     let copy = best_time(|| book = whole.clone());
     let strike = best_time(|| {
         book = whole.clone();
-        book.strike(0)
+        book.strike(day, 0)
     });
     println!("strike       {:>10}", shown(strike.saturating_sub(copy)));
     let shorter = book.clone();
     let append = best_time(|| {
         book = shorter.clone();
-        book.append(&trade)
+        book.append(day, &trade)
     });
     println!("append       {:>10}", shown(append.saturating_sub(copy)));
     Ok(())

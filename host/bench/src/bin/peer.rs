@@ -11,6 +11,7 @@ use seddolki_bench::peer::Peer;
 use seddolki_bench::{margin, middle, ratio, repeats, shown, sized_books, turn_time};
 use seddolki_books::assemble;
 use seddolki_model::accept::accept;
+use seddolki_model::block::valuation_day;
 use std::error::Error;
 use std::path::Path;
 
@@ -57,11 +58,12 @@ fn books(files: &[String]) -> Done<Vec<(String, Vec<u8>)>> {
     files.iter().map(read).collect()
 }
 
-/// The times of a book, engine and peer in turn, and their ratios.
+/// The times of an accepted book, engine and peer in turn, and their ratios.
 fn time(peer: &Peer, book: &[u8], rounds: usize) -> Done<String> {
+    let day = valuation_day(book);
     let (mut engine, mut direct, mut curve) = (vec![], vec![], vec![]);
     for _ in 0..rounds {
-        engine.push(turn_time(|| margin(book)));
+        engine.push(turn_time(|| margin(book, day)));
         for (mode, times) in [("direct", &mut direct), ("curve", &mut curve)] {
             let often = times.first().copied().map_or(1, repeats);
             times.push(peer.time(book, often, mode)?);
@@ -81,8 +83,8 @@ fn time(peer: &Peer, book: &[u8], rounds: usize) -> Done<String> {
 /// Whether the peer's values agree with the engine's: each base within the
 /// curve's tolerance, each worst loss within twice that, the scenario the same.
 fn compare(peer: &Peer, book: &[u8]) -> Done<String> {
-    let (report, valued) = (margin(book)?, peer.value(book, "cut")?);
     let parts = accept(book, book.len()).map_err(|refusal| refusal.to_string())?;
+    let (report, valued) = (margin(book, parts.valuation_day)?, peer.value(book, "cut")?);
     let (mut furthest, mut count) = (0.0_f64, 0);
     for ((curve, ours), theirs) in parts.curves.iter().zip(&report.curves).zip(&valued) {
         let flows = parts.flows_on(curve);

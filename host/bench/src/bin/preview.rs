@@ -19,15 +19,16 @@ fn main() -> Result<(), Refusal> {
 
 /// One line of the table: the book's last trade is the one previewed.
 fn time(name: &str, whole: Book) -> Result<(), Refusal> {
+    let day = whole.valuation_day()?;
     let trades = whole.records()?.count();
     let trade = whole.read(trades - 1)?;
     let mut shorter = whole.clone();
-    shorter.strike(trades - 1)?;
-    assert_eq!(shorter.preview(&trade)?, whole.margin()?, "{name}");
+    shorter.strike(day, trades - 1)?;
+    assert_eq!(shorter.preview(day, &trade)?, whole.margin(day)?, "{name}");
     let (mut margins, mut previews) = (vec![], vec![]);
     for _ in 0..ROUNDS {
-        margins.push(processor_time(|| whole.margin()));
-        previews.push(processor_time(|| shorter.preview(&trade)));
+        margins.push(processor_time(|| whole.margin(day)));
+        previews.push(processor_time(|| shorter.preview(day, &trade)));
     }
     let [margin, preview] = [margins, previews].map(middle);
     println!(

@@ -7,11 +7,12 @@
 
 #include <string.h>
 
-static void write_header(seddolki_block *block, uint16_t curves) {
+static void write_header(seddolki_block *block, uint16_t curves, uint32_t day) {
     seddolki_header *header = &block->header;
     header->kind = SEDDOLKI_HEADER_KIND;
     seddolki_set_u32(&header->account, 7);
     seddolki_set_u16(&header->curves, curves);
+    seddolki_set_u32(&header->valuation_day, day);
     seddolki_seal(block);
 }
 

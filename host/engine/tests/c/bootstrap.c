@@ -36,8 +36,9 @@ static quote at_par(void) {
 }
 
 static seddolki_answer bootstrap(const quote *asked) {
-    return seddolki_bootstrap((uint8_t *)book, sizeof book, sizeof book, asked->curve,
-                              (const uint8_t *)&asked->bond, asked->cash, asked->first, -1, 2);
+    return seddolki_bootstrap((uint8_t *)book, sizeof book, sizeof book, valuation_day(book),
+                              asked->curve, (const uint8_t *)&asked->bond, asked->cash,
+                              asked->first, -1, 2);
 }
 
 static void print_refusal(const char *what, const quote *asked) {

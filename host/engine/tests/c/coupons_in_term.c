@@ -70,7 +70,8 @@ static seddolki_record specified_repo(void) {
 
 static seddolki_answer append(seddolki_block book[BLOCKS], const seddolki_record *trade) {
     memcpy(book, empty, sizeof empty);
-    return seddolki_append((uint8_t *)book, USED, USED - SEDDOLKI_BLOCK, (const uint8_t *)trade);
+    return seddolki_append((uint8_t *)book, USED, USED - SEDDOLKI_BLOCK, valuation_day(book),
+                           (const uint8_t *)trade);
 }
 
 static void print_curve(const seddolki_curve_figures *curve) {
@@ -85,7 +86,8 @@ static void print_margin(const seddolki_record *trade) {
     expect(answer.number == SEDDOLKI_DONE && answer.value == USED, "the trade is appended");
     answer = seddolki_check((const uint8_t *)book, USED, USED);
     expect(answer.number == SEDDOLKI_DONE, "the book is accepted");
-    answer = seddolki_margin((const uint8_t *)book, USED, USED, report.bytes, sizeof report);
+    answer = seddolki_margin((const uint8_t *)book, USED, USED, valuation_day(book), report.bytes,
+                             sizeof report);
     expect(answer.number == SEDDOLKI_DONE, "the book has a margin");
     printf("kind %d phase %d side %d:", trade->kind, trade->phase, trade->side);
     print_curve(&report.report.curves[0]);
@@ -164,8 +166,10 @@ static void print_large_payments(void) {
 int main(int count, char **names) {
     seddolki_record trade = specified_repo();
     seddolki_block book[BLOCKS];
+    uint32_t day;
     expect(count == 2, "coupons_in_term BOOK");
-    write_header(&empty[0], 2);
+    expect(seddolki_day_of(2026, 11, 16, &day), "there is such a date");
+    write_header(&empty[0], 2, day);
     write_curve(&empty[1], 1);
     write_curve(&empty[2], 2);
     append(book, &trade);

@@ -22,7 +22,7 @@ static void write_trade(seddolki_record *trade) {
 
 static void append(seddolki_block book[3], const seddolki_record *trade) {
     seddolki_answer answer = seddolki_append((uint8_t *)book, 3 * sizeof *book, 2 * sizeof *book,
-                                             (const uint8_t *)trade);
+                                             valuation_day(book), (const uint8_t *)trade);
     expect(answer.number == SEDDOLKI_DONE, "the trade is appended");
     expect(answer.value == 3 * sizeof *book, "the book has a block more");
     expect(seddolki_get_u16(&book[0].header.trade_blocks) == 1, "the header counts the block");
@@ -55,8 +55,9 @@ static void print_currencies(const seddolki_report *report) {
 
 static void margin(const seddolki_block book[3]) {
     seddolki_block report;
-    seddolki_answer answer = seddolki_margin((const uint8_t *)book, 3 * sizeof *book,
-                                             3 * sizeof *book, report.bytes, sizeof report);
+    seddolki_answer answer =
+        seddolki_margin((const uint8_t *)book, 3 * sizeof *book, 3 * sizeof *book,
+                        valuation_day(book), report.bytes, sizeof report);
     expect(answer.number == SEDDOLKI_DONE, "the book has a margin");
     expect(report.head.kind == SEDDOLKI_REPORT_KIND, "a report is of its kind");
     expect(seddolki_get_u32(&report.head.check) == seddolki_check_of(&report),
@@ -80,7 +81,7 @@ int main(int count, char **names) {
     static seddolki_record trade;
     seddolki_answer struck;
     expect(count == 2, "example_book BOOK");
-    write_header(&book[0], 1);
+    write_header(&book[0], 1, 0);
     write_curve(&book[1], 1);
     memcpy(before, book, sizeof book);
     write_trade(&trade);
@@ -88,7 +89,7 @@ int main(int count, char **names) {
     compare(book, 3, names[1]);
     margin(book);
     read_back(book, &trade);
-    struck = seddolki_strike((uint8_t *)book, sizeof book, sizeof book, 0);
+    struck = seddolki_strike((uint8_t *)book, sizeof book, sizeof book, valuation_day(book), 0);
     expect(struck.number == SEDDOLKI_DONE, "the trade is struck");
     expect(struck.value == 2 * sizeof *book, "the book has a block fewer");
     expect(!memcmp(book, before, sizeof book), "the book is as before");

@@ -83,7 +83,7 @@ macro_rules! forms {
 pub fn layouts() -> BTreeMap<String, Form> {
     let mut all = forms! {
         Head = "head" { kind, number, check }
-        Header = "header" { kind, number, account, curves, trade_blocks, check }
+        Header = "header" { kind, number, account, curves, trade_blocks, valuation_day, check }
         Node = "node" { day, rate, components }
         Curve = "curve" {
             kind, number, id, currency, node_count, steps, ranges, places, check

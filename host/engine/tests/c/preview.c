@@ -43,8 +43,8 @@ static seddolki_answer preview(const trial *asked) {
     seddolki_answer answer;
     memcpy(before, book, sizeof book);
     memcpy(space, painted, sizeof space);
-    answer = seddolki_preview((const uint8_t *)book, asked->len, USED, (const uint8_t *)&record,
-                              space, asked->report_len);
+    answer = seddolki_preview((const uint8_t *)book, asked->len, USED, valuation_day(book),
+                              (const uint8_t *)&record, space, asked->report_len);
     expect(!memcmp(book, before, sizeof book), "the book stays");
     expect(!memcmp(&record, &asked->record, sizeof record), "the record stays");
     return answer;
@@ -63,10 +63,11 @@ static seddolki_block appended_margin(const trial *asked) {
     seddolki_block report;
     seddolki_answer answer;
     memcpy(copy, book, sizeof copy);
-    answer = seddolki_append((uint8_t *)copy, asked->len, USED, (const uint8_t *)&asked->record);
+    answer = seddolki_append((uint8_t *)copy, asked->len, USED, valuation_day(book),
+                             (const uint8_t *)&asked->record);
     expect(answer.number == SEDDOLKI_DONE, "the trade is appended");
-    answer = seddolki_margin((const uint8_t *)copy, asked->len, (size_t)answer.value, report.bytes,
-                             sizeof report);
+    answer = seddolki_margin((const uint8_t *)copy, asked->len, (size_t)answer.value,
+                             valuation_day(book), report.bytes, sizeof report);
     expect(answer.number == SEDDOLKI_DONE, "the longer book has a margin");
     return report;
 }
@@ -90,8 +91,8 @@ static void print_preview(const char *what) {
 static void fill_block(void) {
     const seddolki_record trade = once_more().record;
     while (book[LAST].trades.count < SEDDOLKI_FULL_BLOCK) {
-        seddolki_answer answer =
-            seddolki_append((uint8_t *)book, USED, USED, (const uint8_t *)&trade);
+        seddolki_answer answer = seddolki_append((uint8_t *)book, USED, USED, valuation_day(book),
+                                                 (const uint8_t *)&trade);
         expect(answer.number == SEDDOLKI_DONE && answer.value == USED, "the block takes a trade");
     }
 }
