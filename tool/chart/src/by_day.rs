@@ -10,7 +10,7 @@ use crate::style::{Look, Marker, BLUE, ORANGE};
 /// A node of a curve.
 #[derive(Clone, Copy, Debug)]
 pub struct Node {
-    /// From today.
+    /// From the valuation day.
     pub day: u32,
     /// In millionths.
     pub rate: u32,
@@ -19,7 +19,7 @@ pub struct Node {
 /// The sums of a day's cash flows, in hundredths; a day once in a ladder.
 #[derive(Clone, Copy, Debug)]
 pub struct DayFlows {
-    /// From today.
+    /// From the valuation day.
     pub day: u32,
     /// The sum that comes in.
     pub incoming: u64,
@@ -54,7 +54,11 @@ impl ByDay<'_> {
         let (rates, sums) = (self.rate_axis(), self.sum_axis(&title));
         let left = rates.breadth().max(sums.breadth());
         let last_day = self.last_day();
-        let days = Axis::roomy("days from today", Scale::whole(last_day, 12), 0.01);
+        let days = Axis::roomy(
+            "days from the valuation day",
+            Scale::whole(last_day, 12),
+            0.01,
+        );
         let upper = legend(&upper, self.legend)?;
         let lower = ladder_legend(&lower)?;
         let above = Panel::new(&upper, left, &days, &rates)?;

@@ -12,7 +12,7 @@ pub struct Lengthened<'a> {
     pub curve: &'a str,
     /// The currency's name.
     pub currency: &'a str,
-    /// The bond and its cash today, in words.
+    /// The bond and its cash, in words.
     pub bond: &'a str,
     /// The new node, in words.
     pub node: &'a str,
@@ -20,7 +20,7 @@ pub struct Lengthened<'a> {
     pub before: &'a [Node],
     /// The nodes after.
     pub after: &'a [Node],
-    /// The cash that goes out today, and the payments that come in.
+    /// The cash that goes out on day 0, and the payments that come in.
     pub flows: &'a [DayFlows],
 }
 

@@ -90,7 +90,7 @@ fn titles_tell_the_bond_and_the_node() {
         "the curve before",
         "the curve after",
         "rate, percent",
-        "days from today",
+        "days from the valuation day",
         "cash flows, TRY",
         "in, upwards",
         "out, downwards",

@@ -134,7 +134,7 @@ fn titles_tell_figures_and_units() {
         "base -1,000,000,000,000.00, worst loss 1,000,000,000,000.00",
         HEADING.worst,
         "rate, percent",
-        "days from today",
+        "days from the valuation day",
         "cash flows, TRY",
         "the curve",
         "stressed curve with the worst loss",

@@ -2,7 +2,7 @@
 
 use crate::printed::form::Form;
 use clap::{Args, Parser, Subcommand, ValueEnum};
-use seddolki::Ground;
+use seddolki::{Date, Ground};
 use std::path::PathBuf;
 
 /// A back office's day, from an empty folder to a margin.
@@ -90,10 +90,24 @@ fn preview_help() -> String {
     format!("{}\n{}", crate::commands::preview::FORM, columns())
 }
 
+/// What becomes of a book's day, and how a file of curves is written.
+fn curves_help() -> String {
+    let file = seddolki_text::curve_file::FORM;
+    format!("{}\n{file}", crate::commands::curves::FORM)
+}
+
 /// The columns of a bond, and what becomes of it.
 fn bond_help() -> String {
     let meanings = seddolki_text::meanings(&seddolki_text::bond_columns());
     format!("{meanings}\n{}", crate::commands::bootstrap::FORM)
+}
+
+/// Of every command that works on a day.
+#[derive(Args, Clone, Copy, Debug)]
+pub struct OnDay {
+    /// The day to work on, as 2026-11-15, in place of today
+    #[arg(long, value_name = "DATE")]
+    pub day: Option<Date>,
 }
 
 /// Of every command that writes into a folder.
@@ -140,6 +154,8 @@ pub struct New {
     /// The file of curves; - is standard input
     pub curves: PathBuf,
     #[command(flatten)]
+    pub on: OnDay,
+    #[command(flatten)]
     pub waiting: Waiting,
 }
 
@@ -157,6 +173,8 @@ pub struct Adding {
     /// Show the margin before and after, and ask whether to add
     #[arg(long)]
     pub preview: bool,
+    #[command(flatten)]
+    pub on: OnDay,
     #[command(flatten)]
     pub again: Again,
     #[command(flatten)]
@@ -198,6 +216,8 @@ pub struct Preview {
     #[arg(long, value_name = "FILE", conflicts_with = "values")]
     pub trades: Option<PathBuf>,
     #[command(flatten)]
+    pub on: OnDay,
+    #[command(flatten)]
     pub form: Form,
 }
 
@@ -213,6 +233,8 @@ pub struct Amend {
     #[arg(required = true, value_name = "COLUMN=VALUE")]
     pub values: Vec<String>,
     #[command(flatten)]
+    pub on: OnDay,
+    #[command(flatten)]
     pub again: Again,
     #[command(flatten)]
     pub waiting: Waiting,
@@ -226,16 +248,23 @@ pub struct Strike {
     #[arg(value_parser = position)]
     pub position: usize,
     #[command(flatten)]
+    pub on: OnDay,
+    #[command(flatten)]
     pub waiting: Waiting,
 }
 
 #[derive(Args, Debug)]
-#[command(after_help = seddolki_text::curve_file::FORM)]
+#[command(after_help = curves_help())]
 pub struct Curves {
     /// The book to change
     pub book: PathBuf,
     /// The file of curves; - is standard input
     pub file: PathBuf,
+    #[command(flatten)]
+    pub on: OnDay,
+    /// Let trades keep their days, counted from another day
+    #[arg(long)]
+    pub keep_days: bool,
     #[command(flatten)]
     pub waiting: Waiting,
 }
@@ -251,7 +280,7 @@ pub struct Bootstrap {
     /// The id of the curve to lengthen
     #[arg(long, value_name = "ID", value_parser = curve_id)]
     pub curve: u8,
-    /// What the bond settles for today
+    /// What the bond settles for on the valuation day
     #[arg(long, value_name = "AMOUNT", allow_negative_numbers = true)]
     pub cash: String,
     /// How far each component moves the new node, in percent
@@ -267,6 +296,8 @@ pub struct Bootstrap {
     /// Write over a picture that is there already
     #[arg(long, requires = "plot")]
     pub force: bool,
+    #[command(flatten)]
+    pub on: OnDay,
     #[command(flatten)]
     pub waiting: Waiting,
     #[command(flatten)]
@@ -314,6 +345,8 @@ pub struct Margin {
     #[command(flatten)]
     pub books: Books,
     #[command(flatten)]
+    pub on: OnDay,
+    #[command(flatten)]
     pub form: Form,
 }
 
@@ -339,6 +372,8 @@ pub struct Losses {
     /// The part of each trade in its curve's worst loss, in place of scenarios
     #[arg(long)]
     pub trades: bool,
+    #[command(flatten)]
+    pub on: OnDay,
     #[command(flatten)]
     pub form: Form,
 }

@@ -6,6 +6,7 @@ mod arguments;
 mod commands;
 mod compared;
 mod cores;
+mod current_day;
 mod ended;
 mod figures;
 mod files;

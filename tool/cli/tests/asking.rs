@@ -68,8 +68,8 @@ fn each_question_takes_one_line() {
     let desk = Desk::with("desk.book");
     let again = REPO.replace("13.3", "13.4");
     let run = desk.shell(&format!(
-        "printf 'n\\ny\\n' | {{ \"$0\" append --preview desk.book {REPO}; \
-         \"$0\" append --preview desk.book {again}; }}"
+        "printf 'n\\ny\\n' | {{ \"$0\" append --day $DAY --preview desk.book {REPO}; \
+         \"$0\" append --day $DAY --preview desk.book {again}; }}"
     ));
     assert_eq!(run.status, DONE, "{}", run.err);
     assert_eq!(desk.trades("desk.book"), 12);
@@ -128,6 +128,21 @@ fn a_book_that_another_edits_meanwhile_gets_no_trade() {
         assert_eq!(desk.read("desk.book"), edited);
         assert_eq!(desk.files(), ["desk.book"]);
     }
+}
+
+#[test]
+fn a_book_that_goes_to_another_day_meanwhile_gets_no_trade() {
+    let desk = Desk::with("desk.book");
+    let asked = Asked::about_the_repo(&desk);
+    let curves = example("desk-curves.txt");
+    let tomorrow = ["--day", "2026-11-17", "--keep-days"];
+    desk.done(&[&["curves", "desk.book", &curves], &tomorrow[..]].concat());
+    let moved = desk.read("desk.book");
+    let run = asked.answered_yes();
+    assert_eq!(run.status, REFUSED, "{}", run.err);
+    let said = "desk.book: the book is for 17 November 2026, and the day said is 16 November 2026";
+    assert!(run.err.contains(said), "{}", run.err);
+    assert_eq!(desk.read("desk.book"), moved);
 }
 
 #[test]
@@ -200,13 +215,15 @@ fn what_could_not_be_shown_is_not_asked_for() {
     let desk = Desk::with("desk.book");
     let before = desk.read("desk.book");
     let run = desk.shell(&format!(
-        "echo y | \"$0\" append --preview desk.book {REPO} > /dev/full"
+        "echo y | \"$0\" append --day $DAY --preview desk.book {REPO} > /dev/full"
     ));
     assert_eq!(run.status, FAILED, "{}", run.err);
     assert!(!run.err.contains(QUESTION), "{}", run.err);
     assert_eq!(desk.read("desk.book"), before);
     // an answer that can't be read is no yes
-    let run = desk.shell(&format!("\"$0\" append --preview desk.book {REPO} < ."));
+    let run = desk.shell(&format!(
+        "\"$0\" append --day $DAY --preview desk.book {REPO} < ."
+    ));
     assert_eq!(run.status, FAILED, "{}", run.err);
     assert!(
         run.err.contains("standard input: is a directory"),
@@ -242,7 +259,7 @@ fn it_is_asked_on_a_terminal() {
         // `script` gives its command a terminal, and the end of its own input
         let run = desk.shell(&format!(
             "printf '%s\\n' {answer} | timeout 20 script -qec \
-             \"'$0' append --preview desk.book {REPO}\" /dev/null"
+             \"'$0' append --day $DAY --preview desk.book {REPO}\" /dev/null"
         ));
         assert_eq!(run.status, status, "{answer}: {}", run.out);
         assert!(run.out.contains(QUESTION), "{}", run.out);
@@ -250,7 +267,7 @@ fn it_is_asked_on_a_terminal() {
     }
     let desk = Desk::with("desk.book");
     let run = desk.shell(&format!(
-        "timeout 20 script -qec \"'$0' append --preview desk.book {REPO}\" /dev/null < /dev/null"
+        "timeout 20 script -qec \"'$0' append --day $DAY --preview desk.book {REPO}\" /dev/null < /dev/null"
     ));
     assert_eq!(
         (run.status, desk.trades("desk.book")),
@@ -261,7 +278,7 @@ fn it_is_asked_on_a_terminal() {
     // the question stands there also where the tables go elsewhere
     let run = desk.shell(&format!(
         "echo y | timeout 20 script -qec \
-         \"'$0' append --preview desk.book {REPO} > shown.txt\" /dev/null"
+         \"'$0' append --day $DAY --preview desk.book {REPO} > shown.txt\" /dev/null"
     ));
     assert!(run.out.contains(QUESTION), "{}", run.out);
     assert!(desk
@@ -286,7 +303,8 @@ fn the_trades_of_a_file_are_asked_for_together() {
     assert_eq!(desk.read("desk.book"), before);
     let run = desk.run_with("y\n", &import);
     assert_eq!(run.status, DONE, "{}", run.err);
-    let start = "desk.book: 11 trades would be added, at positions 0 to 10\n\naccount 1042\n";
+    let start =
+        "desk.book: 11 trades would be added, at positions 0 to 10\n\naccount 1042, valuation day ";
     assert!(run.out.starts_with(start), "{}", run.out);
     let end = "\ndesk.book: 11 trades are added, at positions 0 to 10\n";
     assert!(run.out.ends_with(end), "{}", run.out);

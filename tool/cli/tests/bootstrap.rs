@@ -33,7 +33,7 @@ fn the_handbook_s_curve_is_lengthened_by_its_bond() {
     assert_eq!(
         text,
         "handbook.book: curve 1 is lengthened to day 350 by 1,000,000.00 nominal with 2 coupons \
-         of 5.0000% each 180 days from day 170, for 990,000.00 today\n\
+         of 5.0000% each 180 days from day 170, for 990,000.00 on 16 November 2026\n\
          \n\
          day     rate  component 1       2       3\n\
          350  11.9510      +1.0000  0.0000  0.0000\n\
@@ -78,7 +78,9 @@ fn a_dry_run_shows_the_same_and_leaves_the_book() {
         desk.write("handbook.book", &before);
     }
     let command = HANDBOOK.replace("handbook.book", "-");
-    let run = desk.shell(&format!("\"$0\" {command} --dry-run < handbook.book"));
+    let run = desk.shell(&format!(
+        "\"$0\" {command} --day $DAY --dry-run < handbook.book"
+    ));
     assert_eq!(run.status, DONE, "{}", run.err);
     assert!(run
         .out
@@ -97,7 +99,7 @@ fn a_dry_run_draws_the_curve_before_and_after() {
     for text in [
         "Curve 1 of account 4, TRY: lengthened by a bond&apos;s price",
         "1,000,000.00 nominal with 2 coupons of 5.0000% each 180 days from day 170, \
-         for 990,000.00 today",
+         for 990,000.00 on 16 November 2026",
         "new node: day 350, rate 11.9510%, components +1.0000% 0.0000% 0.0000%",
         "the curve before",
         "the curve after",
@@ -216,7 +218,7 @@ fn what_is_no_number_is_told_at_once() {
     let lines: Vec<&str> = run.err.lines().collect();
     for (line, due) in lines.iter().zip([
         "column nominal: 1,5 is not a number with a decimal point: write 1.50",
-        "column first_payment_day: nothing is given: 1 to 10,950 days from today",
+        "column first_payment_day: nothing is given: 1 to 10,950 days from the valuation day",
         "column period: -1 is too small: 1 to 366",
         "column payments: it is given twice: 2 and 3",
         "column coupon: nothing is given: 0.0000 to 100.0000",

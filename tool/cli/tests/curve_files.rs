@@ -53,7 +53,7 @@ fn a_byte_order_mark_and_ends_of_lines_of_windows_are_taken() {
     desk.write("curves.txt", text);
     assert_eq!(
         desk.done(&["new", "new.book", "curves.txt"]),
-        "new.book: account 5, 1 curve, no trades\n"
+        "new.book: account 5, valuation day 16 November 2026, 1 curve, no trades\n"
     );
 }
 

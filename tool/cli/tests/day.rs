@@ -3,7 +3,8 @@
 
 mod tool;
 
-use tool::{example, Desk, MISUSED};
+use tool::today::{date_in, NOON};
+use tool::{example, Desk, Run, DAY_IN_WORDS, DONE, MISUSED, REFUSED};
 
 const README: &str = include_str!("../../../README.md");
 
@@ -20,24 +21,39 @@ fn commands(text: &str) -> Vec<&str> {
     day.expect("five commands").to_vec()
 }
 
-/// Runs a command without its first word, which is the tool.
-fn run(desk: &Desk, command: &str) -> String {
-    desk.done(&command.split_whitespace().skip(1).collect::<Vec<_>>())
+/// Runs a command as it is written, its first word being the tool. What it
+/// prints of today is said of the day on which the texts were written.
+fn run(desk: &Desk, command: &str) -> Run {
+    let words: Vec<&str> = command.split_whitespace().skip(1).collect();
+    let run = desk.run_in(&NOON, &words);
+    let today = date_in(&NOON).in_words();
+    let [out, err] = [run.out, run.err].map(|text| text.replace(&today, DAY_IN_WORDS));
+    Run { out, err, ..run }
+}
+
+fn done(desk: &Desk, command: &str) -> String {
+    let run = run(desk, command);
+    assert_eq!((run.status, run.err.as_str()), (DONE, ""), "{command}");
+    run.out
 }
 
 fn margin_of_the_day(desk: &Desk, commands: &[&str]) -> String {
     let mut last = String::new();
     for command in commands {
-        last = run(desk, command);
+        last = done(desk, command);
     }
     last
 }
 
-/// Runs the first command of the README that starts so.
-fn run_readme(desk: &Desk, start: &str) -> String {
+/// The first command of the README that starts so.
+fn in_readme(start: &str) -> String {
     let joined = README.replace("\\\n", " ");
     let line = joined.lines().find(|line| line.starts_with(start));
-    run(desk, line.expect("the README has it"))
+    line.expect("the README has it").to_owned()
+}
+
+fn run_readme(desk: &Desk, start: &str) -> String {
+    done(desk, &in_readme(start))
 }
 
 fn assert_readme_shows(printed: &str) {
@@ -96,6 +112,15 @@ fn the_readme_shows_the_node_that_its_bond_adds() {
 }
 
 #[test]
+fn the_readme_shows_a_book_of_another_day_refused_and_taken() {
+    let desk = desk_with_example("buyer.book");
+    let refused = run(&desk, &in_readme("seddolki margin examples/buyer.book"));
+    assert_eq!((refused.status, refused.out.as_str()), (REFUSED, ""));
+    assert_readme_shows(&refused.err);
+    assert_readme_shows(&run_readme(&desk, "seddolki margin --day "));
+}
+
+#[test]
 fn the_examples_do_what_their_readme_shows() {
     let readme = std::fs::read_to_string(example("README.md")).unwrap();
     let (_, shown) = readme.split_once("```text\n").unwrap();
@@ -111,7 +136,7 @@ fn the_examples_do_what_their_readme_shows() {
     }
     for step in shown.split("$ seddolki ").skip(1) {
         let (command, printed) = step.split_once('\n').unwrap();
-        let run = desk.run(&command.split_whitespace().collect::<Vec<_>>());
+        let run = run(&desk, &format!("seddolki {command}"));
         assert_eq!(run.out + &run.err, printed, "{command}");
     }
 }
@@ -166,6 +191,7 @@ fn files_are_completed_where_books_are_due_and_options_behind_dashes() {
     assert_eq!(completed("seddolki preview desk.book ''"), "\n");
     assert_eq!(completed("seddolki preview desk.book --tr"), "--trades\n");
     assert_eq!(completed("seddolki check --d"), "--doubles\n");
+    assert_eq!(completed("seddolki margin --d"), "--day\n");
     assert_eq!(completed("seddolki template c"), "curves\n");
     assert_eq!(completed("seddolki mar"), "margin\n");
 }
@@ -174,7 +200,11 @@ fn files_are_completed_where_books_are_due_and_options_behind_dashes() {
 fn the_manual_has_the_day_and_the_statuses() {
     let manual = Desk::new().done(&["man"]);
     assert!(manual.starts_with(".TH SEDDOLKI 1"));
-    for line in ["seddolki margin desk.book", "nothing has changed"] {
+    for line in [
+        "seddolki margin desk.book",
+        "nothing has changed",
+        ".SH VALUATION DAY\nA book is for one day",
+    ] {
         assert!(manual.contains(line), "{line}");
     }
     // a line of text that starts with a point would be a request of roff

@@ -4,7 +4,7 @@ mod tool;
 
 use tool::{example, Desk, DONE, REFUSED};
 
-/// A pool repo of 100,000.00 at 14.1% for 7 days from today, as append takes it.
+/// A pool repo of 100,000.00 at 14.1% for 7 days from day 0, as append takes it.
 const REPO: [&str; 9] = [
     "kind=pool repo",
     "side=repo",

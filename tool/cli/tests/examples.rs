@@ -3,7 +3,7 @@
 mod tool;
 
 use seddolki_books::{buyer, seller};
-use tool::{example, Desk};
+use tool::{example, for_day, Desk, DAY};
 
 #[test]
 fn the_example_books_are_those_of_document_01() {
@@ -13,15 +13,15 @@ fn the_example_books_are_those_of_document_01() {
 
 #[test]
 fn books_are_made_from_curves_and_trades() {
-    for (curves, trades, book) in [
-        ("curve.txt", "buyer.csv", "buyer.book"),
-        ("curve.txt", "seller.csv", "seller.book"),
-        ("desk-curves.txt", "desk-trades.csv", "desk.book"),
-        ("repo-curves.txt", "repo.csv", "repo.book"),
+    for (day, curves, trades, book) in [
+        ("2000-01-01", "curve.txt", "buyer.csv", "buyer.book"),
+        ("2000-01-01", "curve.txt", "seller.csv", "seller.book"),
+        (DAY, "desk-curves.txt", "desk-trades.csv", "desk.book"),
+        (DAY, "repo-curves.txt", "repo.csv", "repo.book"),
     ] {
         let desk = Desk::new();
-        desk.done(&["new", book, &example(curves)]);
-        desk.done(&["import", book, &example(trades)]);
+        desk.done(&["new", "--day", day, book, &example(curves)]);
+        desk.done(&["import", "--day", day, book, &example(trades)]);
         assert_eq!(desk.read(book), std::fs::read(example(book)).unwrap());
         assert_eq!(desk.files(), [book]);
     }
@@ -35,7 +35,10 @@ fn a_buyers_margin() {
         .lines()
         .map(|line| line.split_whitespace().collect())
         .collect();
-    assert_eq!(words[0], ["account", "7"]);
+    assert_eq!(
+        text.lines().next(),
+        Some("account 7, valuation day 16 November 2026")
+    );
     assert_eq!(
         words[3],
         ["1", "TRY", "100.00", "300.00", "2", "+3.00", "0.00", "0.00", "0.01"]
@@ -61,7 +64,7 @@ fn a_book_is_checked_and_shown() {
     let desk = Desk::with("buyer.book");
     assert_eq!(
         desk.done(&["check", "buyer.book"]),
-        "buyer.book: accepted, account 7, 1 curve, 1 trade\n"
+        "buyer.book: accepted, account 7, valuation day 16 November 2026, 1 curve, 1 trade\n"
     );
     let text = desk.done(&["show", "buyer.book"]);
     assert!(
@@ -126,7 +129,7 @@ fn a_trade_is_appended_and_struck() {
     assert!(words.ends_with(&["TRY", "0.00", "0.00", "0.00"]), "{text}");
     let struck = desk.done(&["strike", "buyer.book", "0"]);
     assert!(struck.starts_with("buyer.book: trade 0 is struck: buys 1,000.00"));
-    assert_eq!(desk.read("buyer.book"), seller());
+    assert_eq!(desk.read("buyer.book"), for_day(&seller(), DAY));
 }
 
 #[test]
@@ -203,7 +206,7 @@ fn two_books_are_told_apart() {
         rows[1].starts_with("trade added,10,,,\"repo member in a pool repo, phase 1: cash 77.00"),
         "{diff}"
     );
-    std::fs::copy(example("buyer.book"), desk.path("buyer.book")).unwrap();
+    desk.copy("buyer.book", "buyer.book");
     let diff = desk.done(&["diff", "desk.book", "buyer.book"]);
     assert!(
         diff.contains("account") && diff.contains("rate of day 365"),
@@ -218,17 +221,17 @@ fn flows_are_netted_by_day_and_curve() {
     // on day 1: 3,000,000.00 of trade 3 in; trade 4 takes its second leg in; trade 0 and 2 stand on curve 1
     let day: Vec<&str> = text
         .lines()
-        .filter(|line| line.starts_with("2,TRY,1,"))
+        .filter(|line| line.starts_with("2026-11-16,2,TRY,1,"))
         .collect();
     assert_eq!(
         day,
-        ["2,TRY,1,5000612.47,0.00,5000612.47,\"first leg, second leg\""]
+        ["2026-11-16,2,TRY,1,5000612.47,0.00,5000612.47,\"first leg, second leg\""]
     );
     let total = |text: &str| -> i64 {
         let net = text
             .lines()
             .skip(1)
-            .map(|line| line.split(',').nth(5).unwrap().replace('.', ""));
+            .map(|line| line.split(',').nth(6).unwrap().replace('.', ""));
         net.map(|net| net.parse::<i64>().unwrap()).sum()
     };
     let all = desk.done(&["flows", "desk.book", "--csv"]);
@@ -253,8 +256,8 @@ fn losses_are_those_of_the_margin() {
     for (line, worst) in margin.lines().skip(1).zip(worst) {
         let (figures, worst): (Vec<&str>, Vec<&str>) =
             (line.split(',').collect(), worst.split(',').collect());
-        assert_eq!(figures[3..5], worst[..2]);
-        assert_eq!((figures[6], figures[7]), (worst[6], worst[2]));
+        assert_eq!(figures[3..6], worst[..3]);
+        assert_eq!((figures[7], figures[8]), (worst[7], worst[3]));
     }
     // the trades of a curve add up to its figures, which stand in a table of their own
     let arguments = ["losses", "--trades", "desk.book", "--curve", "1", "--json"];
@@ -274,12 +277,12 @@ fn losses_are_those_of_the_margin() {
 #[test]
 fn grounds_are_explained() {
     let desk = Desk::with("buyer.book");
-    for number in 1..=18 {
+    for number in 1..=19 {
         let text = desk.done(&["explain", &number.to_string()]);
         assert!(text.lines().count() >= 2, "{text}");
     }
     assert!(desk.done(&["explain", "9"]).contains("730"));
-    assert_eq!(desk.run(&["explain", "19"]).status, tool::MISUSED);
+    assert_eq!(desk.run(&["explain", "20"]).status, tool::MISUSED);
     assert_eq!(desk.run(&["explain", "0"]).status, tool::MISUSED);
     assert!(desk
         .done(&["explain", "9", "buyer.book"])

@@ -7,7 +7,7 @@ use std::fs::{self, Permissions};
 use std::os::unix::fs::{chown, symlink, MetadataExt, PermissionsExt};
 use std::os::unix::process::CommandExt;
 use std::process::Command;
-use tool::{example, finish, outright, Desk, Run, DONE, FAILED, LENGTHEN};
+use tool::{example, finish, on_day, outright, Desk, Run, DONE, FAILED, LENGTHEN};
 
 const NOBODY: u32 = 65534;
 
@@ -30,7 +30,7 @@ fn run_unprivileged(desk: &Desk, arguments: &[&str]) -> Run {
     let copy = reachable.path().join("seddolki");
     fs::copy(tool::tool(), &copy).unwrap();
     let mut command = Command::new(copy);
-    command.args(arguments).current_dir(desk.path("."));
+    command.args(on_day(arguments)).current_dir(desk.path("."));
     finish(command.uid(NOBODY).gid(NOBODY))
 }
 
@@ -44,14 +44,20 @@ fn a_failed_write_leaves_the_book_and_nothing_else() {
     let before = desk.read("desk.book");
     let trades = example("seller.csv");
     for command in [
-        format!("import desk.book '{trades}'"),
-        "strike desk.book 0".to_owned(),
-        "amend desk.book 0 nominal=7".to_owned(),
-        format!("curves desk.book '{}'", example("desk-curves.txt")),
+        format!("import --day $DAY desk.book '{trades}'"),
+        "strike --day $DAY desk.book 0".to_owned(),
+        "amend --day $DAY desk.book 0 nominal=7".to_owned(),
+        format!(
+            "curves --day $DAY desk.book '{}'",
+            example("desk-curves.txt")
+        ),
         "plot desk.book 1 curve.svg".to_owned(),
-        LENGTHEN.join(" "),
-        format!("{} --dry-run --plot curve.svg", LENGTHEN.join(" ")),
-        format!("new new.book '{}'", example("desk-curves.txt")),
+        format!("{} --day $DAY", LENGTHEN.join(" ")),
+        format!(
+            "{} --day $DAY --dry-run --plot curve.svg",
+            LENGTHEN.join(" ")
+        ),
+        format!("new --day $DAY new.book '{}'", example("desk-curves.txt")),
     ] {
         let run = desk.shell(&format!("{NO_ROOM} \"$0\" {command}"));
         assert_eq!(
@@ -71,8 +77,9 @@ fn a_planted_link_is_not_followed() {
     let desk = Desk::with("buyer.book");
     desk.write("precious", "precious");
     // under the name that the temporary file of this very process once had
-    let run =
-        desk.shell("ln -s precious .buyer.book.$BASHPID.new; exec \"$0\" strike buyer.book 0");
+    let run = desk.shell(
+        "ln -s precious .buyer.book.$BASHPID.new; exec \"$0\" strike --day $DAY buyer.book 0",
+    );
     assert_eq!(run.status, DONE, "{}", run.err);
     assert_eq!(desk.read("precious"), b"precious");
     assert!(!desk.path("buyer.book").is_symlink());
@@ -177,7 +184,7 @@ fn at_most_one_byte_more_than_the_largest_book_is_read() {
         "{}",
         long.err
     );
-    let text = desk.shell("ulimit -v 400000; timeout 20 \"$0\" new new.book /dev/zero");
+    let text = desk.shell("ulimit -v 400000; timeout 20 \"$0\" new --day $DAY new.book /dev/zero");
     assert_eq!(text.status, 1, "{}", text.err);
     assert_eq!(desk.files(), ["long.book"]);
 }

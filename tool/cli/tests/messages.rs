@@ -43,7 +43,7 @@ fn control_characters_are_escaped() {
 fn names_need_not_be_utf_8() {
     let desk = Desk::new();
     let name = OsString::from_vec(b"b\xfc\xe7er.book".to_vec());
-    std::fs::copy(example("buyer.book"), desk.path(&name)).unwrap();
+    desk.copy("buyer.book", &name);
     let run = desk.run(&[OsStr::new("check"), &name]);
     assert_eq!(run.status, DONE, "{}", run.err);
     assert!(
@@ -94,9 +94,13 @@ fn two_dashes_end_the_options() {
 fn a_single_dash_is_a_standard_stream() {
     let desk = Desk::with("desk.book");
     let text = desk.done(&["margin", "desk.book"]);
-    let run = desk.shell("\"$0\" margin - < desk.book");
+    let run = desk.shell("\"$0\" margin --day $DAY - < desk.book");
     assert_eq!((run.status, run.out), (DONE, text));
-    let run = desk.shell("\"$0\" export desk.book | { \"$0\" new new.book <(\"$0\" export --curves desk.book) && \"$0\" import new.book -; }");
+    let run = desk.shell(
+        "\"$0\" export desk.book | { \
+         \"$0\" new --day $DAY new.book <(\"$0\" export --curves desk.book) && \
+         \"$0\" import --day $DAY new.book -; }",
+    );
     assert_eq!(run.status, DONE, "{}", run.err);
     assert_eq!(desk.read("new.book"), desk.read("desk.book"));
     desk.ended(MISUSED, &["diff", "-", "-"]);

@@ -112,13 +112,19 @@ fn what_is_printed_does_not_go_into_a_book_that_is_read() {
     symlink("desk.book", desk.path("link")).unwrap();
     let trades = example("seller.csv");
     for (command, output) in [
-        (&*format!("preview desk.book --trades '{trades}'"), "link"),
-        (&format!("import --preview desk.book '{trades}'"), "link"),
+        (
+            &*format!("preview --day $DAY desk.book --trades '{trades}'"),
+            "link",
+        ),
+        (
+            &format!("import --day $DAY --preview desk.book '{trades}'"),
+            "link",
+        ),
         ("check desk.book", "link"),
-        ("margin link", "desk.book"),
+        ("margin --day $DAY link", "desk.book"),
         ("export desk.book", "desk.book"),
-        ("strike desk.book 0", "desk.book"),
-        (&LENGTHEN.join(" "), "desk.book"),
+        ("strike --day $DAY desk.book 0", "desk.book"),
+        (&format!("{} --day $DAY", LENGTHEN.join(" ")), "desk.book"),
     ] {
         let run = desk.shell(&format!("\"$0\" {command} >> {output}"));
         assert_eq!(run.status, FAILED, "{command}");

@@ -7,7 +7,8 @@ use serde_json::Value;
 use std::fs;
 use std::os::unix::fs::MetadataExt;
 use tool::{
-    changed, commands, example, outright, outrights, Desk, Run, DONE, FAILED, MISUSED, REFUSED,
+    changed, commands, example, outright, outrights, Desk, Run, DAY_IN_WORDS, DONE, FAILED,
+    MISUSED, REFUSED,
 };
 
 /// The figures of each table, and the column that names a row.
@@ -61,7 +62,7 @@ fn the_margin_before_and_after_and_the_difference() {
         "buyer.book: trade 1 would be added: buys 2,000.00 paid on day 365, at 70.0000% clean \
          and 0.0000% accrued, value day 0; nothing is changed\n\
          \n\
-         account 7\n\
+         account 7, valuation day 16 November 2026\n\
          \n\
          \x20              before    after  difference\n\
          TRY\n\
@@ -91,7 +92,7 @@ fn assert_shows(preview: &Value, [before, after]: [&Value; 2]) {
         assert_eq!(rows.len(), before[table].as_array().unwrap().len());
         for (place, row) in rows.iter().enumerate() {
             let [before, after] = [before, after].map(|margin| &margin[table][place]);
-            for name in [key, "account"] {
+            for name in [key, "account", "valuation_day"] {
                 assert_eq!((&row[name], &row[name]), (&before[name], &after[name]));
             }
             for figure in figures {
@@ -157,7 +158,10 @@ fn several_trades_are_shown_together() {
                 format!("{count} trades would be added, at positions 11 to {last}")
             }
         };
-        let due = format!("desk.book: {words}; nothing is changed\n\naccount 1042\n\n");
+        let due = format!(
+            "desk.book: {words}; nothing is changed\n\n\
+             account 1042, valuation day {DAY_IN_WORDS}\n\n"
+        );
         assert!(text.starts_with(&due), "{text}\n{due}");
     }
 }
@@ -233,17 +237,19 @@ fn a_book_may_come_from_standard_input() {
     let desk = Desk::with("desk.book");
     let trade = "kind=pool_repo side=repo phase=1 cash_curve=2 value_day_1=1 value_day_2=15 \
                  term=14 repo_cash=3000000 repo_rate=13.3";
-    let run = desk.shell(&format!("\"$0\" preview - {trade} < desk.book"));
+    let run = desk.shell(&format!("\"$0\" preview --day $DAY - {trade} < desk.book"));
     assert_eq!((run.status, run.err.as_str()), (DONE, ""));
-    let named = desk.shell(&format!("\"$0\" preview desk.book {trade}"));
+    let named = desk.shell(&format!("\"$0\" preview --day $DAY desk.book {trade}"));
     let words = "standard input: trade 11 would be added: repo member in a pool repo";
     assert!(run.out.starts_with(words), "{}", run.out);
     assert_eq!(run.out.replace("standard input", "desk.book"), named.out);
-    let run = desk.shell("\"$0\" preview - kind=swap < desk.book");
+    let run = desk.shell("\"$0\" preview --day $DAY - kind=swap < desk.book");
     let words = "seddolki: standard input: column kind: swap ";
     assert!(run.err.starts_with(words), "{}", run.err);
     let csv = example("seller.csv");
-    let run = desk.shell(&format!("\"$0\" preview desk.book --trades - < '{csv}'"));
+    let run = desk.shell(&format!(
+        "\"$0\" preview --day $DAY desk.book --trades - < '{csv}'"
+    ));
     assert_eq!((run.status, run.err.as_str()), (DONE, ""));
 }
 
@@ -437,7 +443,7 @@ fn files_that_are_not_there_and_books_that_are_none_are_told() {
 fn what_cannot_be_printed_is_a_failure_and_a_lock_is_none() {
     let desk = Desk::with("buyer.book");
     let command = format!(
-        "\"$0\" preview buyer.book --trades '{}'",
+        "\"$0\" preview --day $DAY buyer.book --trades '{}'",
         example("seller.csv")
     );
     for form in ["", "--json", "--csv"] {
@@ -455,10 +461,10 @@ fn differences_have_a_sign_for_programs_too() {
     let with = |form: &str| desk.run(&[&values[..], &[form.to_owned()]].concat()).out;
     let csv = with("--csv");
     let row =
-        "\ncurrencies,7,TRY,300.00,900.00,600.00,-200.00,-600.00,-400.00,100.00,300.00,200.00,";
+        "\ncurrencies,7,2026-11-16,TRY,300.00,900.00,600.00,-200.00,-600.00,-400.00,100.00,300.00,200.00,";
     assert!(csv.contains(row), "{csv}");
     let semicolon = with("--semicolon");
-    let row = "\ncurrencies;7;TRY;300,00;900,00;600,00;-200,00;-600,00;-400,00;";
+    let row = "\ncurrencies;7;2026-11-16;TRY;300,00;900,00;600,00;-200,00;-600,00;-400,00;";
     assert!(semicolon.contains(row), "{semicolon}");
     let curve = &json(&with("--json"))["curves"][0];
     assert_eq!(

@@ -15,11 +15,12 @@ fn exported_books_are_imported_as_they_were() {
         let desk = Desk::new();
         desk.write("a.book", assemble(&book));
         desk.done(&["export", "--curves", "a.book", "curves.txt"]);
+        let on = ["--day", &book.valuation_day.to_string()];
         for (form, file) in [(&[][..], "comma.csv"), (&["--semicolon"], "semicolon.csv")] {
             desk.done(&[&["export", "a.book", file], form].concat());
             let name = format!("{file}.book");
-            desk.done(&["new", &name, "curves.txt"]);
-            let run = desk.run(&["import", "--again", &name, file]);
+            desk.done(&[&["new", &name, "curves.txt"], &on[..]].concat());
+            let run = desk.run(&[&["import", "--again", &name, file], &on[..]].concat());
             assert_eq!(run.status, tool::DONE, "seed {seed}: {}", run.err);
             assert_eq!(desk.read(&name), desk.read("a.book"), "seed {seed}");
         }
@@ -33,11 +34,14 @@ fn drawn_books_are_shown_and_drawn() {
         book.trades.truncate(60);
         let desk = Desk::new();
         desk.write("a.book", assemble(&book));
-        for command in ["show", "margin", "flows", "losses"] {
-            assert!(
-                !desk.done(&[command, "a.book"]).is_empty(),
-                "seed {seed}: {command}"
-            );
+        let on = ["--day", &book.valuation_day.to_string()];
+        let of_one_day = ["margin", "losses"].map(|command| [command, on[0], on[1], "a.book"]);
+        for command in of_one_day {
+            assert!(!desk.done(&command).is_empty(), "seed {seed}: {command:?}");
+        }
+        for command in ["show", "flows"] {
+            let shown = desk.done(&[command, "a.book"]);
+            assert!(!shown.is_empty(), "seed {seed}: {command}");
         }
         desk.done(&["plot", "a.book", "1", "rates.svg"]);
         desk.done(&["plot", "--losses", "a.book", "1", "losses.svg"]);
@@ -72,6 +76,8 @@ fn every_column_of_every_kind_is_amended() {
             .map(|(name, value)| format!("{name}={value}"));
         let mut arguments = vec![
             "amend".to_owned(),
+            "--day".into(),
+            book.valuation_day.to_string(),
             "--again".into(),
             "a.book".into(),
             "0".into(),

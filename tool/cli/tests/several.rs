@@ -2,12 +2,12 @@
 
 mod tool;
 
-use tool::{example, Desk, DONE, FAILED, MISUSED, REFUSED};
+use tool::{Desk, DONE, FAILED, MISUSED, REFUSED};
 
 fn desk_with_books() -> Desk {
     let desk = Desk::new();
     for name in ["buyer.book", "seller.book", "desk.book"] {
-        std::fs::copy(example(name), desk.path(name)).unwrap();
+        desk.copy(name, name);
     }
     desk
 }
@@ -17,14 +17,15 @@ fn margins_of_several_books_have_totals() {
     let desk = desk_with_books();
     let text = desk.done(&["margin", "buyer.book", "seller.book", "desk.book"]);
     let lines: Vec<&str> = text.lines().collect();
-    assert!(lines[0].starts_with("book "), "{text}");
-    let words: Vec<&str> = lines[1].split_whitespace().collect();
+    assert_eq!(lines[..2], ["valuation day 16 November 2026", ""]);
+    assert!(lines[2].starts_with("book "), "{text}");
+    let words: Vec<&str> = lines[3].split_whitespace().collect();
     let figures = ["buyer.book", "7", "TRY", "300.00", "100.00", "-200.00"];
     assert_eq!(words, figures, "{text}");
     // of buyer.book and seller.book alone: 300 + 200, 100 - 100, -200 - 300
     let pair = desk.done(&["margin", "buyer.book", "seller.book", "--csv"]);
     assert!(
-        pair.contains("\ntotals,,,,TRY,,,,,,,,500.00,0.00,-500.00,2\n"),
+        pair.contains("\ntotals,,,,,TRY,,,,,,,,500.00,0.00,-500.00,2\n"),
         "{pair}"
     );
 }
@@ -73,7 +74,8 @@ fn a_bar_is_drawn_on_a_terminal_alone() {
     let run = desk.run(&["margin", "buyer.book", "desk.book"]);
     assert_eq!((run.status, run.err.as_str()), (DONE, ""));
     // `script` gives its command a terminal
-    let run = desk.shell("script -qec \"'$0' margin buyer.book desk.book seller.book\" /dev/null");
+    let run = desk
+        .shell("script -qec \"'$0' margin --day $DAY buyer.book desk.book seller.book\" /dev/null");
     assert_eq!(run.status, DONE, "{}", run.err);
     assert!(run.out.contains("of 3 books"), "{:?}", run.out);
 }

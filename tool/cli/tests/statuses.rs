@@ -16,11 +16,11 @@ fn an_edit_that_is_done_ends_so_though_it_cannot_be_told() {
         let desk = Desk::with("buyer.book");
         let trade = shell_words(&outright(5));
         let run = desk.shell(&format!(
-            "set -o pipefail; \"$0\" append buyer.book {trade} {streams}"
+            "set -o pipefail; \"$0\" append --day $DAY buyer.book {trade} {streams}"
         ));
         assert_eq!(run.status, DONE, "{streams}: {}", run.err);
         assert_eq!(desk.trades("buyer.book"), 2);
-        let run = desk.shell(&format!("\"$0\" strike buyer.book 1 {streams}"));
+        let run = desk.shell(&format!("\"$0\" strike --day $DAY buyer.book 1 {streams}"));
         assert_eq!(run.status, DONE, "{streams}: {}", run.err);
         assert_eq!(desk.trades("buyer.book"), 1);
     }
@@ -28,7 +28,7 @@ fn an_edit_that_is_done_ends_so_though_it_cannot_be_told() {
 
 #[test]
 fn a_curve_that_is_lengthened_is_so_though_its_table_cannot_be_printed() {
-    let lengthen = LENGTHEN.join(" ");
+    let lengthen = LENGTHEN.join(" ") + " --day $DAY";
     for form in ["", "--json", "--csv"] {
         let desk = Desk::with("desk.book");
         let run = desk.shell(&format!("\"$0\" {lengthen} {form} --dry-run >/dev/full"));
@@ -43,7 +43,7 @@ fn a_curve_that_is_lengthened_is_so_though_its_table_cannot_be_printed() {
 #[test]
 fn what_was_asked_for_and_cannot_be_printed_is_a_failure() {
     let desk = Desk::with("desk.book");
-    for command in ["margin", "show", "flows", "export"] {
+    for command in ["margin --day $DAY", "show", "flows", "export"] {
         let run = desk.shell(&format!("\"$0\" {command} desk.book > /dev/full"));
         assert_eq!(run.status, FAILED, "{command}");
         assert!(
@@ -60,8 +60,8 @@ fn a_refusal_that_cannot_be_told_is_still_one_and_nothing_panics() {
     let before = desk.read("buyer.book");
     for streams in ["2>/dev/full", "2>&-", ">&- 2>&-"] {
         for (command, status) in [
-            ("append buyer.book kind=swap", REFUSED),
-            ("strike buyer.book 7", REFUSED),
+            ("append --day $DAY buyer.book kind=swap", REFUSED),
+            ("strike --day $DAY buyer.book 7", REFUSED),
             ("strike buyer.book first", MISUSED),
             ("check", MISUSED),
             ("check no.book", FAILED),
@@ -79,7 +79,8 @@ fn a_reader_that_stops_early_is_no_fault() {
     let run = desk.shell(
         "set -o pipefail; for i in 1 2 3 4 5 6 7 8 9; do \"$0\" show desk.book; done | head -n 1",
     );
-    assert_eq!((run.out.as_str(), run.err.as_str()), ("account 1042\n", ""));
+    let first = "account 1042, valuation day 16 November 2026\n";
+    assert_eq!((run.out.as_str(), run.err.as_str()), (first, ""));
     assert_eq!(run.status, DONE);
     let run = desk.shell("set -o pipefail; \"$0\" export desk.book | true");
     assert_eq!((run.status, run.err.as_str()), (DONE, ""));

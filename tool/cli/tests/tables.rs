@@ -52,10 +52,10 @@ fn commands() -> Vec<(&'static str, Vec<&'static str>)> {
 
 fn desk() -> Desk {
     let desk = Desk::with("desk.book");
-    for name in ["buyer.book", "seller.csv"] {
-        std::fs::copy(tool::example(name), desk.path(name)).unwrap();
+    std::fs::copy(tool::example("seller.csv"), desk.path("seller.csv")).unwrap();
+    for name in ["buyer.book", "doubled.book"] {
+        desk.copy("buyer.book", name);
     }
-    std::fs::copy(tool::example("buyer.book"), desk.path("doubled.book")).unwrap();
     desk.run(&[
         "import",
         "doubled.book",

@@ -3,7 +3,7 @@
 mod tool;
 
 use tool::term_repo::{desk, with, BILL, ENDS, POOL, SETTLED, SETTLED_POOL};
-use tool::{changed, commands, example, Desk, DONE};
+use tool::{changed, commands, Desk, DONE};
 
 /// The reason why the book refuses the repo with these changes.
 fn refusal(desk: &Desk, command: &[&str], values: &[String]) -> String {
@@ -128,7 +128,7 @@ fn they_leave_and_come_back_as_text() {
     for form in [&[][..], &["--semicolon"]] {
         let trades = [&["export", "empty.book", "trades.csv", "--force"], form].concat();
         desk.done(&trades);
-        std::fs::copy(example("empty.book"), desk.path("other.book")).unwrap();
+        desk.copy("empty.book", "other.book");
         desk.done(&["import", "other.book", "trades.csv"]);
         assert_eq!(desk.read("other.book"), desk.read("empty.book"));
     }

@@ -79,7 +79,7 @@ fn a_preview_shows_what_an_append_brings() {
     let due = format!(
         "{sentence}; nothing is changed\n\
          \n\
-         account 7\n\
+         account 7, valuation day 16 November 2026\n\
          \n\
          \x20             before    after  difference\n\
          TRY\n\

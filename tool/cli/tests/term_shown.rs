@@ -219,7 +219,9 @@ fn the_ladder_says_what_the_sums_of_a_day_are() {
     let text = desk.done(&["flows", "empty.book"]);
     assert_eq!(
         text,
-        "curve  currency  day        in       out        net  flows\n\
+        "account 7, valuation day 16 November 2026\n\
+         \n\
+         curve  currency  day        in       out        net  flows\n\
          \x20   1  TRY         0  1,000.00      0.00  +1,000.00  first leg\n\
          \x20   1  TRY       365      0.00    100.00    -100.00  payment inside the term\n\
          \x20   1  TRY       730      0.00  1,100.00  -1,100.00  second leg, payment inside the term\n"
@@ -238,14 +240,16 @@ fn the_ladder_says_what_the_sums_of_a_day_are() {
     let text = desk.done(&["flows", "empty.book", "--csv"]);
     assert_eq!(
         text,
-        "curve,currency,day,in,out,net,flows\n\
-         1,TRY,0,1000.00,990.00,10.00,\"settlement cash, first leg\"\n\
-         1,TRY,365,1100.00,100.00,1000.00,\"second leg, payment inside the term, payment\"\n\
-         1,TRY,730,100.00,1200.00,-1100.00,\"second leg, payment inside the term, payment\"\n\
-         1,TRY,1095,1100.00,1100.00,0.00,payment\n"
+        "valuation_day,curve,currency,day,in,out,net,flows\n\
+         2026-11-16,1,TRY,0,1000.00,990.00,10.00,\"settlement cash, first leg\"\n\
+         2026-11-16,1,TRY,365,1100.00,100.00,1000.00,\
+         \"second leg, payment inside the term, payment\"\n\
+         2026-11-16,1,TRY,730,100.00,1200.00,-1100.00,\
+         \"second leg, payment inside the term, payment\"\n\
+         2026-11-16,1,TRY,1095,1100.00,1100.00,0.00,payment\n"
     );
     let text = desk.done(&["flows", "empty.book", "--semicolon"]);
-    let line = "\n1;TRY;0;1000,00;990,00;10,00;settlement cash, first leg\n";
+    let line = "\n2026-11-16;1;TRY;0;1000,00;990,00;10,00;settlement cash, first leg\n";
     assert!(text.contains(line), "{text}");
     let rows = desk.tables(&["flows", "empty.book"]);
     assert_eq!(
@@ -278,8 +282,8 @@ fn the_help_and_the_manual_name_the_columns_and_the_flows() {
         ),
         (
             append,
-            "first payment comes after value_day_1, or after today where the trade does not use \
-             that; it may come inside a repo's term.",
+            "first payment comes after value_day_1, or after the valuation day where the trade does \
+             not use that; it may come inside a repo's term.",
         ),
     ] {
         assert!(joined(&help).contains(words), "{help}");

@@ -17,8 +17,8 @@ one line of steps, one of ranges and 2 to 24 nodes.
   curve CURRENCY             TRY, USD or EUR; the lines below it are its own
   steps COUNT COUNT COUNT    steps of its three components, 0 to 3 each
   ranges NUMBER x 3          the largest coefficient of each, as 1.50
-  node DAY RATE NUMBER x 3   day from today, rate in percent, and how far each
-                             component moves it, in percent
+  node DAY RATE NUMBER x 3   days from the valuation day, rate in percent, and
+                             how far each component moves it, in percent
 ";
 
 /// What a file of curves holds.

@@ -81,12 +81,12 @@ and by security:
   period, payments, coupon                    no    no       yes      yes
   settlement_index, issue_index               no    no       no       yes
 
-A security's first payment comes after value_day_1, or after today where the
-trade does not use that; it may come inside a repo's term. Before the first leg
-has settled, what is paid after value_day_1 and up to value_day_2 goes out for
-the repo member and comes in for the reverse-repo member, and what is paid later
-is no flow of the repo. Once it has settled (pool 3, specified 2), only what is
-paid after value_day_2 counts.
+A security's first payment comes after value_day_1, or after the valuation day
+where the trade does not use that; it may come inside a repo's term. Before the
+first leg has settled, what is paid after value_day_1 and up to value_day_2 goes
+out for the repo member and comes in for the reverse-repo member, and what is
+paid later is no flow of the repo. Once it has settled (pool 3, specified 2),
+only what is paid after value_day_2 counts.
 
 A bond that is bought, a pool repo before its security is known, and a repo of a
 bond that pays a coupon inside the term:
@@ -112,7 +112,7 @@ mod tests {
     use crate::columns::{trade_columns, COLUMNS};
     use crate::trade::{record_of, Value};
     use crate::{curve_file, template};
-    use seddolki::{doubles, Book};
+    use seddolki::{doubles, Book, Date};
     use seddolki_format::assemble;
     use seddolki_format::record::SPECIFIED;
 
@@ -134,8 +134,9 @@ mod tests {
             "\n  nominal            of the security: 0.01 to 10,000,000,000.00\n",
             "\n  side               of the account: buyer or seller of an outright, repo or\n\
              \x20                    reverse repo of a repo\n",
-            "\n  value_day_1        of settlement or the first leg: 0 to 10,950 days from today\n",
-            "\n  first_payment_day  of the security: 1 to 10,950 days from today\n",
+            "\n  value_day_1        of settlement or the first leg: 0 to 10,950 days from the\n\
+             \x20                    valuation day\n",
+            "\n  first_payment_day  of the security: 1 to 10,950 days from the valuation day\n",
         ] {
             assert!(text.contains(lines), "{text}");
         }
@@ -200,7 +201,8 @@ mod tests {
     #[test]
     fn the_engine_takes_the_examples() {
         let file = curve_file::read(template::CURVES.as_bytes()).unwrap();
-        let mut book = Book::from_bytes(assemble(file.account, &file.curves, &[]));
+        let day = Date::FIRST;
+        let mut book = Book::from_bytes(assemble(file.account, day, &file.curves, &[]));
         let mut records = vec![];
         for command in uses().split("seddolki append desk.book").skip(1) {
             let words = command.split_whitespace().filter(|word| *word != "\\");
@@ -208,7 +210,7 @@ mod tests {
             let named = pairs.map(|(name, value)| (Column::find(name).unwrap(), value));
             let values: Vec<Value> = named.collect();
             let record = record_of(&values, Decimals::Point).unwrap();
-            assert_eq!(book.append(&record), Ok(records.len()));
+            assert_eq!(book.append(day, &record), Ok(records.len()));
             records.push(record);
         }
         let kinds: Vec<u8> = records.iter().map(|record| record.kind).collect();

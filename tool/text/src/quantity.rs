@@ -34,7 +34,7 @@ impl Quantity {
     /// Days up to the last that a book takes.
     pub const fn day(low: i64) -> Self {
         Quantity {
-            unit: " days from today",
+            unit: " days from the valuation day",
             ..Quantity::new(0, low, MAX_DAY as i64)
         }
     }
@@ -47,7 +47,8 @@ impl Quantity {
     pub const COMPONENT: Quantity =
         Quantity::new(PERCENT, -MAX_COMPONENT as i64, MAX_COMPONENT as i64);
 
-    /// The limits in words, as `1 to 730`, or `0 to 10,950 days from today`.
+    /// The limits in words, as `1 to 730`, or `0 to 10,950 days from the
+    /// valuation day`.
     pub fn allowed(&self, decimals: Decimals) -> String {
         let [low, high] =
             [self.low, self.high].map(|limit| decimal::grouped(limit, self.places, decimals));

@@ -102,7 +102,7 @@ fn faults_are_told_in_the_order_of_the_columns() {
         told(&wrong),
         [
             "column nominal: nothing is given: 0.01 to 10,000,000,000.00",
-            "column first_payment_day: 70000 is too large: 1 to 10,950 days from today",
+            "column first_payment_day: 70000 is too large: 1 to 10,950 days from the valuation day",
             "column period: half a year is not a number: 1 to 366",
             "column payments: it is given twice: 8 and 9",
             "column coupon: 6.45000 has more than 4 decimals: 0.0000 to 100.0000",

@@ -1,6 +1,6 @@
 //! Files of curves, read and written.
 
-use seddolki::Book;
+use seddolki::{Book, Date};
 use seddolki_books::curve::draw_curves;
 use seddolki_books::Draw;
 use seddolki_format::assemble;
@@ -189,7 +189,7 @@ fn all_wrong_lines_are_told_at_once() {
             "line 6: x is not a number: 0.00 to 100.00",
             "line 6: 1.001 has more than 2 decimals: 0.00 to 100.00",
             "line 7: 5 numbers due, 4 found: a day, a rate and 3 components",
-            "line 8: 65536 is too large: 0 to 10,950 days from today",
+            "line 8: 65536 is too large: 0 to 10,950 days from the valuation day",
             "line 8: -1 is too small: 0.0000 to 100.0000",
             "line 8: 9999999 is too large: -100.0000 to 100.0000",
             "line 8: 1,5 is not a number with a decimal point: write 1.5000",
@@ -229,7 +229,7 @@ fn what_is_written_is_read_as_the_same_curves() {
         let nodes = again.curves.iter().map(|curve| curve.nodes().len());
         assert!(again.lines.iter().map(places).eq(nodes));
         assert_eq!(again.lines[0].curve, 3);
-        let book = assemble(again.account, &again.curves, &[]);
+        let book = assemble(again.account, Date::FIRST, &again.curves, &[]);
         assert_eq!(Book::from_bytes(book).check(), Ok(()));
     }
 }

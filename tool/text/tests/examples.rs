@@ -1,6 +1,6 @@
 //! The files of trades among the examples.
 
-use seddolki::{Book, Record};
+use seddolki::{Book, Date, Record};
 use seddolki_format::assemble;
 use seddolki_text::{curve_file, trades_file};
 use std::fs;
@@ -22,7 +22,7 @@ fn trades_make_their_books() {
     let file = curve_file::read(&example("curve.txt")).unwrap();
     for name in ["buyer", "seller"] {
         let trades = records(&format!("{name}.csv"));
-        let book = assemble(file.account, &file.curves, &trades);
+        let book = assemble(file.account, Date::FIRST, &file.curves, &trades);
         assert_eq!(book, example(&format!("{name}.book")), "{name}");
     }
 }
@@ -31,10 +31,11 @@ fn trades_make_their_books() {
 #[test]
 fn wrong_trades_are_rightly_written() {
     let file = curve_file::read(&example("curve.txt")).unwrap();
-    let mut book = Book::from_bytes(assemble(file.account, &file.curves, &[]));
+    let day = Date::FIRST;
+    let mut book = Book::from_bytes(assemble(file.account, day, &file.curves, &[]));
     let [right, wrong] = records("wrong-trades.csv")[..] else {
         panic!("two trades are due");
     };
-    assert_eq!(book.append(&right), Ok(0));
-    assert!(book.append(&wrong).is_err());
+    assert_eq!(book.append(day, &right), Ok(0));
+    assert!(book.append(day, &wrong).is_err());
 }

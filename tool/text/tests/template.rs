@@ -1,6 +1,6 @@
 //! The files that a new user starts from.
 
-use seddolki::{doubles, Book};
+use seddolki::{doubles, Book, Date};
 use seddolki_format::record::{INDEXED_COUPONS, NO_SECURITY, OUTRIGHT, POOL, SPECIFIED};
 use seddolki_format::{assemble, Record};
 use seddolki_text::trades_file::Trade;
@@ -16,16 +16,17 @@ fn trades() -> Vec<Trade> {
 fn the_engine_takes_the_trades_on_the_curves() {
     let file = curve_file::read(template::CURVES.as_bytes()).unwrap();
     let trades = trades();
-    let mut book = Book::from_bytes(assemble(file.account, &file.curves, &[]));
+    let day = Date::FIRST;
+    let mut book = Book::from_bytes(assemble(file.account, day, &file.curves, &[]));
     for (position, trade) in trades.iter().enumerate() {
         assert_eq!(
-            book.append(&trade.record),
+            book.append(day, &trade.record),
             Ok(position),
             "line {}",
             trade.line
         );
     }
-    let report = book.margin().unwrap();
+    let report = book.margin(day).unwrap();
     assert_eq!(report.present_curves().count(), 2);
     assert!(report
         .present_curves()

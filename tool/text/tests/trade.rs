@@ -384,8 +384,8 @@ fn all_faults_are_told_at_once_with_what_is_allowed() {
             "column cash_curve: -1 is too small: 1 to 8",
             "column security: bond is none of none, single payment, coupons or indexed coupons",
             "column nominal: lots is not a number: 0.01 to 10,000,000,000.00",
-            "column value_day_1: 70000 is too large: 0 to 10,950 days from today",
-            "column value_day_2: nothing is given: 0 to 10,950 days from today",
+            "column value_day_1: 70000 is too large: 0 to 10,950 days from the valuation day",
+            "column value_day_2: nothing is given: 0 to 10,950 days from the valuation day",
             "column term: nothing is given: 1 to 730",
             "column coupon: 13,250 can be read as 13,250.0000 or 13.2500: \
              write it in one of these ways",
@@ -399,22 +399,23 @@ fn all_faults_are_told_at_once_with_what_is_allowed() {
 }
 
 #[test]
-fn days_are_counted_from_today() {
+fn days_are_counted_from_the_valuation_day() {
     for (column, least) in [("value_day_1", 0), ("first_payment_day", 1)] {
         for date in ["2026-05-04", "04.05.2026", "4.5.2026", "05/04/2026"] {
             let trade = but(OUTRIGHT_BOUGHT, &format!("{column}={date}"));
-            let wrong = format!("{date} is not a number: {least} to 10,950 days from today");
+            let wrong =
+                format!("{date} is not a number: {least} to 10,950 days from the valuation day");
             assert_eq!(refused(&trade), [format!("column {column}: {wrong}")]);
         }
     }
     assert_eq!(
         refused(&but(OUTRIGHT_BOUGHT, "value_day_1")),
-        ["column value_day_1: nothing is given: 0 to 10,950 days from today"]
+        ["column value_day_1: nothing is given: 0 to 10,950 days from the valuation day"]
     );
     let repo = values("kind=pool repo; side=repo; phase=1; value_day_2=04.05.2026");
     for (decimals, most) in [(Decimals::Comma, "10.950"), (Decimals::Either, "10,950")] {
         let faults = shown(record_of(&repo, decimals).unwrap_err());
-        let due = format!("04.05.2026 is not a number: 0 to {most} days from today");
+        let due = format!("04.05.2026 is not a number: 0 to {most} days from the valuation day");
         assert!(
             faults.contains(&format!("column value_day_2: {due}")),
             "{faults:?}"

@@ -1,8 +1,9 @@
 //! Columns of one trade changed.
 
 use crate::arguments::Amend;
+use crate::current_day::CurrentDay;
 use crate::ended::{Ended, DONE};
-use crate::files::books::edit;
+use crate::files::books::edit_on;
 use crate::printed::print;
 use crate::trades::keyed::{faults_told, named_values};
 use crate::trades::keyed_twice::Told;
@@ -16,10 +17,12 @@ use seddolki_text::trade::amend;
 use seddolki_text::{trade_columns, Column, Decimals};
 
 pub fn run(arguments: &Amend) -> Result<u8, Ended> {
+    let day = CurrentDay::of(arguments.on)?;
     let given = named_values(&trade_columns(), &arguments.values)?;
     let position = arguments.position;
-    let name = shown(&arguments.book);
-    let (record, notes) = edit(&arguments.book, arguments.waiting, |book, mut parts| {
+    let (path, waiting) = (&arguments.book, arguments.waiting);
+    let name = shown(path);
+    let (record, notes) = edit_on(day, path, waiting, |book, mut parts| {
         let record = changed(&name, &parts, position, &given)?;
         parts.trades[position] = record;
         *book = judged(&name, &parts, &record)?;
@@ -52,7 +55,12 @@ fn changed(
 
 /// The book with the trade in its place, if the engine accepts it.
 fn judged(name: &str, parts: &accept::Book, record: &Record) -> Result<Book, Ended> {
-    let book = Book::from_bytes(assemble(parts.account, &parts.curves, &parts.trades));
+    let book = Book::from_bytes(assemble(
+        parts.account,
+        parts.valuation_day,
+        &parts.curves,
+        &parts.trades,
+    ));
     let reason = |refusal| format!("{name}: {}", record_refused(record, &parts.curves, refusal));
     book.check()
         .map_err(|refusal| Ended::refused(reason(refusal)))?;

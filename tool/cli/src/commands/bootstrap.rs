@@ -1,9 +1,10 @@
 //! A curve lengthened by a bond's price.
 
 use crate::arguments::{Bootstrap, Output};
+use crate::current_day::CurrentDay;
 use crate::ended::{Ended, DONE};
 use crate::figures::lengthened::Lengthened;
-use crate::files::books::{accepted, edit, is_dash, name_of};
+use crate::files::books::{accepted_on, edit_on, is_dash, name_of};
 use crate::files::outputs;
 use crate::printed::print;
 use crate::printed::table::Table;
@@ -32,19 +33,20 @@ A bond that ends after the template's first curve, looked at and then taken:
 ";
 
 pub fn run(arguments: &Bootstrap) -> Result<u8, Ended> {
+    let day = CurrentDay::of(arguments.on)?;
     let quote = keyed(arguments)?;
     if arguments.dry_run {
-        look(arguments, &quote)
+        look(arguments, day, &quote)
     } else {
-        lengthen(arguments, &quote)
+        lengthen(arguments, day, &quote)
     }
 }
 
 /// Edits the book.
-fn lengthen(arguments: &Bootstrap, quote: &Quote) -> Result<u8, Ended> {
+fn lengthen(arguments: &Bootstrap, day: CurrentDay, quote: &Quote) -> Result<u8, Ended> {
     let name = shown(&arguments.book);
-    let lengthened = edit(&arguments.book, arguments.waiting, |book, parts| {
-        Lengthened::by(quote, &name, book, &parts)
+    let lengthened = edit_on(day, &arguments.book, arguments.waiting, |book, parts| {
+        Lengthened::by(quote, day.date, &name, book, &parts)
     })?;
     let head = format!("{name}: {}", lengthened.in_words("is"));
     let tables = lengthened.tables();
@@ -56,10 +58,10 @@ fn lengthen(arguments: &Bootstrap, quote: &Quote) -> Result<u8, Ended> {
 }
 
 /// Shows what an edit would do.
-fn look(arguments: &Bootstrap, quote: &Quote) -> Result<u8, Ended> {
-    let file = accepted(&arguments.book)?;
+fn look(arguments: &Bootstrap, day: CurrentDay, quote: &Quote) -> Result<u8, Ended> {
+    let file = accepted_on(day, &arguments.book)?;
     let mut book = file.book.clone();
-    let lengthened = Lengthened::by(quote, &file.name, &mut book, &file.parts)?;
+    let lengthened = Lengthened::by(quote, day.date, &file.name, &mut book, &file.parts)?;
     if let Some(path) = &arguments.plot {
         refuse_standard_output(path)?;
         let output = Output {

@@ -61,10 +61,10 @@ fn texts(checked: &[Checked], text: fn(&BookFile) -> String) -> String {
 }
 
 fn accepted_text(file: &BookFile) -> String {
-    let (name, account) = (&file.name, file.parts.account);
+    let (name, account) = (&file.name, file.in_words());
     let curves = count(file.parts.curves.len(), "curve");
     let trades = count(file.parts.trades.len(), "trade");
-    format!("{name}: accepted, account {account}, {curves}, {trades}\n")
+    format!("{name}: accepted, {account}, {curves}, {trades}\n")
 }
 
 fn doubles_text(file: &BookFile) -> String {
@@ -84,7 +84,15 @@ fn doubles_text(file: &BookFile) -> String {
 
 fn books_table(checked: &[Checked]) -> Table {
     let columns = [
-        "book", "accepted", "ground", "block", "why", "account", "curves", "trades",
+        "book",
+        "accepted",
+        "ground",
+        "block",
+        "why",
+        "account",
+        "valuation_day",
+        "curves",
+        "trades",
     ];
     let mut table = Table::new("books", &columns);
     for Checked { name, verdict } in checked {
@@ -95,6 +103,7 @@ fn books_table(checked: &[Checked]) -> Table {
                 Value::Nothing,
                 Value::Nothing,
                 Value::Id(file.parts.account),
+                Value::date(file.parts.valuation_day),
                 Value::count(file.parts.curves.len()),
                 Value::count(file.parts.trades.len()),
             ],
@@ -102,6 +111,7 @@ fn books_table(checked: &[Checked]) -> Table {
                 Value::count(refusal.ground.number() as usize),
                 block(*refusal),
                 Value::text(why),
+                Value::Nothing,
                 Value::Nothing,
                 Value::Nothing,
                 Value::Nothing,

@@ -1,30 +1,72 @@
-//! The curves of a book replaced.
+//! The curves of a book replaced, and its day with them.
 
 use crate::arguments::Curves;
+use crate::current_day::CurrentDay;
 use crate::ended::{Ended, DONE};
 use crate::files::books::{edit, text};
 use crate::files::curve_files::{book_of, read_curves};
 use crate::printed::print;
 use seddolki_format::text::count;
+use seddolki_model::accept::Book;
 use seddolki_store::shown;
 
+pub const FORM: &str = "\
+The book is then for today, or for the day that --day says. Trades count their
+days from it: where it is another than before, a book with trades is refused
+unless --keep-days is said. Then their days stay as they are, and are other
+dates.
+";
+
 pub fn run(arguments: &Curves) -> Result<u8, Ended> {
+    let day = CurrentDay::of(arguments.on)?;
     let input = text(&arguments.file)?;
     let (file, from) = (read_curves(&input)?, &input.name);
     let name = shown(&arguments.book);
-    let (before, trades) = edit(&arguments.book, arguments.waiting, |book, parts| {
+    let before = edit(&arguments.book, arguments.waiting, |book, parts| {
         if parts.account != file.account {
             let (account, other) = (parts.account, file.account);
             let reason = format!("{from}: account {other}, and {name} is of account {account}");
             return Err(Ended::refused(reason));
         }
-        *book = book_of(from, &file, &parts.trades)?;
-        Ok((parts.curves.len(), parts.trades.len()))
+        if !arguments.keep_days {
+            refuse_other_dates(&name, &parts, day)?;
+        }
+        *book = book_of(from, &file, day.date, &parts.trades)?;
+        Ok(parts)
     })?;
-    let (curves, trades) = (count(before, "curve"), count(trades, "trade"));
-    let now = file.curves.len();
+    let curves = count(before.curves.len(), "curve");
+    let trades = count(before.trades.len(), "trade");
+    let (now, moved) = (file.curves.len(), moved(&before, day));
     print::notice(&format!(
-        "{name}: {curves} replaced by {now}, {trades} kept"
+        "{name}: {curves} replaced by {now}, {trades} kept{moved}"
     ));
     Ok(DONE)
+}
+
+/// The days of a trade are other dates where they are counted from another
+/// day.
+fn refuse_other_dates(name: &str, book: &Book, day: CurrentDay) -> Result<(), Ended> {
+    let own = book.valuation_day;
+    if own == day.date || book.trades.is_empty() {
+        return Ok(());
+    }
+    let trades = count(book.trades.len(), "trade");
+    let words = own.in_words();
+    Err(Ended::refused(format!(
+        "{name}: the days of its {trades} are counted from {words}, and {day}; say --keep-days \
+         if they are to stay as they are and count from the new day, or --day {own} if the \
+         book's day is to stay"
+    )))
+}
+
+/// What became of the book's day, if it is another now.
+fn moved(before: &Book, day: CurrentDay) -> String {
+    let [own, now] = [before.valuation_day, day.date].map(|date| date.in_words());
+    match before.trades.len() {
+        _ if before.valuation_day == day.date => String::new(),
+        0 => format!("; the book was for {own}, and is now for {now}"),
+        _ => format!(
+            "; the days of trades stay as they are, counted from {now} now and not from {own}"
+        ),
+    }
 }

@@ -2,7 +2,7 @@
 
 use crate::arguments::Explain;
 use crate::ended::{Ended, DONE};
-use crate::files::books::read;
+use crate::files::books::{read, BookFile};
 use crate::printed::print;
 use crate::trades::refusal::book_refused;
 use seddolki::Ground;
@@ -22,9 +22,12 @@ pub fn run(arguments: &Explain) -> Result<u8, Ended> {
 /// Whether a book is refused by the ground, and where.
 fn applied(ground: Ground, path: &Path) -> Result<String, Ended> {
     let (input, book) = read(path)?;
-    let name = input.name;
+    let name = input.name.clone();
     Ok(match book.check() {
-        Ok(()) => format!("{name}: accepted"),
+        Ok(()) => {
+            let file = BookFile::of(input, book)?;
+            format!("{}: accepted, {}", file.name, file.in_words())
+        }
         Err(refusal) if refusal.ground == ground => {
             format!("{name}: {}", book_refused(&book, refusal))
         }

@@ -4,12 +4,13 @@ use crate::arguments::Flows;
 use crate::ended::{Ended, DONE};
 use crate::figures::chosen::chosen_curves;
 use crate::figures::ladder::Sums;
-use crate::files::books::accepted;
+use crate::files::books::{accepted, BookFile};
 use crate::printed::table::{Table, Value};
 use crate::trades::flow_kind::{flows_of, FlowKind};
 use seddolki::Record;
 use seddolki_format::block::Curve;
 use seddolki_format::report::currency_name;
+use seddolki_model::accept::Book;
 use seddolki_text::decimal::MONEY;
 use std::collections::{BTreeMap, BTreeSet};
 
@@ -20,21 +21,36 @@ repo, which goes out for the repo member and comes in for the reverse-repo
 member, or any other payment of a security. show has each flow by its trade.
 ";
 
-const COLUMNS: [&str; 7] = ["curve", "currency", "day", "in", "out", "net", "flows"];
+const COLUMNS: [&str; 8] = [
+    "valuation_day",
+    "curve",
+    "currency",
+    "day",
+    "in",
+    "out",
+    "net",
+    "flows",
+];
 
 pub fn run(arguments: &Flows) -> Result<u8, Ended> {
     let file = accepted(&arguments.one.book)?;
     let mut table = Table::new("flows", &COLUMNS);
     for curve in chosen_curves(&file, arguments.curve)? {
-        push_days(&mut table, &file.parts.trades, curve);
+        push_days(&mut table, &file.parts, curve);
     }
-    arguments.form.print(&[table], |[table]| {
-        if table.rows.is_empty() {
-            return "no cash flows\n".into();
-        }
-        table.text()
-    })?;
+    arguments
+        .form
+        .print(&[table], |[table]| text(&file, table))?;
     Ok(DONE)
+}
+
+fn text(file: &BookFile, table: &Table) -> String {
+    let flows = if table.rows.is_empty() {
+        "no cash flows\n".into()
+    } else {
+        table.text_without(&["valuation_day"])
+    };
+    format!("{}\n\n{flows}", file.in_words())
 }
 
 /// The flows of a curve on one day: their sums, and what they are.
@@ -44,11 +60,12 @@ struct Day {
     kinds: BTreeSet<FlowKind>,
 }
 
-fn push_days(table: &mut Table, trades: &[Record], curve: &Curve) {
-    for (number, day) in days(trades, curve) {
+fn push_days(table: &mut Table, book: &Book, curve: &Curve) {
+    for (number, day) in days(&book.trades, curve) {
         let Sums { inwards, outwards } = day.sums;
         let kinds: Vec<&str> = day.kinds.iter().map(|kind| kind.name()).collect();
         table.push(vec![
+            Value::date(book.valuation_day),
             Value::Id(curve.id.into()),
             Value::text(currency_name(curve.currency.into())),
             Value::Whole(number.into()),

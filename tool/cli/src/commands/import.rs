@@ -1,6 +1,7 @@
 //! Trades added from a CSV file.
 
 use crate::arguments::Import;
+use crate::current_day::CurrentDay;
 use crate::ended::Ended;
 use crate::files::books::is_dash;
 use crate::trades::adding::add;
@@ -19,6 +20,7 @@ pub fn run(arguments: &Import) -> Result<u8, Ended> {
         let reason = "with --preview standard input has the answer, and not the trades";
         return Err(Ended::Misused(reason.into()));
     }
-    let trades = NewTrades::of_file(&arguments.book, &arguments.trades)?;
+    let day = CurrentDay::of(arguments.adding.on)?;
+    let trades = NewTrades::of_file(&arguments.book, day, &arguments.trades)?;
     add(&arguments.book, &trades, arguments.adding)
 }

@@ -1,39 +1,52 @@
 //! Losses by scenario, and by trade.
 
 use crate::arguments::Losses;
+use crate::current_day::CurrentDay;
 use crate::ended::{Ended, DONE};
 use crate::figures::chosen::chosen_curves;
 use crate::figures::valued::{valued, Valued};
-use crate::files::books::{accepted, BookFile};
+use crate::files::books::{accepted_on, BookFile};
 use crate::printed::table::{Table, Value};
 use crate::trades::words;
 use seddolki_format::report::currency_name;
 
 pub fn run(arguments: &Losses) -> Result<u8, Ended> {
-    let file = accepted(&arguments.one.book)?;
+    let day = CurrentDay::of(arguments.on)?;
+    let file = accepted_on(day, &arguments.one.book)?;
     let curves = chosen_curves(&file, arguments.curve)?;
     let valued = valued(&file, &curves)?;
     let form = arguments.form;
     if arguments.trades {
-        let tables = [by_trade(&file, &valued), sums(&valued)];
-        form.print(&tables, |[trades, sums]| {
-            format!("{}\n{}", trades.text(), sums.text())
-        })?;
+        let tables = [by_trade(&file, &valued), sums(&file, &valued)];
+        form.print(&tables, |tables| text(&file, tables))?;
     } else {
-        form.print(&[by_scenario(&valued)], |[losses]| losses.text())?;
+        let tables = [by_scenario(&file, &valued)];
+        form.print(&tables, |tables| text(&file, tables))?;
     }
     Ok(DONE)
 }
 
-fn curve_cells(valued: &Valued) -> Vec<Value> {
-    let currency = currency_name(valued.figures.currency);
-    vec![Value::Id(valued.curve.id.into()), Value::text(currency)]
+fn text(file: &BookFile, tables: &[Table]) -> String {
+    let tables = tables.iter();
+    let tables: Vec<String> = tables
+        .map(|table| table.text_without(&["valuation_day"]))
+        .collect();
+    format!("{}\n\n{}", file.in_words(), tables.join("\n"))
 }
 
-fn by_scenario(valued: &[Valued]) -> Table {
+fn curve_cells(file: &BookFile, valued: &Valued) -> Vec<Value> {
+    vec![
+        Value::date(file.parts.valuation_day),
+        Value::Id(valued.curve.id.into()),
+        Value::text(currency_name(valued.figures.currency)),
+    ]
+}
+
+fn by_scenario(file: &BookFile, valued: &[Valued]) -> Table {
     let mut table = Table::new(
         "losses",
         &[
+            "valuation_day",
             "curve",
             "currency",
             "scenario",
@@ -46,7 +59,7 @@ fn by_scenario(valued: &[Valued]) -> Table {
     );
     for one in valued {
         for (scenario, (coefficients, loss)) in one.scenarios.iter().zip(&one.losses).enumerate() {
-            let mut row = curve_cells(one);
+            let mut row = curve_cells(file, one);
             row.push(Value::count(scenario));
             row.extend(coefficients.map(Value::coefficient));
             row.push(Value::money(*loss));
@@ -60,12 +73,19 @@ fn by_scenario(valued: &[Valued]) -> Table {
 
 fn by_trade(file: &BookFile, valued: &[Valued]) -> Table {
     let columns = [
-        "curve", "currency", "scenario", "position", "base", "loss", "trade",
+        "valuation_day",
+        "curve",
+        "currency",
+        "scenario",
+        "position",
+        "base",
+        "loss",
+        "trade",
     ];
     let mut table = Table::new("trades", &columns);
     for one in valued {
         for share in one.shares(file) {
-            let mut row = curve_cells(one);
+            let mut row = curve_cells(file, one);
             row.push(Value::Whole(one.figures.scenario.into()));
             row.push(Value::count(share.position));
             row.extend([share.base, share.loss].map(Value::money));
@@ -79,11 +99,18 @@ fn by_trade(file: &BookFile, valued: &[Valued]) -> Table {
 }
 
 /// The figures of each curve, to which its trades add up.
-fn sums(valued: &[Valued]) -> Table {
-    let columns = ["curve", "currency", "scenario", "base", "loss"];
+fn sums(file: &BookFile, valued: &[Valued]) -> Table {
+    let columns = [
+        "valuation_day",
+        "curve",
+        "currency",
+        "scenario",
+        "base",
+        "loss",
+    ];
     let mut table = Table::new("curves", &columns);
     for one in valued {
-        let mut row = curve_cells(one);
+        let mut row = curve_cells(file, one);
         row.push(Value::Whole(one.figures.scenario.into()));
         row.extend([one.figures.base, one.figures.worst_loss].map(Value::money));
         table.push(row);

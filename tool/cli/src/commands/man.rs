@@ -1,6 +1,7 @@
 //! The manual page, made of the same text as the help.
 
 use crate::arguments::{Arguments, DAY, STATUSES};
+use crate::current_day::RULE;
 use crate::ended::{Ended, DONE};
 use crate::printed::print;
 use crate::trades::keyed_twice::KINDS;
@@ -25,6 +26,7 @@ fn page(tool: &Command) -> String {
         page += &section(command);
     }
     page += &format!(".SH A DAY\n{}", verbatim(DAY));
+    page += &format!(".SH VALUATION DAY\n{}\n", escaped(RULE));
     page += &format!(".SH TRADES KEYED TWICE\n{}\n", escaped(KINDS));
     page += &format!(".SH EXIT STATUS\n{}", verbatim(STATUSES));
     page

@@ -1,8 +1,9 @@
 //! The margin of books as a dealer reads it.
 
 use crate::arguments::Margin;
+use crate::current_day::CurrentDay;
 use crate::ended::Ended;
-use crate::files::books::{accepted, one_stream, BookFile};
+use crate::files::books::{accepted_on, one_stream, BookFile};
 use crate::printed::progress::over_books;
 use crate::printed::table::{Table, Value};
 use seddolki::{CurrencyFigures, CurveFigures, Report};
@@ -12,10 +13,10 @@ use seddolki_model::scenario::scenarios;
 use std::path::Path;
 
 pub const FIGURES: &str = "\
-By curve: the value of its flows today, the largest loss over its scenarios,
-the scenario of that loss with its three coefficients, and how far the value
-may be from the exact one. By currency: initial is the sum of the worst
-losses, variation the sum of the values, total is variation less initial.
+By curve: the value of its flows on the valuation day, the largest loss over its
+scenarios, the scenario of that loss with its three coefficients, and how far
+the value may be from the exact one. By currency: initial is the sum of the
+worst losses, variation the sum of the values, total is variation less initial.
 Of several books the currencies are shown, and their totals over all books.";
 
 /// A book's report.
@@ -25,36 +26,37 @@ struct Margined {
 }
 
 pub fn run(arguments: &Margin) -> Result<u8, Ended> {
+    let day = CurrentDay::of(arguments.on)?;
     let paths = &arguments.books.books;
     one_stream(paths)?;
-    let (margined, worst) = over_books(paths, margined)?;
-    let several = paths.len() > 1;
+    let (margined, worst) = over_books(paths, |path| margined(day, path))?;
     let tables = [curves(&margined), currencies(&margined), totals(&margined)];
     arguments
         .form
-        .print(&tables, |tables| text(tables, several))?;
+        .print(&tables, |tables| match &margined[..] {
+            [] => String::new(),
+            [Margined { file, .. }] if paths.len() == 1 => of_one(file, tables),
+            _ => of_several(day, tables),
+        })?;
     Ok(worst)
 }
 
-fn margined(path: &Path) -> Result<Margined, Ended> {
-    let file = accepted(path)?;
+fn margined(day: CurrentDay, path: &Path) -> Result<Margined, Ended> {
+    let file = accepted_on(day, path)?;
     let report = file.margin()?;
     Ok(Margined { file, report })
 }
 
-fn text([curves, currencies, totals]: &[Table; 3], several: bool) -> String {
-    if curves.rows.is_empty() {
-        return String::new();
-    }
-    if several {
-        return format!("{}\n{}", currencies.text(), totals.text());
-    }
-    let Value::Id(account) = curves.rows[0][1] else {
-        unreachable!("the account stands in the second column");
-    };
-    let own = ["book", "account"];
+fn of_one(file: &BookFile, [curves, currencies, _]: &[Table; 3]) -> String {
+    let own = ["book", "account", "valuation_day"];
     let (curves, currencies) = (curves.text_without(&own), currencies.text_without(&own));
-    format!("account {account}\n\n{curves}\n{currencies}")
+    format!("{}\n\n{curves}\n{currencies}", file.in_words())
+}
+
+fn of_several(day: CurrentDay, [_, currencies, totals]: &[Table; 3]) -> String {
+    let day = day.date.in_words();
+    let currencies = currencies.text_without(&["valuation_day"]);
+    format!("valuation day {day}\n\n{currencies}\n{}", totals.text())
 }
 
 fn curves(margined: &[Margined]) -> Table {
@@ -63,6 +65,7 @@ fn curves(margined: &[Margined]) -> Table {
         &[
             "book",
             "account",
+            "valuation_day",
             "curve",
             "currency",
             "base",
@@ -85,7 +88,11 @@ fn curves(margined: &[Margined]) -> Table {
 }
 
 fn book_cells(file: &BookFile) -> Vec<Value> {
-    vec![Value::text(&file.name), Value::Id(file.parts.account)]
+    vec![
+        Value::text(&file.name),
+        Value::Id(file.parts.account),
+        Value::date(file.parts.valuation_day),
+    ]
 }
 
 fn curve_cells(id: usize, figures: &CurveFigures, curve: &Curve) -> Vec<Value> {
@@ -108,6 +115,7 @@ fn currencies(margined: &[Margined]) -> Table {
         &[
             "book",
             "account",
+            "valuation_day",
             "currency",
             "initial",
             "variation",

@@ -5,7 +5,7 @@ mod append;
 pub mod bootstrap;
 mod check;
 mod completions;
-mod curves;
+pub mod curves;
 mod diff;
 mod explain;
 mod export;

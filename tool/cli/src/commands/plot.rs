@@ -13,6 +13,7 @@ use seddolki_chart::{Heading, Losses, Node, Rates};
 use seddolki_format::block::Curve;
 use seddolki_format::report::currency_name;
 use seddolki_format::text::count;
+use seddolki_model::accept::Book;
 use seddolki_model::scenario::{scenarios, stressed_nodes, Scenario};
 use seddolki_store::shown;
 use seddolki_text::decimal::{format as decimal, format_signed, COEFFICIENT, MONEY};
@@ -43,13 +44,18 @@ struct Words {
 }
 
 impl Words {
-    fn of(account: u32, curve: &Curve, figures: &CurveFigures, scenarios: &[Scenario]) -> Self {
+    fn of(book: &Book, curve: &Curve, figures: &CurveFigures, scenarios: &[Scenario]) -> Self {
         let currency = currency_name(figures.currency);
         let money = |amount: i64| format!("{} {currency}", decimal(amount, MONEY));
         let coefficients = scenarios[figures.scenario as usize];
         let coefficients = coefficients.map(|c| format_signed(c, COEFFICIENT));
         Words {
-            id: format!("{} of account {account}", curve.id),
+            id: format!(
+                "{} of account {} on {}",
+                curve.id,
+                book.account,
+                book.valuation_day.in_words()
+            ),
             base: money(figures.base),
             worst_loss: money(figures.worst_loss),
             worst: format!(
@@ -78,7 +84,7 @@ fn rates(file: &BookFile, curve: &Curve) -> Result<String, Ended> {
     let stressed = |scenario| nodes(&stressed_nodes(curve.nodes(), scenario));
     let stressed: Vec<Vec<Node>> = scenarios.iter().map(stressed).collect();
     let flows = day_flows(&file.parts.flows_on(curve));
-    let words = Words::of(file.parts.account, curve, &figures, &scenarios);
+    let words = Words::of(&file.parts, curve, &figures, &scenarios);
     let picture = Rates {
         heading: words.heading(&figures),
         base: &nodes(curve.nodes()),
@@ -97,7 +103,7 @@ fn losses(file: &BookFile, curve: &Curve) -> Result<String, Ended> {
         losses,
         ..
     } = &all[0];
-    let words = Words::of(file.parts.account, curve, figures, scenarios);
+    let words = Words::of(&file.parts, curve, figures, scenarios);
     let heading = words.heading(figures);
     Ok(Losses { heading, losses }.draw())
 }

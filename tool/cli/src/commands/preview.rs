@@ -1,8 +1,9 @@
 //! The margin with trades that are not added.
 
 use crate::arguments::{Again, Preview};
+use crate::current_day::CurrentDay;
 use crate::ended::{Ended, DONE};
-use crate::files::books::accepted;
+use crate::files::books::accepted_on;
 use crate::trades::new_trades::NewTrades;
 
 pub const FORM: &str = "\
@@ -23,8 +24,9 @@ append --preview and import --preview show the same, and ask.
 ";
 
 pub fn run(arguments: &Preview) -> Result<u8, Ended> {
-    let trades = new_trades(arguments)?;
-    let file = accepted(&arguments.one.book)?;
+    let day = CurrentDay::of(arguments.on)?;
+    let trades = new_trades(arguments, day)?;
+    let file = accepted_on(day, &arguments.one.book)?;
     let margins = trades.margins(&file)?;
     let head = trades.in_words(file.parts.trades.len(), |_| "would be");
     arguments.form.print(&margins.tables(), |_| {
@@ -36,12 +38,12 @@ pub fn run(arguments: &Preview) -> Result<u8, Ended> {
 }
 
 /// By columns or from a file.
-fn new_trades(arguments: &Preview) -> Result<NewTrades, Ended> {
+fn new_trades(arguments: &Preview, day: CurrentDay) -> Result<NewTrades, Ended> {
     let book = &arguments.one.book;
     if let Some(file) = &arguments.trades {
-        return NewTrades::of_file(book, file);
+        return NewTrades::of_file(book, day, file);
     }
-    NewTrades::keyed(book, &arguments.values).map_err(|ended| match ended {
+    NewTrades::keyed(book, day, &arguments.values).map_err(|ended| match ended {
         // --csv FILE is a form of the tables and a column without a value
         Ended::Misused(reason) => {
             let file = "a file of trades is named by --trades FILE";

@@ -4,6 +4,7 @@ use crate::arguments::Show;
 use crate::ended::{Ended, DONE};
 use crate::figures::node_table::of_curves;
 use crate::files::books::accepted;
+use crate::printed::account::account_on;
 use crate::printed::table::{Table, Value};
 use crate::trades::by_term::ByTerm;
 use crate::trades::flow_kind::flows_of;
@@ -49,7 +50,7 @@ pub fn run(arguments: &Show) -> Result<u8, Ended> {
 }
 
 fn text(book: &Book) -> String {
-    let mut text = format!("account {}\n", book.account);
+    let mut text = account_on(book.account, book.valuation_day) + "\n";
     for curve in &book.curves {
         text += &show_curve(curve);
     }
@@ -93,6 +94,7 @@ fn curves(book: &Book) -> Table {
         "curves",
         &[
             "account",
+            "valuation_day",
             "curve",
             "currency",
             "scenarios",
@@ -107,6 +109,7 @@ fn curves(book: &Book) -> Table {
     for curve in &book.curves {
         let mut row = vec![
             Value::Id(book.account),
+            Value::date(book.valuation_day),
             Value::Id(curve.id.into()),
             Value::text(currency_name(curve.currency.into())),
             Value::count(scenarios(curve).len()),

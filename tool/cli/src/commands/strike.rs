@@ -1,18 +1,20 @@
 //! One trade removed.
 
 use crate::arguments::Strike;
+use crate::current_day::CurrentDay;
 use crate::ended::{Ended, DONE};
-use crate::files::books::edit;
+use crate::files::books::edit_on;
 use crate::printed::print;
 use crate::trades::words::trade;
 use seddolki_store::shown;
 
 pub fn run(arguments: &Strike) -> Result<u8, Ended> {
+    let day = CurrentDay::of(arguments.on)?;
     let position = arguments.position;
     let name = shown(&arguments.book);
-    let struck = edit(&arguments.book, arguments.waiting, |book, _| {
+    let struck = edit_on(day, &arguments.book, arguments.waiting, |book, _| {
         let record = book.read(position);
-        book.strike(position)
+        book.strike(day.date, position)
             .and(record)
             .map_err(|refusal| Ended::refused(format!("{name}: position {position}: {refusal}")))
     })?;

@@ -16,12 +16,15 @@ use std::collections::BTreeSet;
 /// one trade amended.
 const AMENDED: usize = 3;
 
-/// A row for each difference: the account, the curves, then the trades.
+/// A row for each difference: the account, the valuation day, the curves, then
+/// the trades.
 pub fn differences(before: &Book, after: &Book) -> Table {
     let columns = ["change", "number", "column", "before", "after"];
     let mut rows = Rows(Table::new("differences", &columns));
     let accounts = [before, after].map(|book| Value::Id(book.account));
     rows.change(("account", None), "account", accounts);
+    let days = [before, after].map(|book| Value::date(book.valuation_day));
+    rows.change(("valuation day", None), "valuation_day", days);
     for place in 0..before.curves.len().max(after.curves.len()) {
         let curves = [before, after].map(|book| book.curves.get(place));
         rows.curve(place + 1, curves);

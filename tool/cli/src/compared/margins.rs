@@ -1,18 +1,21 @@
 //! A book's margin before and after.
 
+use crate::printed::account::account_on;
 use crate::printed::table::{Table, Value};
-use seddolki::{CurrencyFigures, CurveFigures, Report};
+use seddolki::{CurrencyFigures, CurveFigures, Date, Report};
 use seddolki_format::report::currency_name;
 use seddolki_text::decimal::MONEY;
 
-/// Two reports of books that have the same curves.
+/// Two reports of books that have the same curves and valuation day.
 pub struct Margins {
+    pub day: Date,
     pub before: Report,
     pub after: Report,
 }
 
-const CURRENCIES: [&str; 11] = [
+const CURRENCIES: [&str; 12] = [
     "account",
+    "valuation_day",
     "currency",
     "initial_before",
     "initial_after",
@@ -25,8 +28,9 @@ const CURRENCIES: [&str; 11] = [
     "variation_difference",
 ];
 
-const CURVES: [&str; 14] = [
+const CURVES: [&str; 15] = [
     "account",
+    "valuation_day",
     "curve",
     "currency",
     "base_before",
@@ -67,7 +71,7 @@ impl Margins {
         ];
         for (table, parts) in tables.iter_mut().zip(self.parts()) {
             for part in parts {
-                let mut row = vec![Value::Id(self.after.account)];
+                let mut row = vec![Value::Id(self.after.account), Value::date(self.day)];
                 row.extend(part.cells);
                 row.extend(part.figures.into_iter().flat_map(Figure::cells));
                 table.push(row);
@@ -80,7 +84,7 @@ impl Margins {
     /// line for each currency and curve.
     pub fn text(&self) -> String {
         let mut changes = Table::new("changes", &["", "before", "after", "difference"]);
-        let mut texts = vec![format!("account {}\n", self.after.account)];
+        let mut texts = vec![account_on(self.after.account, self.day) + "\n"];
         let mut same = vec![];
         for parts in self.parts() {
             let (changed, kept): (Vec<Part>, Vec<Part>) =

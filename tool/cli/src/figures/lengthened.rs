@@ -8,7 +8,7 @@ use crate::figures::node_table::of_node;
 use crate::printed::table::{Table, Value};
 use crate::trades::refusal::quote_refused;
 use crate::trades::words;
-use seddolki::{Book, Quote};
+use seddolki::{Book, Date, Quote};
 use seddolki_chart as chart;
 use seddolki_format::block::{Curve, Node, BLOCK};
 use seddolki_format::layout::Layout;
@@ -21,25 +21,28 @@ use seddolki_text::decimal::{format as decimal, format_signed, MONEY, PERCENT};
 /// A curve before and after, and what it was lengthened by.
 pub struct Lengthened {
     account: u32,
+    day: Date,
     quote: Quote,
     before: Curve,
     after: Curve,
 }
 
 impl Lengthened {
-    /// Lengthens a curve of a book that has a name and these parts.
+    /// Lengthens a curve of a book that has a name and these parts, on a day.
     pub fn by(
         quote: &Quote,
+        day: Date,
         name: &str,
         book: &mut Book,
         parts: &accept::Book,
     ) -> Result<Self, Ended> {
-        book.bootstrap(quote).map_err(|refusal| {
+        book.bootstrap(day, quote).map_err(|refusal| {
             let reason = quote_refused(quote, &parts.curves, refusal);
             Ended::refused(format!("{name}: {reason}"))
         })?;
         let lengthened = Lengthened {
             account: parts.account,
+            day,
             quote: *quote,
             before: parts.curves[quote.curve - 1],
             after: Curve::decode(&book.as_bytes()[quote.curve * BLOCK..]),
@@ -102,7 +105,7 @@ impl Lengthened {
     fn bond(&self) -> String {
         let cash = decimal(self.quote.cash, MONEY);
         let bond = words::security(&self.quote.purchase());
-        format!("{bond}, for {cash} today")
+        format!("{bond}, for {cash} on {}", self.day.in_words())
     }
 
     /// The curve before and after, above what the bond costs and pays.
@@ -126,7 +129,7 @@ impl Lengthened {
         picture.draw()
     }
 
-    /// The cash out today, and the payments in.
+    /// The cash out on day 0, and the payments in.
     fn flows(&self) -> Vec<CashFlow> {
         let flow = |sign, day, amount| CashFlow {
             curve: self.before.id,

@@ -1,10 +1,12 @@
 //! Books in files.
 
 use crate::arguments::Waiting;
+use crate::current_day::CurrentDay;
 use crate::ended::Ended;
+use crate::printed::account::account_on;
 use crate::printed::print;
 use crate::trades::refusal::book_refused;
-use seddolki::{Book, Report};
+use seddolki::{Book, Date, Report};
 use seddolki_format::block::BLOCK;
 use seddolki_format::limits::MAX_BLOCKS;
 use seddolki_model::accept::{self, accept};
@@ -25,23 +27,32 @@ pub struct BookFile {
     pub book: Book,
     /// For display: every verdict and every margin is the engine's.
     pub parts: accept::Book,
+    /// The day that the engine is given.
+    day: Date,
 }
 
 impl BookFile {
-    /// Of a book that the engine has accepted.
+    /// Of a book that the engine has accepted, on the book's own day.
     pub fn of(input: Input, book: Book) -> Result<Self, Ended> {
+        let parts = parts(&input.name, &book)?;
         Ok(BookFile {
             name: input.name.clone(),
-            parts: parts(&input.name, &book)?,
             input,
             book,
+            day: parts.valuation_day,
+            parts,
         })
     }
 
     /// The margin of the book.
     pub fn margin(&self) -> Result<Report, Ended> {
         let refused = |refusal| Ended::refused(format!("{}: {refusal}", self.name));
-        self.book.margin().map_err(refused)
+        self.book.margin(self.day).map_err(refused)
+    }
+
+    /// Whose it is and for which day, in words.
+    pub fn in_words(&self) -> String {
+        account_on(self.parts.account, self.parts.valuation_day)
     }
 }
 
@@ -57,6 +68,16 @@ pub fn accepted(path: &Path) -> Result<BookFile, Ended> {
     let (input, book) = read(path)?;
     accept_book(&input.name, &book)?;
     BookFile::of(input, book)
+}
+
+/// The same, if it is for the current day.
+pub fn accepted_on(day: CurrentDay, path: &Path) -> Result<BookFile, Ended> {
+    let file = accepted(path)?;
+    day.refuse_other_day(&file.name, &file.book, file.parts.valuation_day)?;
+    Ok(BookFile {
+        day: day.date,
+        ..file
+    })
 }
 
 fn accept_book(name: &str, book: &Book) -> Result<(), Ended> {
@@ -98,6 +119,19 @@ pub fn edit<T>(
         Ok::<_, Ended>((book.as_bytes().to_vec(), result))
     })?;
     Ok(with_warning_told(edited))
+}
+
+/// The same for a book that is for the current day.
+pub fn edit_on<T>(
+    day: CurrentDay,
+    path: &Path,
+    waiting: Waiting,
+    change: impl FnOnce(&mut Book, accept::Book) -> Result<T, Ended>,
+) -> Result<T, Ended> {
+    edit(path, waiting, |book, parts| {
+        day.refuse_other_day(&shown(path), book, parts.valuation_day)?;
+        change(book, parts)
+    })
 }
 
 /// Says what went wrong after a file had its new bytes: it is written all

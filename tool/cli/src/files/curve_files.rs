@@ -3,7 +3,7 @@
 use crate::ended::Ended;
 use crate::trades::keyed::faults_told;
 use crate::trades::refusal::{book_refused, by_ground, where_and_why};
-use seddolki::{Book, Record};
+use seddolki::{Book, Date, Record};
 use seddolki_format::assemble;
 use seddolki_model::{BookFault, Fault};
 use seddolki_store::Input;
@@ -14,9 +14,10 @@ pub fn read_curves(input: &Input) -> Result<CurveFile, Ended> {
     curve_file::read(&input.bytes).map_err(|faults| faults_told(&input.name, &faults))
 }
 
-/// A book of a file's curves and these trades, if the engine accepts it.
-pub fn book_of(name: &str, file: &CurveFile, trades: &[Record]) -> Result<Book, Ended> {
-    let book = Book::from_bytes(assemble(file.account, &file.curves, trades));
+/// A book of a file's curves and these trades for a day, if the engine
+/// accepts it.
+pub fn book_of(name: &str, file: &CurveFile, day: Date, trades: &[Record]) -> Result<Book, Ended> {
+    let book = Book::from_bytes(assemble(file.account, day, &file.curves, trades));
     let Err(refusal) = book.check() else {
         return Ok(book);
     };

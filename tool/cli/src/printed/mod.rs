@@ -1,5 +1,6 @@
 //! What is printed, for people and for programs.
 
+pub mod account;
 pub mod form;
 pub mod print;
 pub mod progress;

@@ -1,5 +1,6 @@
 //! Tables, for people and for programs.
 
+use seddolki::Date;
 use seddolki_text::decimal::{self, Decimals};
 use serde_json::{Map, Value as Json};
 use unicode_width::UnicodeWidthStr;
@@ -29,6 +30,10 @@ pub struct Table {
 impl Value {
     pub fn text(text: impl Into<String>) -> Self {
         Value::Text(text.into())
+    }
+
+    pub fn date(date: Date) -> Self {
+        Value::Text(date.to_string())
     }
 
     pub fn money(amount: impl Into<i128>) -> Self {

@@ -2,7 +2,7 @@
 
 use crate::arguments::{Adding, Again};
 use crate::ended::{Ended, DONE};
-use crate::files::books::{accepted, edit, refuse_dash};
+use crate::files::books::{accepted_on, edit_on, refuse_dash};
 use crate::printed::print;
 use crate::printed::question::is_answered_yes;
 use crate::trades::new_trades::{is_or_are, NewTrades};
@@ -13,7 +13,7 @@ pub fn add(path: &Path, trades: &NewTrades, adding: Adding) -> Result<u8, Ended>
     refuse_dash(path)?;
     let look = || agreed(path, trades, adding.again);
     let looked_at = adding.preview.then(look).transpose()?;
-    let (first, told) = edit(path, adding.waiting, |book, parts| {
+    let (first, told) = edit_on(trades.day, path, adding.waiting, |book, parts| {
         if let Some(looked_at) = &looked_at {
             refuse_another(&trades.book, book, looked_at)?;
         }
@@ -30,7 +30,7 @@ pub fn add(path: &Path, trades: &NewTrades, adding: Adding) -> Result<u8, Ended>
 /// The book that was shown with the trades, if they are to be added to it.
 /// Its folder is not locked while a person thinks.
 fn agreed(path: &Path, trades: &NewTrades, again: Again) -> Result<Book, Ended> {
-    let file = accepted(path)?;
+    let file = accepted_on(trades.day, path)?;
     // what an edit would refuse is not asked for
     let told = trades.add_to(&mut file.book.clone(), &file.parts, again)?;
     let margins = trades.margins(&file)?;

@@ -3,6 +3,7 @@
 
 use crate::arguments::Again;
 use crate::compared::margins::Margins;
+use crate::current_day::CurrentDay;
 use crate::ended::Ended;
 use crate::files::books::{name_of, one_stream, text, BookFile};
 use crate::trades::keyed::{faults_told, named_values};
@@ -21,6 +22,8 @@ use std::path::Path;
 pub struct NewTrades {
     /// The name of the book that they are for.
     pub book: String,
+    /// The day that the book is to be for.
+    pub day: CurrentDay,
     records: Vec<Record>,
     /// Of a file; none where a trade was keyed.
     lines: Option<Lines>,
@@ -28,26 +31,28 @@ pub struct NewTrades {
 
 impl NewTrades {
     /// The trade that was keyed, by its columns.
-    pub fn keyed(book: &Path, values: &[String]) -> Result<Self, Ended> {
+    pub fn keyed(book: &Path, day: CurrentDay, values: &[String]) -> Result<Self, Ended> {
         let book = name_of(book);
         let given = named_values(&trade_columns(), values)?;
         let record = record_of(&given, Decimals::Point);
         let record = record.map_err(|faults| faults_told(&book, &faults))?;
         Ok(NewTrades {
             book,
+            day,
             records: vec![record],
             lines: None,
         })
     }
 
     /// The trades of a file.
-    pub fn of_file(book: &Path, file: &Path) -> Result<Self, Ended> {
+    pub fn of_file(book: &Path, day: CurrentDay, file: &Path) -> Result<Self, Ended> {
         one_stream(&[book, file])?;
         let input = text(file)?;
         let read = trades_file::read(&input.bytes);
         let read = read.map_err(|faults| faults_told(&input.name, &faults))?;
         Ok(NewTrades {
             book: name_of(book),
+            day,
             records: read.trades.iter().map(|trade| trade.record).collect(),
             lines: Some(Lines::of(input.name, &read)),
         })
@@ -90,7 +95,9 @@ impl NewTrades {
         parts: &accept::Book,
         again: Again,
     ) -> Result<Told, Ended> {
-        let wrong = self.wrong(&parts.curves, |_, record| book.append(record).map(drop));
+        let wrong = self.wrong(&parts.curves, |_, record| {
+            book.append(self.day.date, record).map(drop)
+        });
         self.told(&parts.trades, again).unless_wrong(wrong, again)
     }
 
@@ -101,13 +108,14 @@ impl NewTrades {
         let (mut copy, mut after) = (file.book.clone(), before);
         let wrong = self.wrong(&file.parts.curves, |place, record| {
             if place + 1 < self.count() {
-                return copy.append(record).map(drop);
+                return copy.append(self.day.date, record).map(drop);
             }
-            after = copy.preview(record)?;
+            after = copy.preview(self.day.date, record)?;
             Ok(())
         });
         if wrong.is_empty() {
-            return Ok(Margins { before, after });
+            let day = self.day.date;
+            return Ok(Margins { day, before, after });
         }
         Err(Ended::Refused(wrong))
     }

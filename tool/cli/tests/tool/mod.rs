@@ -3,8 +3,13 @@
 #![allow(dead_code)] // no test uses all of it
 
 pub mod term_repo;
+pub mod today;
 
+use seddolki::Date;
+use seddolki_format::block::{sealed, Header, BLOCK};
+use seddolki_format::layout::Layout;
 use serde_json::Value;
+use std::ffi::OsString;
 use std::fs::{self, File};
 use std::io::{Seek, Write};
 use std::os::unix::process::ExitStatusExt;
@@ -16,6 +21,25 @@ pub const DONE: i32 = 0;
 pub const REFUSED: i32 = 1;
 pub const MISUSED: i32 = 2;
 pub const FAILED: i32 = 3;
+
+/// The day of every book, and of every run that works on a day, where a test
+/// says no other.
+pub const DAY: &str = "2026-11-16";
+pub const DAY_IN_WORDS: &str = "16 November 2026";
+
+/// The commands that work on a day.
+pub const ON_DAY: [&str; 10] = [
+    "new",
+    "append",
+    "import",
+    "preview",
+    "amend",
+    "strike",
+    "curves",
+    "bootstrap",
+    "margin",
+    "losses",
+];
 
 /// A directory that goes with its test.
 pub struct Desk {
@@ -42,6 +66,29 @@ pub struct Run {
 
 pub fn example(name: &str) -> String {
     format!("{}/../../examples/{name}", env!("CARGO_MANIFEST_DIR"))
+}
+
+/// A book's bytes, for another day.
+pub fn for_day(book: &[u8], day: &str) -> Vec<u8> {
+    let date: Date = day.parse().unwrap();
+    let header = Header {
+        valuation_day: date.days(),
+        ..Header::decode(book)
+    };
+    [&sealed(&header), &book[BLOCK..]].concat()
+}
+
+/// The arguments with the day said behind the command, where one is due and
+/// none is said.
+pub fn on_day<S: AsRef<std::ffi::OsStr>>(arguments: &[S]) -> Vec<OsString> {
+    let words = arguments.iter().map(|word| word.as_ref().to_owned());
+    let mut words: Vec<OsString> = words.collect();
+    let command = words.first().and_then(|word| word.to_str());
+    let due = command.is_some_and(|command| ON_DAY.contains(&command));
+    if due && !words.iter().any(|word| word == "--day") {
+        words.splice(1..1, ["--day", DAY].map(OsString::from));
+    }
+    words
 }
 
 /// A buyer's trade that fits the curve of buyer.book, of a nominal of one's own.
@@ -114,11 +161,17 @@ impl Desk {
         Desk { directory }
     }
 
-    /// With a copy of an example.
+    /// With the book of an example.
     pub fn with(name: &str) -> Self {
         let desk = Desk::new();
-        fs::copy(example(name), desk.path(name)).unwrap();
+        desk.copy(name, name);
         desk
+    }
+
+    /// Copies the book of an example.
+    pub fn copy(&self, name: &str, to: impl AsRef<Path>) {
+        let book = fs::read(example(name)).unwrap();
+        self.write(to, for_day(&book, DAY));
     }
 
     pub fn path(&self, name: impl AsRef<Path>) -> PathBuf {
@@ -149,12 +202,17 @@ impl Desk {
         names
     }
 
-    /// The tool with these arguments, still to be run.
-    pub fn tool<S: AsRef<std::ffi::OsStr>>(&self, arguments: &[S]) -> Command {
+    /// The tool with these arguments and no others, still to be run.
+    pub fn typed<S: AsRef<std::ffi::OsStr>>(&self, arguments: &[S]) -> Command {
         let mut command = Command::new(tool());
         command.args(arguments).current_dir(self.directory.path());
         command.stdin(Stdio::null());
         command
+    }
+
+    /// The same, with the day said where one is due.
+    pub fn tool<S: AsRef<std::ffi::OsStr>>(&self, arguments: &[S]) -> Command {
+        self.typed(&on_day(arguments))
     }
 
     pub fn run<S: AsRef<std::ffi::OsStr>>(&self, arguments: &[S]) -> Run {
@@ -217,10 +275,11 @@ impl Desk {
         book.records().unwrap().count()
     }
 
-    /// Runs a line of shell in the directory, `$0` being the tool.
+    /// Runs a line of shell in the directory, `$0` being the tool and `$DAY`
+    /// the day.
     pub fn shell(&self, line: &str) -> Run {
         let mut shell = Command::new("bash");
-        shell.args(["-c", line]).arg(tool());
+        shell.args(["-c", line]).arg(tool()).env("DAY", DAY);
         finish(
             shell
                 .current_dir(self.directory.path())

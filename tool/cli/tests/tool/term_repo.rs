@@ -2,7 +2,7 @@
 
 use super::{changed, Desk, DONE};
 
-/// From today to day 730, against coupons of 100.00 on days 365, 730 and 1,095,
+/// From day 0 to day 730, against coupons of 100.00 on days 365, 730 and 1,095,
 /// the last with the nominal. A year at 25% is worth four fifths, at 100% a
 /// half.
 pub const REPO: [&str; 16] = [
