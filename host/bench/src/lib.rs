@@ -6,7 +6,10 @@ mod timing;
 mod whole;
 
 pub use repos::{paying_repo_book, repo_book};
-pub use timing::{best_time, best_turn, middle, processor_time, ratio, repeats, shown, turn_time};
+pub use timing::{
+    best_in_turns, best_time, best_turn, middle, processor_time, ratio, repeats, shown, time_on,
+    turn_time,
+};
 pub use whole::{margin, sized_books, work, Work};
 
 mod ffi {

@@ -1,5 +1,6 @@
 //! How long a piece of work takes.
 
+use std::fmt::Debug;
 use std::hint::black_box;
 use std::time::{Duration, Instant};
 
@@ -41,6 +42,31 @@ pub fn turn_time<T>(mut work: impl FnMut() -> T) -> Duration {
 pub fn best_turn<T>(mut work: impl FnMut() -> T) -> Duration {
     let turns = (0..ROUNDS).map(|_| turn_time(&mut work));
     turns.min().unwrap_or_default()
+}
+
+/// The best of the times that each of these gives of itself, over several
+/// turns that they take one after the other: what slows the machine for a while
+/// slows not one of them alone.
+pub fn best_in_turns(times: &[&dyn Fn() -> Duration]) -> Vec<Duration> {
+    let mut best = vec![Duration::MAX; times.len()];
+    for _ in 0..ROUNDS {
+        for (best, time) in best.iter_mut().zip(times) {
+            let turn = Instant::now();
+            while turn.elapsed() < TURN {
+                *best = time().min(*best);
+            }
+        }
+    }
+    best
+}
+
+/// The time of work on something of its own, made before; it must be done.
+pub fn time_on<S, T, E: Debug>(mut own: S, work: impl Fn(&mut S) -> Result<T, E>) -> Duration {
+    let start = Instant::now();
+    let result = black_box(work(&mut own));
+    let time = start.elapsed();
+    result.expect("work to be timed is done");
+    time
 }
 
 /// A turn in time of the processor, which others that run do not lengthen much.

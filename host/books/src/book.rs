@@ -1,17 +1,33 @@
 //! Accepted books drawn at random.
 
-use crate::curve::draw_curves;
+use crate::curve::{draw_curves, draw_so_many_curves};
 use crate::day::draw_valuation_day;
+use crate::doubles::draw_different;
 use crate::draw::Draw;
 use crate::record::draw_record;
 use seddolki_model::accept::Book;
 use seddolki_model::block::{self, Curve};
 use seddolki_model::limits::{FULL_BLOCK, MAX_BLOCKS, PAYMENTS};
+use seddolki_model::record::Record;
 use seddolki_model::scenario::scenarios;
+
+/// How many trades a book with these curves takes.
+pub fn most_trades(curves: &[Curve]) -> usize {
+    (MAX_BLOCKS - 1 - curves.len()) * FULL_BLOCK
+}
 
 /// The bytes of a book.
 pub fn assemble(book: &Book) -> Vec<u8> {
     block::assemble(book.account, book.valuation_day, &book.curves, &book.trades)
+}
+
+/// The lent bytes after an edit that leaves this book: the book, zeros where a
+/// block was left empty, and what was behind.
+pub fn bytes_after(book: &Book, before: &[u8], used: usize) -> Vec<u8> {
+    let mut bytes = assemble(book);
+    bytes.resize(bytes.len().max(used), 0);
+    let behind = before.get(bytes.len()..).unwrap_or_default();
+    [&bytes, behind].concat()
 }
 
 /// An accepted book. Flows times scenarios, summed over the curves, stay
@@ -19,24 +35,37 @@ pub fn assemble(book: &Book) -> Vec<u8> {
 /// long for that has no stressed scenario.
 pub fn draw_book(draw: &mut Draw, work: usize) -> Book {
     let curves = draw_curves(draw);
-    let count = draw_trade_count(draw, curves.len());
+    let count = draw_trade_count(draw, &curves);
     let most_payments = most_payments(draw, count, work);
     let trades = (0..count)
         .map(|_| draw_record(draw, &curves, most_payments))
         .collect();
-    let mut book = Book {
-        account: draw.edge(0..=u32::MAX.into()) as u32,
-        valuation_day: draw_valuation_day(draw),
-        curves,
-        trades,
-    };
+    let mut book = draw_book_of(draw, curves, trades);
     hold_to_work(&mut book, work);
     book
 }
 
+/// An accepted book of 128 blocks with so many curves, its trades different
+/// from each other.
+pub fn draw_full_book(draw: &mut Draw, curves: u64) -> Book {
+    let curves = draw_so_many_curves(draw, curves);
+    let trades = draw_different(draw, &curves, most_trades(&curves));
+    draw_book_of(draw, curves, trades)
+}
+
+/// A book with these parts, of any account and day.
+fn draw_book_of(draw: &mut Draw, curves: Vec<Curve>, trades: Vec<Record>) -> Book {
+    Book {
+        account: draw.edge(0..=u32::MAX.into()) as u32,
+        valuation_day: draw_valuation_day(draw),
+        curves,
+        trades,
+    }
+}
+
 /// No trade, a few, whole blocks, or a book of 128 blocks.
-fn draw_trade_count(draw: &mut Draw, curves: usize) -> usize {
-    let full = (MAX_BLOCKS - 1 - curves) * FULL_BLOCK;
+fn draw_trade_count(draw: &mut Draw, curves: &[Curve]) -> usize {
+    let full = most_trades(curves);
     match draw.within(0..=39) {
         0 => full - draw.place(FULL_BLOCK),
         1 => full,

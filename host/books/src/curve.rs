@@ -10,6 +10,11 @@ use std::collections::BTreeSet;
 /// One to eight curves, often of one currency.
 pub fn draw_curves(draw: &mut Draw) -> Vec<Curve> {
     let count = draw.edge(u64::from(*CURVES.start())..=u64::from(*CURVES.end()));
+    draw_so_many_curves(draw, count)
+}
+
+/// So many, often of one currency.
+pub(crate) fn draw_so_many_curves(draw: &mut Draw, count: u64) -> Vec<Curve> {
     let one_currency = draw.once_in(3).then(|| draw_currency(draw));
     (1..=count)
         .map(|id| {

@@ -29,7 +29,7 @@ pub mod repo;
 pub mod repo_case;
 pub mod timing;
 
-pub use book::{assemble, draw_book};
+pub use book::{assemble, bytes_after, draw_book, draw_full_book, most_trades};
 pub use bootstrap::draw_bootstrap_case;
 pub use bootstrap_ending::{added_node, BootstrapEnding};
 pub use call::{draw_case, Call, Case, Outcome};

@@ -1,6 +1,6 @@
 //! Previews drawn at random, and what each of them is to equal.
 
-use crate::book::{assemble, hold_to_work};
+use crate::book::{assemble, hold_to_work, most_trades};
 use crate::call::{draw_any_book, draw_case_on, draw_record_bytes, draw_report_space};
 use crate::call::{Call, Case, Outcome};
 use crate::draw::Draw;
@@ -48,7 +48,7 @@ pub(crate) fn draw_filled_book(draw: &mut Draw, work: usize) -> Book {
 /// About as many as the book has, the last block with room or full, or as many
 /// as a book takes.
 fn draw_trade_count(draw: &mut Draw, book: &Book) -> usize {
-    let most = (MAX_BLOCKS - 1 - book.curves.len()) * FULL_BLOCK;
+    let most = most_trades(&book.curves);
     let whole_blocks = book.trades.len().next_multiple_of(FULL_BLOCK);
     let whole_blocks = whole_blocks.min(most - FULL_BLOCK);
     match draw.within(0..=3) {

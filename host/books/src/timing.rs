@@ -1,11 +1,12 @@
 //! Books to take times on, the same on every machine.
 
+use crate::book::most_trades;
 use crate::draw::Draw;
 use crate::paying::Paying;
 use crate::record::draw_record_paying;
 use seddolki_model::accept::Book;
 use seddolki_model::block::{Curve, Node, CURVE};
-use seddolki_model::limits::{FULL_BLOCK, MAX_BLOCKS, MAX_CURRENCIES, MAX_STEPS, PAYMENTS};
+use seddolki_model::limits::{MAX_CURRENCIES, MAX_STEPS, PAYMENTS};
 use seddolki_model::record::{Record, COUPONS, FIRST_SIDE, OUTRIGHT, SECOND_SIDE, SINGLE_PAYMENT};
 use seddolki_model::units::ONE;
 use seddolki_model::Date;
@@ -26,7 +27,7 @@ pub fn typical_book() -> Book {
 pub fn full_book() -> Book {
     let mut draw = Draw::new(8);
     let curves = curves(&mut draw, 8);
-    let count = (MAX_BLOCKS - 1 - curves.len()) * FULL_BLOCK;
+    let count = most_trades(&curves);
     let trades = (0..count).map(|_| bond(&mut draw, &curves)).collect();
     book(curves, trades)
 }

@@ -1,10 +1,10 @@
 //! Append, read and strike.
 
-use seddolki_books::{assemble, draw_book, draw_record, Draw};
-use seddolki_model::accept::{accept, Book};
+use seddolki_books::{assemble, bytes_after, draw_book, draw_record, most_trades, Draw};
+use seddolki_model::accept::accept;
 use seddolki_model::block::BLOCK;
 use seddolki_model::layout::Layout;
-use seddolki_model::limits::{FULL_BLOCK, MAX_BLOCKS};
+use seddolki_model::limits::FULL_BLOCK;
 use seddolki_model::record::{Record, RECORD};
 use seddolki_model::{append, read, strike, Answer, Ground};
 
@@ -12,15 +12,6 @@ const WORK: usize = 1_000;
 
 fn done(value: usize) -> Answer {
     Ok(value as u64).into()
-}
-
-/// The bytes that an edit should leave: the book, zeros where a block was
-/// left empty, and what was behind.
-fn left(book: &Book, before: &[u8], used: usize) -> Vec<u8> {
-    let mut bytes = assemble(book);
-    bytes.resize(bytes.len().max(used), 0);
-    let behind = before.get(bytes.len()..).unwrap_or_default();
-    [&bytes, behind].concat()
 }
 
 fn read_at(bytes: &[u8], used: usize, position: usize) -> Record {
@@ -41,7 +32,7 @@ fn an_appended_record_is_read_and_struck_again() {
         let record = draw_record(&mut draw, &book.curves, 120);
         let answer = append(&mut bytes, used, book.valuation_day, &record.to_bytes());
         let position = book.trades.len();
-        if position == (MAX_BLOCKS - 1 - book.curves.len()) * FULL_BLOCK {
+        if position == most_trades(&book.curves) {
             assert_eq!(answer, Err(Ground::BookSpace.alone()).into());
             assert_eq!(bytes, before);
             continue;
@@ -49,7 +40,7 @@ fn an_appended_record_is_read_and_struck_again() {
         book.trades.push(record);
         let grown = assemble(&book).len();
         assert_eq!(answer, done(grown));
-        assert_eq!(bytes, left(&book, &before, used));
+        assert_eq!(bytes, bytes_after(&book, &before, used));
         assert_eq!(read_at(&bytes, grown, position), record);
         book.trades.pop();
         let appended = bytes.clone();
@@ -57,7 +48,7 @@ fn an_appended_record_is_read_and_struck_again() {
             strike(&mut bytes, grown, book.valuation_day, position),
             done(used)
         );
-        assert_eq!(bytes, left(&book, &appended, grown));
+        assert_eq!(bytes, bytes_after(&book, &appended, grown));
     }
 }
 
@@ -77,7 +68,7 @@ fn a_struck_record_leaves_no_gap() {
         book.trades.remove(position);
         let answer = strike(&mut bytes, used, book.valuation_day, position);
         assert_eq!(answer, done(assemble(&book).len()));
-        assert_eq!(bytes, left(&book, &before, used));
+        assert_eq!(bytes, bytes_after(&book, &before, used));
     }
 }
 

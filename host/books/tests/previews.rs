@@ -2,13 +2,12 @@
 //! the margin that a preview equals.
 
 use seddolki_books::{
-    append_then_margin, assemble, draw_book, draw_preview_case, draw_record, Call, Case, Draw,
-    Endings, Model, PreviewEnding,
+    append_then_margin, assemble, draw_book, draw_preview_case, draw_record, most_trades, Call,
+    Case, Draw, Endings, Model, PreviewEnding,
 };
 use seddolki_model::accept::Book;
 use seddolki_model::block::{sealed, BLOCK};
 use seddolki_model::layout::Layout;
-use seddolki_model::limits::{FULL_BLOCK, MAX_BLOCKS};
 use seddolki_model::margin::report;
 
 /// Bounds the time of a margin.
@@ -71,7 +70,7 @@ fn the_report_is_that_of_the_book_with_the_trade_and_nothing_else_is_written() {
     for seed in 0..300 {
         let mut draw = Draw::new(seed);
         let mut book = draw_book(&mut draw, WORK);
-        let most = (MAX_BLOCKS - 1 - book.curves.len()) * FULL_BLOCK;
+        let most = most_trades(&book.curves);
         book.trades.truncate(most - 1);
         book.trades.push(draw_record(&mut draw, &book.curves, 12));
         let case = preview_of_the_last(&mut draw, &book);

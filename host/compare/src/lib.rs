@@ -8,11 +8,13 @@
 #![forbid(unsafe_code)]
 
 mod cases;
+mod followed;
 mod proved;
 mod settings;
 mod unlike;
 
 pub use cases::{margin_case, whole_case};
+pub use followed::Followed;
 pub use proved::Proved;
 pub use settings::{books, calls, is_whole, Seeds};
 pub use unlike::assert_alike;

@@ -1,12 +1,12 @@
 //! Sequences of append, strike and read in lent bytes larger than the book,
 //! now and then on another day, which no edit changes.
 
-use seddolki_books::{assemble, draw_book, draw_day, draw_record, Call, Case, Draw};
-use seddolki_compare::{assert_alike, calls, whole_case, Seeds};
+use seddolki_books::{assemble, draw_book, draw_day, draw_record, most_trades, Call, Draw};
+use seddolki_compare::{assert_alike, calls, whole_case, Followed, Seeds};
 use seddolki_model::accept::Book;
 use seddolki_model::block::BLOCK;
 use seddolki_model::layout::Layout;
-use seddolki_model::limits::{FULL_BLOCK, MAX_BLOCKS};
+use seddolki_model::limits::FULL_BLOCK;
 use seddolki_model::record::RECORD;
 
 const WORK: usize = 100;
@@ -17,7 +17,7 @@ const LENGTH: u64 = 100;
 /// A few trades, or a book with hardly a block left.
 fn draw_start(draw: &mut Draw) -> Book {
     let mut book = draw_book(draw, WORK);
-    let full = (MAX_BLOCKS - 1 - book.curves.len()) * FULL_BLOCK;
+    let full = most_trades(&book.curves);
     if draw.once_in(10) {
         let count = full - draw.place(2 * FULL_BLOCK);
         while book.trades.len() < count {
@@ -44,36 +44,16 @@ fn draw_edit(draw: &mut Draw, book: &Book, grows: bool) -> Call {
 
 /// Plays one sequence; the trades are followed beside the bytes.
 fn play(draw: &mut Draw, number: u64) -> usize {
-    let mut book = draw_start(draw);
-    let mut lent = assemble(&book);
-    let mut used = lent.len();
+    let book = draw_start(draw);
     let behind = draw.place(5 * BLOCK);
-    lent.extend(draw.bytes(behind));
+    let mut followed = Followed::new(book, &draw.bytes(behind));
     let mut done = 0;
     for step in 0..LENGTH {
         let grows = step % 50 < 25;
-        let call = draw_edit(draw, &book, grows);
-        let day = draw_day(draw, book.valuation_day);
-        let case = Case {
-            lent,
-            used,
-            day,
-            call,
-        };
-        let outcome = assert_alike(&case, number);
-        lent = outcome.after.lent;
-        if outcome.answer.number != 0 {
-            continue;
-        }
-        done += 1;
-        match case.call {
-            Call::Append { record } => book.trades.push(Layout::decode(&record)),
-            Call::Strike { position } => drop(book.trades.remove(position)),
-            Call::Read { .. } | Call::Check => continue,
-            _ => unreachable!("no other call is drawn"),
-        }
-        used = outcome.answer.value as usize;
-        assert_eq!(lent[..used], assemble(&book), "sequence {number}");
+        let call = draw_edit(draw, &followed.book, grows);
+        let day = draw_day(draw, followed.book.valuation_day);
+        let answer = followed.run(call, day, number);
+        done += usize::from(answer.number == 0);
     }
     done
 }

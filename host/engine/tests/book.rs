@@ -1,8 +1,8 @@
 //! A book that owns its bytes.
 
 use seddolki::{present_value, Book, Date, Ground, Quote, Record};
-use seddolki_books::{assemble, buyer, draw_book, draw_record, seller, Draw};
-use seddolki_model::limits::{FULL_BLOCK, MAX_BLOCKS};
+use seddolki_books::{assemble, buyer, draw_book, draw_record, most_trades, seller, Draw};
+use seddolki_model::limits::FULL_BLOCK;
 
 #[test]
 fn records_are_those_read_one_by_one() {
@@ -27,7 +27,7 @@ fn a_book_is_filled_to_the_last_trade_and_emptied_again() {
     let empty = assemble(&drawn);
     let mut book = Book::from_bytes(empty.clone());
     let day = drawn.valuation_day;
-    let full = (MAX_BLOCKS - 1 - drawn.curves.len()) * FULL_BLOCK;
+    let full = most_trades(&drawn.curves);
     let trade = draw_record(&mut draw, &drawn.curves, 2);
     for position in 0..full {
         assert_eq!(book.append(day, &trade).unwrap(), position);

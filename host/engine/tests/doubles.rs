@@ -9,10 +9,9 @@ use seddolki_books::doubles::{
     are_different, draw_different, draw_one_field, draw_opposite, draw_same, draw_second_leg,
     draw_second_leg_as_first, Pair, FIELDS,
 };
-use seddolki_books::Draw;
+use seddolki_books::{most_trades, Draw};
 use seddolki_format::assemble;
 use seddolki_format::block::Curve;
-use seddolki_format::limits::{FULL_BLOCK, MAX_BLOCKS};
 use std::collections::BTreeSet;
 
 /// Pairs drawn of each kind.
@@ -259,11 +258,7 @@ fn nothing_is_found_in_a_full_book_of_different_trades() {
     let mut draw = Draw::new(3);
     let mut curves = draw_curves(&mut draw);
     curves.truncate(1);
-    let trades = draw_different(&mut draw, &curves, full(&curves));
+    let trades = draw_different(&mut draw, &curves, most_trades(&curves));
     let book = Book::from_bytes(assemble(1, Date::FIRST, &curves, &trades));
     assert_eq!(book.doubles().unwrap(), []);
-}
-
-fn full(curves: &[Curve]) -> usize {
-    (MAX_BLOCKS - 1 - curves.len()) * FULL_BLOCK
 }

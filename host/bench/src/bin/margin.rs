@@ -6,13 +6,16 @@
 //! timed on the full ones too where it is asked for.
 
 use seddolki::{Book, Date};
-use seddolki_bench::{best_time, paying_repo_book, ratio, repo_book, shown, work, Work};
+use seddolki_bench::{
+    best_in_turns, best_time, paying_repo_book, ratio, repo_book, shown, time_on, work, Work,
+};
 use seddolki_books::{
     assemble, full_book, near_tie_book, small_book, typical_book, zero_component_book,
 };
 use seddolki_model::accept::{self, accept};
 use seddolki_model::block::BLOCK;
 use std::error::Error;
+use std::time::Duration;
 
 fn main() -> Result<(), Box<dyn Error>> {
     let mut arguments: Vec<String> = std::env::args().skip(1).collect();
@@ -64,28 +67,32 @@ fn model_margin(bytes: &[u8], day: Date) -> [u8; BLOCK] {
     report
 }
 
-/// The first trade is struck and appended again, so that every block moves.
-fn time_other_calls(mut book: Book) -> Result<(), Box<dyn Error>> {
-    let whole = book.clone();
+/// The calls that value nothing, each on a copy of a book, the copying not
+/// counted. A strike moves every trade behind its position; the trade appended
+/// is the first, which was struck before.
+fn time_other_calls(book: Book) -> Result<(), Box<dyn Error>> {
     let day = book.valuation_day()?;
     let count = book.records()?.count();
     let Some(last) = count.checked_sub(1) else {
         return Ok(());
     };
-    println!("check        {:>10}", shown(best_time(|| book.check())));
-    println!("read         {:>10}", shown(best_time(|| book.read(last))));
     let trade = book.read(0)?;
-    let copy = best_time(|| book = whole.clone());
-    let strike = best_time(|| {
-        book = whole.clone();
-        book.strike(day, 0)
-    });
-    println!("strike       {:>10}", shown(strike.saturating_sub(copy)));
-    let shorter = book.clone();
-    let append = best_time(|| {
-        book = shorter.clone();
-        book.append(day, &trade)
-    });
-    println!("append       {:>10}", shown(append.saturating_sub(copy)));
+    let mut shorter = book.clone();
+    shorter.strike(day, 0)?;
+    let strike = |position| time_on(book.clone(), |book| book.strike(day, position));
+    let calls: [(&str, &dyn Fn() -> Duration); 6] = [
+        ("check", &|| time_on(book.clone(), |book| book.check())),
+        ("read", &|| time_on(book.clone(), |book| book.read(last))),
+        ("strike first", &|| strike(0)),
+        ("strike middle", &|| strike(count / 2)),
+        ("strike last", &|| strike(last)),
+        ("append", &|| {
+            time_on(shorter.clone(), |book| book.append(day, &trade))
+        }),
+    ];
+    let times = best_in_turns(&calls.map(|(_, call)| call));
+    for ((name, _), time) in calls.iter().zip(times) {
+        println!("{name:<13}  {:>10}", shown(time));
+    }
     Ok(())
 }
