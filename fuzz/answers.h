@@ -6,6 +6,11 @@
 
 enum { CHECK, MARGIN, APPEND, PREVIEW, STRIKE, READ, PRESENT_VALUE, BOOTSTRAP, CALLS };
 
+/* The one call that is tried beside the check; every one where none is named. */
+#ifndef ALONE
+#define ALONE CALLS
+#endif
+
 /* libFuzzer keeps an input that raises one of these counters. */
 #define KEPT __attribute__((section("__libfuzzer_extra_counters"))) static uint8_t
 

@@ -12,16 +12,9 @@
 
 #include <string.h>
 
-static int all_zero(const uint8_t *bytes, size_t len) {
-    for (size_t i = 0; i < len; i++)
-        if (bytes[i]) return 0;
-    return 1;
-}
-
 /* That a report has the sums of the flows' present values and tolerances. */
 static void expect_sums(const uint8_t *book, size_t used, const seddolki_report *report) {
-    uint8_t curves = (uint8_t)seddolki_get_u16(&blocks_of(book)->header.curves);
-    for (uint8_t id = 1; id <= curves; id++) {
+    for (uint8_t id = 1; id <= curves_of(book); id++) {
         const seddolki_curve_figures *shown = &report->curves[id - 1];
         worth due = worth_on(blocks_of(book), used, id);
         expect(seddolki_get_i64(&shown->base) == due.base, "a base is its flows' present value");
@@ -82,9 +75,7 @@ static void try_append(const input *in, seddolki_answer due) {
     expect(seddolki_check(book, in->len, used).number == 0, "an appended book is accepted");
     expect_same_day(in, book);
     note_held(book, used);
-    size_t blocks = seddolki_get_u16(&blocks_of(book)->header.trade_blocks);
-    size_t count = blocks_of(book + used - SEDDOLKI_BLOCK)->trades.count;
-    size_t last = (blocks - 1) * SEDDOLKI_FULL_BLOCK + count - 1;
+    size_t last = trades_of(book, used) - 1;
     uint8_t *again = lend(2, in->record, SEDDOLKI_RECORD);
     memset(again, 0, SEDDOLKI_RECORD);
     expect(seddolki_read(book, in->len, used, last, again).number == 0, "a new record is read");
@@ -92,24 +83,6 @@ static void try_append(const input *in, seddolki_answer due) {
     seddolki_answer struck = seddolki_strike(book, in->len, used, in->day, last);
     expect(struck.number == 0 && struck.value == in->used, "a new record is struck");
     expect(!memcmp(book, in->lent, in->used), "append and strike cancel");
-}
-
-static void try_strike(const input *in, seddolki_answer due) {
-    uint8_t *book = lend(0, in->lent, in->len);
-    seddolki_answer answer =
-        seen(STRIKE, seddolki_strike(book, in->len, in->used, in->day, in->position));
-    expect_due(answer, due, "strike refuses what check refuses, and another day");
-    if (answer.number) {
-        expect(!memcmp(book, in->lent, in->len), "a refused strike writes nothing");
-        return;
-    }
-    size_t used = answer.value;
-    expect(used == in->used || used + SEDDOLKI_BLOCK == in->used, "strike frees at most a block");
-    note_length(STRIKE, in->used, used);
-    expect(all_zero(book + used, in->used - used), "a block left empty becomes zeros");
-    expect(!memcmp(book + in->used, in->lent + in->used, in->len - in->used), "bytes behind stay");
-    expect(seddolki_check(book, in->len, used).number == 0, "a struck book is accepted");
-    expect_same_day(in, book);
 }
 
 static void try_present_value(const input *in, seddolki_answer due) {
@@ -128,15 +101,11 @@ static input parse(const uint8_t *data, size_t size) {
     in.record = (const uint8_t *)&head->record;
     in.position = seddolki_get_u32(&head->position);
     in.report_len = seddolki_get_u16(&head->report_len) % PAINTED_MOST;
+    in.filled = seddolki_get_u16(&head->filled);
     in.used = in.len - seddolki_get_u32(&head->behind);
     in.day = valuation_day(in.lent, in.len) ^ seddolki_get_u32(&head->days_apart);
     return in;
 }
-
-/* The one call that is tried beside the check; every one where none is named. */
-#ifndef ALONE
-#define ALONE CALLS
-#endif
 
 static void try_calls(const input *in, seddolki_answer checked) {
     static try_call *const tries[CALLS] = {

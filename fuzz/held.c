@@ -38,9 +38,28 @@ KEPT worst[2][343];
 
 const seddolki_block *blocks_of(const uint8_t *book) { return (const seddolki_block *)book; }
 
+size_t curves_of(const uint8_t *book) { return seddolki_get_u16(&blocks_of(book)->header.curves); }
+
+size_t trades_of(const uint8_t *book, size_t used) {
+    const seddolki_block *blocks = blocks_of(book);
+    size_t trade_blocks = seddolki_get_u16(&blocks->header.trade_blocks);
+    if (!trade_blocks) return 0;
+    size_t last = blocks[used / SEDDOLKI_BLOCK - 1].trades.count;
+    return (trade_blocks - 1) * SEDDOLKI_FULL_BLOCK + last;
+}
+
+const seddolki_block *trade_blocks_of(const uint8_t *book) {
+    return blocks_of(book) + 1 + curves_of(book);
+}
+
+const seddolki_record *trade_at(const seddolki_block *trade_blocks, size_t position) {
+    const seddolki_trade_block *block = &trade_blocks[position / SEDDOLKI_FULL_BLOCK].trades;
+    return &block->places[position % SEDDOLKI_FULL_BLOCK];
+}
+
 int is_quick(const uint8_t *book, size_t used) {
     const seddolki_block *blocks = blocks_of(book);
-    size_t curves = seddolki_get_u16(&blocks->header.curves), flows = 0, scenarios = 0;
+    size_t curves = curves_of(book), flows = 0, scenarios = 0;
     for (size_t i = 1; i <= curves; i++) {
         const uint8_t *steps = blocks[i].curve.steps;
         scenarios += (2 * steps[0] + 1) * (2 * steps[1] + 1) * (2 * steps[2] + 1);
@@ -91,7 +110,7 @@ static void note_trade(const seddolki_record *record) {
 
 void note_held(const uint8_t *book, size_t used) {
     const seddolki_block *blocks = blocks_of(book);
-    size_t curves = seddolki_get_u16(&blocks->header.curves);
+    size_t curves = curves_of(book);
     curves_held[curves] = 1;
     for (size_t i = 1 + curves; i < used / SEDDOLKI_BLOCK; i++)
         for (size_t j = 0; j < blocks[i].trades.count; j++)

@@ -6,6 +6,14 @@
 
 const seddolki_block *blocks_of(const uint8_t *book);
 
+/* Of an accepted book: how many curves and trades it has, and its blocks of trades. */
+size_t curves_of(const uint8_t *book);
+size_t trades_of(const uint8_t *book, size_t used);
+const seddolki_block *trade_blocks_of(const uint8_t *book);
+
+/* The trade at a position of a book's blocks of trades. */
+const seddolki_record *trade_at(const seddolki_block *trade_blocks, size_t position);
+
 /* Whether a book's flows times scenarios are few. */
 int is_quick(const uint8_t *book, size_t used);
 

@@ -34,3 +34,9 @@ static const uint8_t *paint(void) {
 uint8_t *lend_painted(int place, size_t len) { return lend(place, paint(), len); }
 
 int is_painted(const uint8_t *bytes, size_t len) { return !memcmp(bytes, paint(), len); }
+
+int all_zero(const uint8_t *bytes, size_t len) {
+    for (size_t i = 0; i < len; i++)
+        if (bytes[i]) return 0;
+    return 1;
+}

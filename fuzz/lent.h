@@ -16,4 +16,6 @@ uint8_t *lend(int place, const uint8_t *bytes, size_t len);
 uint8_t *lend_painted(int place, size_t len);
 int is_painted(const uint8_t *bytes, size_t len);
 
+int all_zero(const uint8_t *bytes, size_t len);
+
 #endif

@@ -2,11 +2,14 @@
  * Changes inputs so that many get past the length, the checks and the rules
  * of a book: one time in ten any bytes change, otherwise a field in its
  * place, a whole record, the days of its payments, the bond and its cash, the
- * day that the book is for or the current day, or the lengths that are lent.
+ * day that the book is for or the current day, the position, or the lengths
+ * that are lent. At times a book is to be filled with trades and struck.
  * The current day is that of the book most times. The length of the book, the
  * places of its blocks and their checks are then mended.
  */
+#include "answers.h"
 #include "bond.h"
+#include "draw.h"
 #include "input.h"
 #include "mend.h"
 #include "seddolki.h"
@@ -14,12 +17,6 @@
 #include <string.h>
 
 size_t LLVMFuzzerMutate(uint8_t *data, size_t size, size_t most);
-
-/* A number below `end`. */
-static size_t draw(uint64_t *state, size_t end) {
-    *state = *state * 6364136223846793005u + 1442695040888963407u;
-    return (size_t)(*state >> 33) % end;
-}
 
 static input_head *head_of(uint8_t *data) { return (input_head *)data; }
 
@@ -154,6 +151,30 @@ static void change_day(uint8_t *data, size_t blocks, uint64_t *state) {
         day->bytes[draw(state, sizeof day->bytes)] = (uint8_t)draw(state, 256);
 }
 
+/* Asks for one of the book's positions, or for the one behind the last. */
+static void move_position(uint8_t *data, size_t blocks, uint64_t *state) {
+    size_t first = 1 + curves_of(data, blocks), trades = 0;
+    for (size_t i = first; i < blocks; i++) trades += block_at(data, i)->trades.count;
+    seddolki_set_u32(&head_of(data)->position, (uint32_t)draw(state, trades + 1));
+}
+
+/*
+ * With the strike alone, and at times otherwise, asks for a filled book: about
+ * a full one, one with a few trades, or any. What is above a full one is full.
+ */
+static void fill_at_times(uint8_t *data, uint64_t *state) {
+    enum { MOST = (SEDDOLKI_MAX_BLOCKS - 2) * SEDDOLKI_FULL_BLOCK };
+    size_t trades = 0;
+    if (ALONE == STRIKE || draw(state, 256) == 0) {
+        switch (draw(state, 4)) {
+        case 0: trades = MOST - draw(state, SEDDOLKI_MAX_CURVES * SEDDOLKI_FULL_BLOCK); break;
+        case 1: trades = 1 + draw(state, 4 * SEDDOLKI_FULL_BLOCK); break;
+        default: trades = 1 + draw(state, MOST);
+        }
+    }
+    seddolki_set_u16(&head_of(data)->filled, (uint16_t)trades);
+}
+
 /* Gives what is lent behind the book, or for the report, a length at which an answer may change. */
 static size_t move_end(uint8_t *data, size_t size, size_t most, uint64_t *state) {
     static const uint16_t ends[] = {0, 1, SEDDOLKI_BLOCK - 1, SEDDOLKI_BLOCK, SEDDOLKI_BLOCK + 1};
@@ -189,9 +210,10 @@ static size_t mend(uint8_t *data, size_t size, uint64_t *state) {
 
 size_t LLVMFuzzerCustomMutator(uint8_t *data, size_t size, size_t most, unsigned seed) {
     uint64_t state = seed;
-    size_t way = size < HEAD ? 0 : draw(&state, 10);
+    size_t way = size < HEAD ? 0 : draw(&state, 11);
     size_t blocks = size < HEAD ? 0 : used_of(data, size) / SEDDOLKI_BLOCK;
     if (size >= HEAD && draw(&state, 8)) seddolki_set_u32(&head_of(data)->days_apart, 0);
+    if (size >= HEAD) fill_at_times(data, &state);
     switch (way) {
     case 0: size = LLVMFuzzerMutate(data, size, most); break;
     case 1: put_record(data, blocks); break;
@@ -200,6 +222,7 @@ size_t LLVMFuzzerCustomMutator(uint8_t *data, size_t size, size_t most, unsigned
     case 4: size = move_end(data, size, most, &state); break;
     case 5: move_some_payments(data, blocks, &state); break;
     case 6: change_day(data, blocks, &state); break;
+    case 7: move_position(data, blocks, &state); break;
     default: change_some_field(data, blocks, &state);
     }
     return size < HEAD ? size : mend(data, size, &state);
