@@ -1,25 +1,24 @@
 -- A book is canonical: an accepted one is the encoding of its parts.
 use mathlib.Core.Path.{_≡_, sym, ap, _∙_}
-use mathlib.Core.List.{List, _∷_, _++_}
+use mathlib.Core.List.{List, _++_}
 use Prim.Native.Nat.{ℕ, _+_, _*_, _/_, _%_, _<_}
 use native.Mathlib.Omega.{arith}
 use lib.ListN.{length, take, drop, length-take, take-append-drop}
-use Rattle.laws.specs.Walk.{table}
-use Rattle.laws.proofs.Tables.{table-same, table-add, table-part, flatten-parts}
+use Rattle.laws.proofs.Tables.{table-same, table-part}
 use Rattle.ground.specs.declared.Verdict.the-variants.{Accepted}
 use Rattle.layout.specs.Bytes.{AreBytes}
 use Rattle.book.specs.Parts.{blockAt, headerOf, curveCount, tradeBlocks, curveBlocks, curvesOf, recordCount, recordIn, tradeCount, recordAt, records}
 use Rattle.book.specs.Verdict.{verdict}
-use Rattle.book.specs.Encode.{headerBlock, tradeBlock, recordsOfBlock, tradeBlocksOf, bookBlocks, encode}
+use Rattle.book.specs.Encode.{headerBlock, tradeBlock, blocksFor, recordsOfBlock, encode}
 use Rattle.book.proofs.Places.{head-fields, head-curves, head-trades, length-curveBlocks, curve-block, length-records, record-of}
 use Rattle.book.proofs.Verdicts.{any-block}
 use Rattle.book.proofs.HeaderBlock.{bytes-part, header-fits, header-of}
 use Rattle.book.proofs.TradeBlock.{recordsIn, trades-of}
 use Rattle.book.proofs.Accepted.{Sound, sound, blocks-for, length-blockAt, length-recordAt, held, accepted-record}
-use Rattle.book.proofs.Encoded.{Encodable, Acceptable}
+use Rattle.book.proofs.Encoded.{Encodable, Acceptable, LaidOut, laid-encoded}
 
 module _ (s : List ℕ) (used : ℕ) (bytes : AreBytes s) (b : Sound s used) where
-  header-block : blockAt s 0 ≡ headerBlock (headerOf s) (curveCount s) (tradeBlocks s)
+  pub header-block : blockAt s 0 ≡ headerBlock (headerOf s) (curveCount s) (tradeBlocks s)
   header-block =
       header-of (blockAt s 0) (1 + curveCount s + tradeBlocks s) (bytes-part s (0 * 512) 512 bytes) (length-blockAt s used b 0 (omega arith)) (b .header)
       ∙ rw (head-fields s, head-curves s, head-trades s)
@@ -37,37 +36,26 @@ module _ (s : List ℕ) (used : ℕ) (bytes : AreBytes s) (b : Sound s used) whe
       let q : (0 + j * 9 + i) % 9 ≡ 0 + i = omega arith in
       rw (p, q))))
 
-  trade-block : (j : ℕ) → j < tradeBlocks s → tradeBlock (1 + curveCount s + j) (recordsOfBlock (records s) j) ≡ blockAt s (1 + curveCount s + j)
+  pub trade-block : (j : ℕ) → j < tradeBlocks s → tradeBlock (1 + curveCount s + j) (recordsOfBlock (records s) j) ≡ blockAt s (1 + curveCount s + j)
   trade-block j l =
       rw (← block-records j l)
       (sym (trades-of _ _ _ _ (bytes-part s ((1 + curveCount s + j) * 512) 512 bytes) (length-blockAt s used b (1 + curveCount s + j) (omega arith)) (b .trades j l)))
 
-  trades-table : tradeBlocksOf (1 + curveCount s) (records s) ≡ table (blockAt s) (0 + (1 + curveCount s)) (tradeBlocks s)
-  unfolding tradeBlocksOf
-  trades-table =
-      rw (length-records s, blocks-for s used b)
-      (table-same (λ (j : ℕ). tradeBlock (1 + curveCount s + j) (recordsOfBlock (records s) j)) (blockAt s) 0 (0 + (1 + curveCount s)) (tradeBlocks s)
-      (λ j l.
-      let e : 0 + j ≡ j = omega arith in
-      let g : 0 + (1 + curveCount s) + j ≡ 1 + curveCount s + j = omega arith in
-      rw (e, g) (trade-block j l)))
-
-  first-table : table (blockAt s) 0 (1 + curveCount s) ≡ headerBlock (headerOf s) (curveCount s) (tradeBlocks s) ∷ curveBlocks s
-  unfolding table curveBlocks
-  first-table = table-add (blockAt s) 0 1 (curveCount s) ∙ rw (← header-block)
-
-  blocks-table : bookBlocks (headerOf s) (curveBlocks s) (records s) ≡ table (blockAt s) 0 (1 + curveCount s + tradeBlocks s)
-  unfolding bookBlocks
-  blocks-table =
-      rw (length-curveBlocks s, length-records s, blocks-for s used b, table-add (blockAt s) 0 (1 + curveCount s) (tradeBlocks s), first-table, trades-table)
+  pub sound-laid : LaidOut (headerOf s) (curveBlocks s) (records s) s
+  sound-laid =
+      let c = length-curveBlocks s in
+      let t : blocksFor (length (records s)) ≡ tradeBlocks s = rw (length-records s) (blocks-for s used b) in
+      record {
+        head = rw (c, t) header-block;
+        curve = λ k l. sym (curve-block s k (rw c at l));
+        trade = λ j l. rw c (sym (trade-block j (rw t at l)));
+      }
 
   pub sound-encoded : take used s ≡ encode (headerOf s) (curveBlocks s) (records s)
-  unfolding encode
   sound-encoded =
-      let n = 1 + curveCount s + tradeBlocks s in
-      let same = table-same (blockAt s) (λ (k : ℕ). take 512 (drop (0 + k * 512) s)) 0 0 n
-      (λ k l. let e : (0 + k) * 512 ≡ 0 + (0 + k) * 512 = omega arith in ap (λ (x : ℕ). take 512 (drop x s)) e) in
-      sym (rw (blocks-table, same) (flatten-parts 512 s 0 n ∙ rw (← b .blocks)))
+      let size : used ≡ (1 + length (curveBlocks s) + blocksFor (length (records s))) * 512 =
+      b .blocks ∙ rw (length-curveBlocks s, length-records s, blocks-for s used b) in
+      ap (λ (n : ℕ). take n s) size ∙ laid-encoded (headerOf s) (curveBlocks s) (records s) s sound-laid
 
   -- ---- its parts can be encoded again, and are accepted
 

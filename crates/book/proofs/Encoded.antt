@@ -1,17 +1,17 @@
 -- The parts of an encoding are those that went in, and it is accepted where they are.
 use mathlib.Core.Path.{_≡_, refl, sym, ap, _∙_}
-use mathlib.Core.List.{List, [], _∷_, _++_}
+use mathlib.Core.List.{List, [], _∷_, _++_, flatten}
 use Prim.Native.Nat.{ℕ, zero, suc, _+_, _-_, _*_, _/_, _%_, _≤_, _<_, min}
 use native.Mathlib.Nat.{zero-add}
 use native.Mathlib.Decide.{ℕ-discrete, decLe}
 use native.Mathlib.Omega.{arith}
 use borrow.Author.Tests.{eqb-false}
 use lib.Dec.{eqb}
-use lib.ListN.{length, drop, getD, length-append, length-take, length-drop, List·getD-append}
+use lib.ListN.{length, take, drop, getD, length-append, length-take, length-drop, List·getD-append}
 use lib.Seq.{getD-append-add, getD-take, getD-drop}
 use Rattle.laws.specs.Walk.{table}
 use Rattle.laws.proofs.Walk.{length-table, getD-table}
-use Rattle.laws.proofs.Tables.{Each, length-flatten, part-flatten, table-same, table-of}
+use Rattle.laws.proofs.Tables.{Each, length-flatten, part-flatten, flatten-parts, table-same, table-of, table-by}
 use Rattle.ground.specs.declared.Verdict.the-variants.{Accepted}
 use Rattle.curve_block.specs.Verdict.{curveVerdict}
 use Rattle.book.specs.Parts.{Header, blockAt, headerOf, curveCount, tradeBlocks, curveBlocks, curvesIn, curvesOf, tradeCount, recordAt, records}
@@ -52,6 +52,21 @@ module _ (rs : List (List ℕ)) (j : ℕ) where
 
 -- ---- the blocks
 
+-- the header, a curve's block, a block of trades: there is no other
+each-block : (c t : ℕ) (P : ℕ → Type 0) → P 0 → ((k : ℕ) → k < c → P (1 + k)) → ((j : ℕ) → j < t → P (1 + c + j)) → (k : ℕ) → k < 1 + c + t → P k
+each-block c t P head curve trade zero l = head
+each-block c t P head curve trade (suc k) l = go (decLe c k)
+  where
+    go : Dec (c ≤ k) → P (suc k)
+    go (yes h) = let e : suc k ≡ 1 + c + (k - c) = omega arith in rw e (trade (k - c) (omega arith))
+    go (no h) = let e : suc k ≡ 1 + k = omega arith in rw e (curve k (omega arith))
+
+-- s begins with the blocks of these parts
+pub record LaidOut (header : Header) (cs rs : List (List ℕ)) (s : List ℕ) : Type 0 where
+  pub head : blockAt s 0 ≡ headerBlock header (length cs) (blocksFor (length rs))
+  pub curve : (k : ℕ) → k < length cs → blockAt s (1 + k) ≡ getD cs k []
+  pub trade : (j : ℕ) → j < blocksFor (length rs) → blockAt s (1 + length cs + j) ≡ tradeBlock (1 + length cs + j) (recordsOfBlock rs j)
+
 module _ (header : Header) (cs rs : List (List ℕ)) where
   abbrev head : List ℕ
   head = headerBlock header (length cs) (blocksFor (length rs))
@@ -84,23 +99,28 @@ module _ (header : Header) (cs rs : List (List ℕ)) where
       ap (λ (n : ℕ). getD (bookBlocks header cs rs) n []) e
       ∙ (getD-append-add (head ∷ cs) (table trade 0 (blocksFor (length rs))) j [] ∙ getD-table trade 0 (blocksFor (length rs)) j [] l ∙ ap trade (zero-add j))
 
+  -- bytes that begin with those blocks begin with the encoding
+  pub laid-encoded : (s : List ℕ) → LaidOut header cs rs s → take ((1 + length cs + blocksFor (length rs)) * 512) s ≡ encode header cs rs
+  unfolding encode
+  laid-encoded s laid =
+      let blocks : ℕ → List ℕ = λ k. take 512 (drop (0 + k * 512) s) in
+      let same = each-block (length cs) (blocksFor (length rs)) (λ k. getD (bookBlocks header cs rs) k [] ≡ blockAt s k)
+      (block-header ∙ sym (laid .head))
+      (λ k l. block-curve k l ∙ sym (laid .curve k l))
+      (λ j l. block-trade j l ∙ sym (laid .trade j l)) in
+      sym (ap flatten (table-by blocks [] (1 + length cs + blocksFor (length rs)) (bookBlocks header cs rs) length-blocks (λ k l. rw zero-add (same k l))) ∙ flatten-parts 512 s 0 (1 + length cs + blocksFor (length rs)))
+
 module _ (header : Header) (cs rs : List (List ℕ)) (fine : Encodable header cs rs) where
   few : (j : ℕ) → length (recordsOfBlock rs j) ≤ 9
   few j = omega (arith, length-nine rs j)
 
   pub blocks-each : Each 512 (bookBlocks header cs rs)
-  blocks-each zero l = rw (block-header header cs rs) (length-header header (length cs) (blocksFor (length rs)))
-  blocks-each (suc k) l = go (decLe (length cs) k)
-    where
-      go : Dec (length cs ≤ k) → length (getD (bookBlocks header cs rs) (suc k) []) ≡ 512
-      go (yes h) =
-          let n = length-blocks header cs rs in
-          let e : suc k ≡ 1 + length cs + (k - length cs) = omega arith in
-          rw (e, block-trade header cs rs (k - length cs) (omega arith))
-          (length-trades (1 + length cs + (k - length cs)) (recordsOfBlock rs (k - length cs)) (few (k - length cs)) (nine-each rs (k - length cs) (fine .each-record)))
-      go (no h) =
-          let e : suc k ≡ 1 + k = omega arith in
-          rw (e, block-curve header cs rs k (omega arith)) (fine .each-curve k (omega arith))
+  blocks-each k l =
+      each-block (length cs) (blocksFor (length rs)) (λ k. length (getD (bookBlocks header cs rs) k []) ≡ 512)
+      (rw (block-header header cs rs) (length-header header (length cs) (blocksFor (length rs))))
+      (λ k b. rw (block-curve header cs rs k b) (fine .each-curve k b))
+      (λ j b. rw (block-trade header cs rs j b) (length-trades (1 + length cs + j) (recordsOfBlock rs j) (few j) (nine-each rs j (fine .each-record))))
+      k (rw (length-blocks header cs rs) at l)
 
   pub length-encode : length (encode header cs rs) ≡ (1 + length cs + blocksFor (length rs)) * 512
   unfolding encode
@@ -200,26 +220,16 @@ module _ (header : Header) (cs rs : List (List ℕ)) (fine : Encodable header cs
           (λ i b. rw (nine-at rs j i (omega arith)) (good .trade (j * 9 + i) (omega arith) (1 + length cs + j)))
 
       block-accepted : (k : ℕ) → k < total → blockVerdict s total k ≡ Accepted
-      block-accepted zero l =
-          first-block s total
+      block-accepted =
+          let c = curve-count-encoded in
+          each-block (length cs) (blocksFor (length rs)) (λ k. blockVerdict s total k ≡ Accepted)
+          (first-block s total
           ∙ rw at-header
-          (accepted-header _ _ (header-breaks-nothing header (length cs) (blocksFor (length rs)) (fine .least) (fine .most) (omega (arith, fine .within))))
-      block-accepted (suc k) l = go (decLe (length cs) k)
-        where
-          go : Dec (length cs ≤ k) → blockVerdict s total (suc k) ≡ Accepted
-          go (yes h) =
-              let j = k - length cs in
-              let e : suc k ≡ 1 + length cs + j = omega arith in
-              let c = curve-count-encoded in
-              ap (blockVerdict s total) e
-              ∙ trade-place s total (1 + length cs + j) (omega arith) (omega arith)
-              ∙ rw (curves-of-encoded, at-trade j (omega arith)) (accepted-trades _ _ _ _ (trade-sound j (omega arith)))
-          go (no h) =
-              let e : suc k ≡ 1 + k = omega arith in
-              let c = curve-count-encoded in
-              ap (blockVerdict s total) e
-              ∙ curve-place s total (1 + k) (omega arith) (omega arith)
-              ∙ rw (at-curve k (omega arith)) (good .curve k (omega arith))
+          (accepted-header _ _ (header-breaks-nothing header (length cs) (blocksFor (length rs)) (fine .least) (fine .most) (omega (arith, fine .within)))))
+          (λ k l. curve-place s total (1 + k) (omega arith) (omega arith) ∙ rw (at-curve k l) (good .curve k l))
+          (λ j l.
+          trade-place s total (1 + length cs + j) (omega arith) (omega arith)
+          ∙ rw (curves-of-encoded, at-trade j l) (accepted-trades _ _ _ _ (trade-sound j l)))
 
       -- an encoding of curve blocks and records that are accepted is accepted
       pub encoded-accepted : verdict s (length (encode header cs rs)) ≡ Accepted

@@ -1,14 +1,17 @@
 -- The header that `headerBlock` lays out, and the bytes of a header that breaks nothing.
 use mathlib.Core.Path.{_≡_, refl, sym, _∙_}
+use mathlib.Core.Logic.{_⊎_, inl, inr}
+use mathlib.Core.Bool.{true}
 use mathlib.Core.List.{List, [], _++_, append-assoc, append-nil}
 use Prim.Native.Nat.{ℕ, _+_, _^_, _≤_, _<_}
 use native.Mathlib.Decide.{decLt}
 use native.Mathlib.Omega.{arith}
 use lib.ListN.{length, length-append, length-take, List·getD-eq-default}
-use Rattle.layout.specs.Bytes.{byteAt, part, AreBytes}
+use Rattle.layout.specs.Bytes.{byteAt, part, put, zeros, AreBytes}
 use Rattle.layout.specs.Field.{numberAt, u16At, bytesOf}
-use Rattle.layout.proofs.Bytes.{byte-part, part-add}
-use Rattle.layout.proofs.Field.{field-bound, field-front, field-behind, field-part, length-bytes, number-bytes, bytes-number}
+use Rattle.layout.specs.Check.{sealed}
+use Rattle.layout.proofs.Bytes.{length-put, byte-apart, bytes-put, byte-part, part-add, zeros-at, zeros-of}
+use Rattle.layout.proofs.Field.{field-bound, field-front, field-behind, field-part, length-bytes, bytes-bytes, number-bytes, bytes-number, field-put, field-apart}
 use Rattle.layout.proofs.Sealed.{sound-sealed, place-kept}
 use Rattle.book.specs.Parts.{Header, headerOf, curveCount, tradeBlocks}
 use Rattle.book.specs.Encode.{block, headerBytes, headerBlock}
@@ -117,23 +120,43 @@ module _ (header : Header) (c t : ℕ) where
         };
       }
 
--- and no other header has its fields
-pub header-of : (b : List ℕ) (blocks : ℕ) → AreBytes b → length b ≡ 512 → HeaderSound b blocks
-    → b ≡ headerBlock (headerOf b) (curveCount b) (tradeBlocks b)
-header-of b n bytes h sound =
-    let p = place-kept b 1 0 (sound .placed) in
-    let fields = named (headerOf b) (curveCount b) (tradeBlocks b) in
-    let l = length-headerBytes (headerOf b) (curveCount b) (tradeBlocks b) in
-    let e : part b 4 12 ≡ fields =
-    part-add b 4 8 4
-    ∙ rw (
-      part-add b 4 6 2,
-      part-add b 4 4 2,
-      bytes-number 4 b 4 bytes (omega arith),
-      bytes-number 2 b 8 bytes (omega arith),
-      bytes-number 2 b 10 bytes (omega arith),
-      bytes-number 4 b 12 bytes (omega arith),
-    ) in
-    sym (sound-sealed b bytes (omega arith) (sound .checked))
-    ∙ block-of 1 0 0 fields (omega arith) b h (p .0) (sound .counts .second) (number-part b 0 bytes h (p .1)) (rw l e) (rw l (sound .counts .behind))
-    ∙ sym (is-header (headerOf b) (curveCount b) (tradeBlocks b))
+-- sealed, no other header has its fields
+module _ (b : List ℕ) (bytes : AreBytes b) (h : length b ≡ 512) where
+  sealed-header : byteAt b 0 ≡ 1 → u16At b 2 ≡ 0 → byteAt b 1 ≡ 0 → zeros b 16 508 ≡ true → sealed b ≡ headerBlock (headerOf b) (curveCount b) (tradeBlocks b)
+  sealed-header kind number second behind =
+      let fields = named (headerOf b) (curveCount b) (tradeBlocks b) in
+      let l = length-headerBytes (headerOf b) (curveCount b) (tradeBlocks b) in
+      let e : part b 4 12 ≡ fields =
+      part-add b 4 8 4
+      ∙ rw (
+        part-add b 4 6 2,
+        part-add b 4 4 2,
+        bytes-number 4 b 4 bytes (omega arith),
+        bytes-number 2 b 8 bytes (omega arith),
+        bytes-number 2 b 10 bytes (omega arith),
+        bytes-number 4 b 12 bytes (omega arith),
+      ) in
+      block-of 1 0 0 fields (omega arith) b h kind second (number-part b 0 bytes h number) (rw l e) (rw l behind)
+      ∙ sym (is-header (headerOf b) (curveCount b) (tradeBlocks b))
+
+module _ (b : List ℕ) (blocks : ℕ) (bytes : AreBytes b) (h : length b ≡ 512) (sound : HeaderSound b blocks) where
+  pub header-of : b ≡ headerBlock (headerOf b) (curveCount b) (tradeBlocks b)
+  header-of =
+      let p = place-kept b 1 0 (sound .placed) in
+      sym (sound-sealed b bytes (omega arith) (sound .checked)) ∙ sealed-header b bytes h (p .0) (p .1) (sound .counts .second) (sound .counts .behind)
+
+  -- and with another count of trade blocks
+  pub header-recounted : (t : ℕ) → t < 65536 → sealed (put b 10 (bytesOf 2 t)) ≡ headerBlock (headerOf b) (curveCount b) t
+  header-recounted t few =
+      let p = place-kept b 1 0 (sound .placed) in
+      let two = length-bytes 2 t in
+      let field : (n k : ℕ) → (k + n ≤ 10) ⊎ (12 ≤ k) → numberAt n (put b 10 (bytesOf 2 t)) k ≡ numberAt n b k =
+      λ n k apart. field-apart n b 10 (bytesOf 2 t) k (rw two apart) in
+      let byte : (k : ℕ) → (k < 10) ⊎ (12 ≤ k) → byteAt (put b 10 (bytesOf 2 t)) k ≡ byteAt b k =
+      λ k apart. byte-apart b 10 (bytesOf 2 t) k (rw two apart) in
+      sealed-header (put b 10 (bytesOf 2 t)) (bytes-put b 10 (bytesOf 2 t) bytes (bytes-bytes 2 t)) (length-put b 10 (bytesOf 2 t) ∙ h)
+      (byte 0 (inl (omega arith)) ∙ p .0)
+      (field 2 2 (inl (omega arith)) ∙ p .1)
+      (byte 1 (inl (omega arith)) ∙ sound .counts .second)
+      (zeros-of (put b 10 (bytesOf 2 t)) 16 508 (λ k l m. byte k (inr (omega arith)) ∙ zeros-at b 16 508 (sound .counts .behind) k l m))
+      ∙ rw (field 4 4 (inl (omega arith)), field 4 12 (inr (omega arith)), field 2 8 (inl (omega arith)), field-put 2 b 10 t (omega arith) few)

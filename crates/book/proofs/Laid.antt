@@ -79,6 +79,13 @@ module _ (kind count number : ℕ) (named : List ℕ) where
         (field-front 2 (bytesOf 2 number) (named ++ replicate (508 - length named) 0) 0 (omega arith))
         ∙ number-bytes 2 number h)
 
+    pub block-numbered : part (block kind count number named) 2 2 ≡ bytesOf 2 number
+    block-numbered =
+        rw is-block
+        (part-sealed unsealed 2 2 (omega (arith, length-before)) (omega arith)
+        ∙ rw (append-assoc (bytesOf 2 number) named (replicate (508 - length named) 0))
+        (take-at (bytesOf 2 number) (named ++ replicate (508 - length named) 0) 2 (length-bytes 2 number)))
+
     pub block-named : part (block kind count number named) 4 (length named) ≡ named
     block-named =
         rw is-block

@@ -1,12 +1,16 @@
 -- Where the parts of a book stand.
 use mathlib.Core.Path.{_≡_, ap, _∙_}
+use mathlib.Core.Logic.{_⊎_, inl, inr}
 use mathlib.Core.List.{List, []}
 use Prim.Native.Nat.{ℕ, _+_, _-_, _*_, _≤_, _<_}
 use native.Mathlib.Nat.{zero-add}
+use native.Mathlib.Decide.{decLt}
 use native.Mathlib.Omega.{arith}
 use borrow.Author.Tests.{eq-eqb, ne-eqb}
 use lib.ListN.{length, getD, List·getD-eq-default}
 use Rattle.laws.proofs.Walk.{length-table, getD-table}
+use Rattle.layout.specs.Bytes.{put}
+use Rattle.layout.proofs.Bytes.{part-put, part-apart}
 use Rattle.layout.proofs.Field.{field-part}
 use Rattle.book.specs.Parts.{blockAt, headerOf, curveCount, tradeBlocks, curveBlocks, curvesIn, curvesOf, recordCount, tradeCount, recordAt, records}
 
@@ -60,3 +64,16 @@ length-records s = length-table (recordAt s) 0 (tradeCount s)
 pub record-of : (s : List ℕ) (i : ℕ) → i < tradeCount s → getD (records s) i [] ≡ recordAt s i
 unfolding records
 record-of s i l = getD-table (recordAt s) 0 (tradeCount s) i [] l ∙ ap (recordAt s) (zero-add i)
+
+-- ---- a block written over
+
+module _ (s : List ℕ) (k : ℕ) (b : List ℕ) (long : length b ≡ 512) where
+  pub block-put : k * 512 + 512 ≤ length s → blockAt (put s (k * 512) b) k ≡ b
+  block-put h = rw long at (part-put s (k * 512) b (rw long h))
+
+  pub block-apart : (j : ℕ) → j * 512 + 512 ≤ length s → (j ≡ k → ⊥) → blockAt (put s (k * 512) b) j ≡ blockAt s j
+  block-apart j h other = part-apart s (k * 512) b (j * 512) 512 h (rw long (side (decLt j k)))
+    where
+      side : Dec (j < k) → (j * 512 + 512 ≤ k * 512) ⊎ (k * 512 + 512 ≤ j * 512)
+      side (yes l) = inl (omega arith)
+      side (no l) = inr (omega arith)

@@ -1,6 +1,6 @@
 -- A book with one curve block replaced by another of the same currency that breaks nothing: it is accepted, and the rest of it is as it was.
 use mathlib.Core.Path.{_≡_, sym, _∙_}
-use mathlib.Core.Logic.{_⊎_, inl, inr}
+use mathlib.Core.Logic.{inl}
 use mathlib.Core.List.{List, []}
 use Prim.Native.Nat.{ℕ, _+_, _-_, _*_, _/_, _≤_, _<_}
 use native.Mathlib.Nat.{zero-add}
@@ -11,14 +11,14 @@ use Rattle.laws.proofs.Tables.{table-same}
 use Rattle.ground.specs.declared.Verdict.the-variants.{Accepted}
 use Rattle.layout.specs.Bytes.{put}
 use Rattle.layout.specs.Field.{numberAt}
-use Rattle.layout.proofs.Bytes.{length-put, part-put, part-apart}
+use Rattle.layout.proofs.Bytes.{length-put}
 use Rattle.layout.proofs.Field.{field-apart}
 use Rattle.curve_block.specs.Parts.{currencyOf}
 use Rattle.curve_block.specs.Verdict.{curveVerdict}
 use Rattle.book.specs.Parts.{blockAt, headerOf, curveCount, tradeBlocks, curveBlocks, curvesIn, curvesOf, tradeCount, recordAt, records}
 use Rattle.book.specs.Verdict.{blockVerdict, verdict}
 use Rattle.book.proofs.First.{first-of}
-use Rattle.book.proofs.Places.{length-curveBlocks, curve-block, no-curve-block, no-trades, last-trades}
+use Rattle.book.proofs.Places.{length-curveBlocks, curve-block, no-curve-block, no-trades, last-trades, block-put, block-apart}
 use Rattle.book.proofs.Verdicts.{curve-place, verdict-blocks}
 use Rattle.book.proofs.Accepted.{Sound, length-passed, block-passed, sound, place-held}
 
@@ -53,15 +53,10 @@ module _ (s : List ℕ) (used k : ℕ) (b : List ℕ) (fine : Replaceable s used
   within j l = omega (arith, held .blocks, held .lent)
 
   at-curve : blockAt t k ≡ b
-  at-curve =
-      rw (fine .long) at (part-put s (k * 512) b (rw (fine .long) (within k (omega (arith, fine .last)))))
+  at-curve = block-put s k b (fine .long) (within k (omega (arith, fine .last)))
 
   elsewhere : (j : ℕ) → j < 1 + curveCount s + tradeBlocks s → (j ≡ k → ⊥) → blockAt t j ≡ blockAt s j
-  elsewhere j l other = part-apart s (k * 512) b (j * 512) 512 (within j l) (rw (fine .long) (side (decLt j k)))
-    where
-      side : Dec (j < k) → (j * 512 + 512 ≤ k * 512) ⊎ (k * 512 + 512 ≤ j * 512)
-      side (yes h) = inl (omega arith)
-      side (no h) = inr (omega arith)
+  elsewhere j l other = block-apart s k b (fine .long) j (within j l) other
 
   -- ---- the header
 

@@ -1,25 +1,37 @@
 -- The blocks of trades that `tradeBlock` lays out, and the bytes of one that breaks nothing.
-use mathlib.Core.Path.{_≡_, refl, sym, _∙_}
-use mathlib.Core.Bool.{Bool}
+use mathlib.Core.Path.{_≡_, refl, sym, ap, _∙_}
+use mathlib.Core.Bool.{Bool, true}
 use mathlib.Core.List.{List, [], flatten, append-nil}
 use Prim.Native.Nat.{ℕ, _*_, _≤_, _<_}
+use native.Mathlib.Nat.{zero-add}
 use native.Mathlib.Omega.{arith}
 use lib.ListN.{length, getD}
 use Rattle.laws.specs.Walk.{table}
-use Rattle.laws.proofs.Walk.{length-table}
-use Rattle.laws.proofs.Tables.{Each, length-flatten, part-flatten, flatten-parts}
+use Rattle.laws.proofs.Walk.{length-table, getD-table}
+use Rattle.laws.proofs.Tables.{Each, length-flatten, part-flatten, flatten-parts, table-by}
 use Rattle.ground.specs.declared.Verdict.the-variants.{Accepted}
-use Rattle.layout.specs.Bytes.{part, AreBytes}
+use Rattle.layout.specs.Bytes.{byteAt, part, zeros, AreBytes}
+use Rattle.layout.specs.Field.{bytesOf}
+use Rattle.layout.specs.Check.{sealed}
 use Rattle.layout.proofs.Bytes.{length-part, part-part}
 use Rattle.layout.proofs.Sealed.{sound-sealed, place-kept}
 use Rattle.record.specs.declared.Curves.{Curves}
-use Rattle.book.specs.Parts.{recordCount, recordIn}
+use Rattle.book.specs.Parts.{recordCount, recordPlace, recordIn}
 use Rattle.book.specs.Verdict.{bytesVerdict}
 use Rattle.book.specs.Encode.{block, tradeBlock}
 use Rattle.book.proofs.Sound.{Counted}
-use Rattle.book.proofs.Laid.{length-block, block-count, block-named, block-zeros, block-checked, block-placed, block-of}
+use Rattle.book.proofs.Laid.{length-block, block-kind, block-count, block-numbered, block-named, block-zeros, block-checked, block-placed, block-of}
 use Rattle.book.proofs.HeaderBlock.{number-part}
 use Rattle.book.proofs.Verdicts.{TradesSound}
+
+-- what a block of trades holds, whatever its check
+pub record Holds (b : List ℕ) (number : ℕ) (rs : List (List ℕ)) : Type 0 where
+  pub long : length b ≡ 512
+  pub kind : byteAt b 0 ≡ 3
+  pub count : recordCount b ≡ length rs
+  pub numbered : part b 2 2 ≡ bytesOf 2 number
+  pub each : (i : ℕ) → i < length rs → recordIn b i ≡ getD rs i []
+  pub behind : zeros b (recordPlace (length rs)) 508 ≡ true
 
 module _ (number : ℕ) (rs : List (List ℕ)) where
   is-trades : tradeBlock number rs ≡ block 3 (length rs) number (flatten rs)
@@ -60,6 +72,27 @@ module _ (number : ℕ) (rs : List (List ℕ)) where
           each = λ i l. let m : i < length rs = rw count-trades at l in rw (record-trades i m) (accepted i m);
         }
 
+    pub trades-hold : Holds (tradeBlock number rs) number rs
+    trades-hold =
+        record {
+          long = length-trades;
+          kind = rw is-trades (block-kind 3 (length rs) number (flatten rs) short);
+          count = count-trades;
+          numbered = rw is-trades (block-numbered 3 (length rs) number (flatten rs) short);
+          each = record-trades;
+          behind = rw (← is-trades, long) at (block-zeros 3 (length rs) number (flatten rs) short);
+        }
+
+-- sealed, no other block holds them
+pub sealed-trades : (b : List ℕ) (number : ℕ) (rs : List (List ℕ)) → length rs ≤ 9 → Holds b number rs → sealed b ≡ tradeBlock number rs
+sealed-trades b number rs few h =
+    let size : length (flatten rs) ≡ length rs * 56 =
+    length-flatten 56 rs (λ i l. rw (← h .each i l) (length-part b (recordPlace i) 56 (omega (arith, h .long)))) in
+    let all : part b 4 (length rs * 56) ≡ flatten rs =
+    sym (ap flatten (table-by (recordIn b) [] (length rs) rs refl (λ i l. sym (h .each i l))) ∙ flatten-parts 56 b 4 (length rs)) in
+    block-of 3 (length rs) number (flatten rs) (omega arith) b (h .long) (h .kind) (h .count) (h .numbered) (rw size all) (rw size (h .behind))
+    ∙ sym (is-trades number rs)
+
 -- the records of a block
 abbrev pub recordsIn : List ℕ → List (List ℕ)
 recordsIn b = table (recordIn b) 0 (recordCount b)
@@ -70,10 +103,12 @@ pub trades-of : (curves : Curves) (b : List ℕ) (number : ℕ) (last : Bool) �
 trades-of curves b number last bytes h sound =
     let p = place-kept b 3 number (sound .placed) in
     let n = length-table (recordIn b) 0 (recordCount b) in
-    let most = sound .counts .count .most in
-    let e : flatten (recordsIn b) ≡ part b 4 (recordCount b * 56) = flatten-parts 56 b 4 (recordCount b) in
-    let l : length (part b 4 (recordCount b * 56)) ≡ recordCount b * 56 = length-part b 4 (recordCount b * 56) (omega arith) in
     sym (sound-sealed b bytes (omega arith) (sound .checked))
-    ∙ block-of 3 (recordCount b) number (part b 4 (recordCount b * 56)) (omega arith) b h (p .0) refl (number-part b number bytes h (p .1)) (rw l refl)
-    (rw l (sound .counts .behind))
-    ∙ rw (is-trades number (recordsIn b), n, e)
+    ∙ sealed-trades b number (recordsIn b) (rw n (sound .counts .count .most)) (record {
+      long = h;
+      kind = p .0;
+      count = sym n;
+      numbered = number-part b number bytes h (p .1);
+      each = λ i l. sym (getD-table (recordIn b) 0 (recordCount b) i [] (rw n at l) ∙ ap (recordIn b) (zero-add i));
+      behind = rw n (sound .counts .behind);
+    })

@@ -1,30 +1,31 @@
--- The encoding of a book's parts with a record fewer, block by block.
+-- The bytes of an accepted book with a record fewer: the records moved up, the last cut off, the blocks sealed.
 use mathlib.Core.Path.{_≡_, sym, _∙_, ap}
-use mathlib.Core.Bool.{cond}
-use mathlib.Core.List.{List, [], _∷_, _++_, append-nil, flatten}
-use Prim.Native.Nat.{ℕ, zero, suc, _+_, _-_, _*_, _/_, _%_, _≤_, _<_, min}
-use native.Mathlib.Nat.{add-zero}
-use native.Mathlib.Numerals.{add-one}
-use native.Mathlib.Decide.{decLt, decLe}
+use mathlib.Core.Logic.{_⊎_, inl, inr}
+use mathlib.Core.List.{List, [], _∷_, _++_, append-assoc}
+use Prim.Native.Nat.{ℕ, _+_, _-_, _*_, _/_, _%_, _≤_, _<_}
+use native.Mathlib.Decide.{decLt, ℕ-discrete}
 use native.Mathlib.Omega.{arith}
-use borrow.Author.Tests.{lt-ltb, le-ltb, le-leb, lt-leb}
-use lib.Dec.{ltb}
-use lib.ListN.{length, getD, take, drop, replicate, length-append, length-take, length-drop, length-replicate, List·getD-append}
-use lib.Seq.{ext-getD, length-take-le, getD-take, getD-drop, getD-append-add, getD-at}
+use borrow.Author.Tests.{eq-eqb, ne-eqb}
+use lib.ListN.{length, getD, take, drop, replicate, length-append, length-take, length-drop, length-replicate, take-append-drop, List·getD-append}
+use lib.Seq.{ext-getD, length-take-le, drop-drop, getD-take, getD-drop, getD-append-add, getD-at}
 use Rattle.laws.specs.Walk.{run}
 use Rattle.laws.proofs.Tables.{Each}
-use Rattle.layout.specs.Bytes.{put, onBlock}
-use Rattle.book.specs.Parts.{Header, curveCount, recordAt}
-use Rattle.book.specs.Encode.{headerBlock, tradeBlock, blocksFor, recordsOfBlock, encode}
-use Rattle.book.proofs.HeaderBlock.{length-header}
-use Rattle.book.proofs.TradeBlock.{record-trades}
-use Rattle.book.proofs.Encoded.{Encodable, length-nine, nine-at, nine-each}
-use Rattle.trade_edit.specs.Blocks.{withTradeBlocks, closedUp, movedUp, closedBlock, closedGap}
-use Rattle.trade_edit.proofs.Joined.{flatten-none, flatten-cons, flatten-append}
-use Rattle.trade_edit.proofs.BlockLaws.{closed-full, closed-last, recount}
-use Rattle.trade_edit.proofs.StepLaws.{curves-kept}
-use Rattle.edit.specs.Edits.{without}
-use Rattle.edit.proofs.Books.{laidOut, Whole, trade-read, trade-changed, trade-put, header-changed, laid-more, laid-same, tradesAt, encode-laid, length-tradesAt}
+use Rattle.ground.specs.declared.Verdict.the-variants.{Accepted}
+use Rattle.layout.specs.Bytes.{byteAt, part, AreBytes}
+use Rattle.layout.proofs.Bytes.{length-part, byte-part, part-same, part-kept, drop-kept, part-part, zeros-at, zeros-of, zeros-part}
+use Rattle.book.specs.Parts.{blockAt, recordPlace, recordIn, headerOf, curveCount, tradeCount, recordAt, records}
+use Rattle.book.specs.Verdict.{verdict}
+use Rattle.book.specs.Encode.{headerBlock, tradeBlock, blocksFor, recordsOfBlock}
+use Rattle.book.proofs.Places.{head-curves, record-of}
+use Rattle.book.proofs.Accepted.{sound}
+use Rattle.book.proofs.TradeBlock.{Holds, sealed-trades}
+use Rattle.book.proofs.Encoded.{length-nine, nine-at}
+use Rattle.book.proofs.Canonical.{trade-block}
+use Rattle.trade_edit.specs.Blocks.{placeOf, recordMoved, endOf, cutBack, blockSealed}
+use Rattle.trade_edit.proofs.StepLaws.{places-apart, length-moves, moves-apart, moves-moved, length-cutBack, end-within, CutRead, cut-read, length-seals, seals-apart, seals-sealed}
+use Rattle.edit.specs.Edits.{bookOf, without, struckBook}
+use Rattle.edit.proofs.Books.{Sized, sized, trades-held, relaid}
+use Rattle.edit.proofs.Added.{nine-full, nine-last, header-counted}
 
 -- ---- a list without the element at a position
 
@@ -51,246 +52,278 @@ module _ (rs : List (List ℕ)) (p : ℕ) (in-list : p < length rs) where
       go (yes b) = rw (without-before i b) (each i (omega arith))
       go (no b) = rw (without-behind i (omega arith)) (each (i + 1) (omega (arith, length-without)))
 
--- ---- nine to a block
-
-module _ (rs : List (List ℕ)) (p : ℕ) (in-list : p < length rs) where
-  -- those before the position's stay
+  -- the blocks before the position's
   nine-before : (j : ℕ) → j * 9 + 9 ≤ p → recordsOfBlock (without rs p) j ≡ recordsOfBlock rs j
   nine-before j h =
       let m = length-nine (without rs p) j in
       let n = length-nine rs j in
-      let k = length-without rs p in-list in
+      let k = length-without in
       ext-getD [] (recordsOfBlock (without rs p) j) (recordsOfBlock rs j) (omega arith)
-      (λ i l. nine-at (without rs p) j i (omega arith) ∙ without-before rs p in-list (j * 9 + i) (omega arith) ∙ sym (nine-at rs j i (omega arith)))
+      (λ i l. nine-at (without rs p) j i (omega arith) ∙ without-before (j * 9 + i) (omega arith) ∙ sym (nine-at rs j i (omega arith)))
 
-  -- from there on each loses one, its own or the one that moves up
-  module _ (j : ℕ) (from : p < j * 9 + 9) (some : j * 9 < length rs - 1) where
-    abbrev old : List (List ℕ)
-    old = recordsOfBlock rs j
+module _ (s : List ℕ) (used : ℕ) (bytes : AreBytes s) (ok : verdict s used ≡ Accepted) (p : ℕ) (in-book : p < tradeCount s) where
+  abbrev rs : List (List ℕ)
+  rs = records s
 
-    abbrev place : ℕ
-    place = p - j * 9
+  abbrev c : ℕ
+  c = curveCount s
 
-    few-old : length old ≤ 9
-    few-old = omega (arith, length-nine rs j)
-
-    place-in : place < length old
-    place-in = omega (arith, length-nine rs j)
-
-    -- record i of what is left of the block is record i of the new list
-    kept : (i : ℕ) → i < 8 → getD (without old place) i [] ≡ getD (without rs p) (j * 9 + i) []
-    kept i l = go (decLt i place)
-      where
-        go : Dec (i < p - j * 9) → getD (without (recordsOfBlock rs j) (p - j * 9)) i [] ≡ getD (without rs p) (j * 9 + i) []
-        go (yes b) =
-            without-before old place place-in i b ∙ nine-at rs j i (omega arith) ∙ sym (without-before rs p in-list (j * 9 + i) (omega arith))
-        go (no b) =
-            let e : j * 9 + (i + 1) ≡ j * 9 + i + 1 = omega arith in
-            without-behind old place place-in i (omega arith)
-            ∙ nine-at rs j (i + 1) (omega arith)
-            ∙ ap (λ (k : ℕ). getD rs k []) e
-            ∙ sym (without-behind rs p in-list (j * 9 + i) (omega arith))
-
-    -- a full block, behind which another stands
-    nine-full : j * 9 + 9 ≤ length rs - 1 → without old place ++ getD rs (j * 9 + 9) [] ∷ [] ≡ recordsOfBlock (without rs p) j
-    nine-full h =
-        let m = length-nine (without rs p) j in
-        let k = length-without rs p in-list in
-        let n : length (without old place) ≡ 8 = omega (arith, length-without old place place-in, length-nine rs j) in
-        let next = getD rs (j * 9 + 9) [] in
-        ext-getD [] (without old place ++ next ∷ []) (recordsOfBlock (without rs p) j) (omega (arith, length-append (without old place) (next ∷ [])))
-        (λ i l. go i (omega (arith, length-append (without old place) (next ∷ []))) n (decLt i 8) ∙ sym (nine-at (without rs p) j i (omega (arith, length-append (without old place) (next ∷ [])))))
-      where
-        go : (i : ℕ) → i < 9 → length (without old place) ≡ 8 → Dec (i < 8) → getD (without old place ++ getD rs (j * 9 + 9) [] ∷ []) i [] ≡ getD (without rs p) (j * 9 + i) []
-        go i l n (yes b) = List·getD-append (without old place) (getD rs (j * 9 + 9) [] ∷ []) [] i (omega arith) ∙ kept i b
-        go i l n (no b) =
-            let e : j * 9 + 9 ≡ j * 9 + i + 1 = omega arith in
-            getD-at (without old place) (getD rs (j * 9 + 9) []) [] [] i (omega arith)
-            ∙ ap (λ (k : ℕ). getD rs k []) e
-            ∙ sym (without-behind rs p in-list (j * 9 + i) (omega arith))
-
-    -- the last block
-    left-in-last : length rs - 1 < j * 9 + 9 → length (without old place) ≡ length rs - 1 - j * 9
-    left-in-last h = omega (arith, length-without old place place-in, length-nine rs j)
-
-    nine-last : length rs - 1 < j * 9 + 9 → without old place ≡ recordsOfBlock (without rs p) j
-    nine-last h =
-        ext-getD [] (without old place) (recordsOfBlock (without rs p) j) (left-in-last h ∙ same)
-        (λ i l. let b : i < 8 = small i (rw (left-in-last h) at l) in kept i b ∙ sym (nine-at (without rs p) j i (omega arith)))
-      where
-        same : length rs - 1 - j * 9 ≡ length (recordsOfBlock (without rs p) j)
-        same = let m = length-nine (without rs p) j in rw (m, length-without rs p in-list) (omega arith)
-
-        small : (i : ℕ) → i < length rs - 1 - j * 9 → i < 8
-        small i l = omega (arith, h)
-
-    -- ---- the block's bytes
-
-    module _ (number : ℕ) (each : Each 56 rs) where
-      closed-within : j * 9 + 9 ≤ length rs - 1
-          → closedUp (tradeBlock number old) place (getD rs (j * 9 + 9) []) (min 9 (length rs - 1 - j * 9)) ≡ tradeBlock number (recordsOfBlock (without rs p) j)
-      closed-within h =
-          let nine : length old ≡ 9 = omega (arith, length-nine rs j) in
-          let count : min 9 (length rs - 1 - j * 9) ≡ 9 = omega arith in
-          let e : place + 1 ≡ suc place = add-one place in
-          rw (count, ← nine-full h, e)
-          (closed-full number old place (getD rs (j * 9 + 9) []) (nine-each rs j each) nine (omega arith) (each (j * 9 + 9) (omega arith)))
-
-      closed-at-end : length rs - 1 < j * 9 + 9
-          → closedUp (tradeBlock number old) place (replicate 56 0) (min 9 (length rs - 1 - j * 9)) ≡ tradeBlock number (recordsOfBlock (without rs p) j)
-      closed-at-end h =
-          let n = length-nine rs j in
-          let count : min 9 (length rs - 1 - j * 9) ≡ length old - 1 = omega arith in
-          let e : place + 1 ≡ suc place = add-one place in
-          rw (count, ← nine-last h, e) (closed-last number old place (nine-each rs j each) few-old place-in)
-
--- ---- the blocks, closed one after the other
-
-module _ (header : Header) (cs rs : List (List ℕ)) (p : ℕ) (rest : List ℕ) (fine : Encodable header cs rs) (in-list : p < length rs) where
-  abbrev first : ℕ
-  first = 1 + length cs
+  abbrev left : ℕ
+  left = tradeCount s - 1
 
   abbrev fewer : List (List ℕ)
   fewer = without rs p
 
-  abbrev left : ℕ
-  left = length rs - 1
+  z : Sized s used
+  z = sized s used bytes ok
 
-  abbrev t : ℕ
-  t = blocksFor (length rs)
+  in-list : p < length rs
+  in-list = rw (z .trade-count) in-book
 
-  abbrev head : List ℕ
-  head = headerBlock header (length cs) t
+  length-fewer : length fewer ≡ left
+  length-fewer = length-without rs p in-list ∙ rw (z .trade-count)
 
-  -- the blocks before j as they are to be, the others as they were
-  abbrev mixed : ℕ → ℕ → List ℕ
-  mixed j i = cond (ltb i j) (tradesAt first fewer i) (tradesAt first rs i)
+  -- the last record's block
+  abbrev u : ℕ
+  u = 1 + c + left / 9
 
-  mixed-new : (j i : ℕ) → i < j → mixed j i ≡ tradesAt first fewer i
-  mixed-new j i l = rw (lt-ltb i j l)
+  pub last-block : used ≡ u * 512 + 512
+  last-block = omega (arith, z .size)
 
-  mixed-old : (j i : ℕ) → j ≤ i → mixed j i ≡ tradesAt first rs i
-  mixed-old j i l = rw (le-ltb i j l)
+  fits : u * 512 + 512 ≤ length s
+  fits = omega (arith, last-block, z .lent)
 
-  each-mixed : (j i : ℕ) → length (mixed j i) ≡ 512
-  each-mixed j i = go (decLt i j)
+  -- ---- the records moved up: the last stands twice
+
+  abbrev last : List ℕ
+  last = getD rs left []
+
+  abbrev moved : List ℕ
+  moved = run (recordMoved c) p (left - p) s
+
+  length-moved : length moved ≡ length s
+  length-moved = length-moves c p (left - p) s
+
+  moved-apart : (m : ℕ) → ((q : ℕ) → p ≤ q → q < left → (m < placeOf c q) ⊎ (placeOf c q + 56 ≤ m)) → byteAt moved m ≡ byteAt s m
+  moved-apart m apart = moves-apart c m p (left - p) s (λ q l h. apart q l (omega arith))
+
+  at-place : (q : ℕ) → q ≤ left → part s (placeOf c q) 56 ≡ getD rs q []
+  unfolding recordAt
+  at-place q l =
+      sym (record-of s q (omega arith) ∙ part-part s ((1 + c + q / 9) * 512) 512 (recordPlace (q % 9)) 56 (omega (arith, fits)) (omega arith))
+
+  record-moved : (q : ℕ) → q ≤ left → part moved (placeOf c q) 56 ≡ getD (fewer ++ last ∷ []) q []
+  record-moved q l = go (decLt q p) (decLt q left)
     where
-      go : Dec (i < j) → length (mixed j i) ≡ 512
-      go (yes l) = rw (mixed-new j i l) (length-tradesAt first fewer i (each-without rs p in-list (fine .each-record)))
-      go (no l) = rw (mixed-old j i (omega arith)) (length-tradesAt first rs i (fine .each-record))
+      stays : (q < p) ⊎ (left ≤ q) → part moved (placeOf c q) 56 ≡ getD rs q []
+      stays out = part-kept moved s (placeOf c q) 56 length-moved (λ m b e. moved-apart m (λ i j h. side m b e i j h out)) ∙ at-place q l
+        where
+          side : (m : ℕ) → placeOf c q ≤ m → m < placeOf c q + 56 → (i : ℕ) → p ≤ i → i < left → (q < p) ⊎ (left ≤ q) → (m < placeOf c i) ⊎ (placeOf c i + 56 ≤ m)
+          side m b e i j h (inl d) = inl (omega (arith, places-apart c q i (omega arith)))
+          side m b e i j h (inr d) = inr (omega (arith, places-apart c i q (omega arith)))
 
-  whole : (j : ℕ) → Whole head cs (mixed j) t
-  whole j = record { head = length-header header (length cs) t; rates = fine .each-curve; each = λ i l. each-mixed j i }
+      go : Dec (q < p) → Dec (q < left) → part moved (placeOf c q) 56 ≡ getD (fewer ++ last ∷ []) q []
+      go (yes h) d = stays (inl h) ∙ sym (List·getD-append fewer (last ∷ []) [] q (rw length-fewer (omega arith)) ∙ without-before rs p in-list q h)
+      go (no h) (yes d) =
+          part-same moved (placeOf c q) s (placeOf c (q + 1)) 56 (rw length-moved (omega (arith, fits))) (omega (arith, fits))
+          (λ o b. moves-moved c o q p (left - p) s b (omega (arith, fits)) (omega arith) (omega arith))
+          ∙ at-place (q + 1) (omega arith)
+          ∙ sym (List·getD-append fewer (last ∷ []) [] q (rw length-fewer d) ∙ without-behind rs p in-list q (omega arith))
+      go (no h) (no d) =
+          let e : q ≡ left = omega arith in
+          stays (inr (omega arith)) ∙ rw e (sym (getD-at fewer last [] [] left length-fewer))
 
-  pub during : ℕ → List ℕ
-  during j = flatten (laidOut head cs (mixed j) t) ++ rest
+  module _ (j : ℕ) (l : j ≤ left / 9) where
+    abbrev k : ℕ
+    k = 1 + c + j
 
-  -- the record that moves up
-  moves : (j : ℕ) → j * 9 + 9 ≤ left → curveCount (during j) ≡ length cs → movedUp (during j) left j ≡ getD rs (j * 9 + 9) []
-  unfolding movedUp recordAt during
-  moves j h e =
-      let q : (j * 9 + 9) / 9 ≡ j + 1 = omega arith in
-      let m : (j * 9 + 9) % 9 ≡ 0 = omega arith in
-      let k : (j + 1) * 9 + 0 ≡ j * 9 + 9 = omega arith in
-      let n = length-nine rs (j + 1) in
-      rw (le-leb (j * 9 + 9) left h, q, m, e, trade-read head cs (mixed j) t (whole j) rest (j + 1) (omega arith), mixed-old j (j + 1) (omega arith))
-      (record-trades (first + (j + 1)) (recordsOfBlock rs (j + 1)) (omega arith) (nine-each rs (j + 1) (fine .each-record)) 0 (omega arith)
-      ∙ nine-at rs (j + 1) 0 (omega arith)
-      ∙ rw k)
+    old : Holds (blockAt s k) k (recordsOfBlock rs j)
+    old = trades-held s used bytes ok j (omega (arith, z .trade-blocks))
 
-  moves-none : (j : ℕ) → left < j * 9 + 9 → movedUp (during j) left j ≡ replicate 56 0
-  unfolding movedUp
-  moves-none j h = rw (lt-leb (j * 9 + 9) left h)
+    length-old : length (recordsOfBlock (fewer ++ last ∷ []) j) ≡ length (recordsOfBlock rs j)
+    length-old = omega (arith, length-nine (fewer ++ last ∷ []) j, length-nine rs j, length-append fewer (last ∷ []), length-fewer, z .trade-count)
 
-  turn : (j : ℕ) → p / 9 ≤ j → j < blocksFor left → curveCount (during j) ≡ length cs → closedBlock p left j (during j) ≡ during (j + 1)
-  unfolding closedBlock during
-  turn j from to e =
-      rw e
-      (trade-changed head cs (mixed j) t (whole j) rest
-      (λ (b : List ℕ). closedUp b (p - j * 9) (movedUp (during j) left j) (min 9 (left - j * 9))) (mixed (j + 1)) j (omega arith)
-      (rw (mixed-old j j (omega arith), mixed-new (j + 1) j (omega arith)) (closed (decLe (j * 9 + 9) left)))
-      (each-mixed (j + 1) j)
-      (λ i l n. others i n (decLt i j)))
+    -- bytes before and behind a block's records
+    between : (m : ℕ) → (m < 4) ⊎ (recordPlace (length (recordsOfBlock rs j)) ≤ m) → m < 512 → byteAt (blockAt moved k) m ≡ byteAt (blockAt s k) m
+    between m out b =
+        byte-part moved (k * 512) 512 m b ∙ moved-apart (k * 512 + m) (λ q h e. side q e (decLt (q / 9) j) (decLt j (q / 9)) out) ∙ sym (byte-part s (k * 512) 512 m b)
+      where
+        side : (q : ℕ) → q < left → Dec (q / 9 < j) → Dec (j < q / 9) → (m < 4) ⊎ (recordPlace (length (recordsOfBlock rs j)) ≤ m)
+            → (k * 512 + m < placeOf c q) ⊎ (placeOf c q + 56 ≤ k * 512 + m)
+        side q e (yes d) f g = inr (omega arith)
+        side q e (no d) (yes f) g = inl (omega arith)
+        side q e (no d) (no f) (inl g) = inl (omega arith)
+        side q e (no d) (no f) (inr g) =
+            let more : q % 9 + 1 ≤ length (recordsOfBlock rs j) = omega (arith, length-nine rs j, z .trade-count) in
+            inr (omega arith)
+
+    at-record : (i : ℕ) → i < length (recordsOfBlock rs j) → recordIn (blockAt moved k) i ≡ getD (recordsOfBlock (fewer ++ last ∷ []) j) i []
+    at-record i b =
+        let n = length-nine rs j in
+        let e : k * 512 + recordPlace i ≡ placeOf c (j * 9 + i) = omega arith in
+        part-part moved (k * 512) 512 (recordPlace i) 56 (rw length-moved (omega (arith, fits))) (omega arith)
+        ∙ ap (λ (x : ℕ). part moved x 56) e
+        ∙ record-moved (j * 9 + i) (omega (arith, z .trade-count))
+        ∙ sym (nine-at (fewer ++ last ∷ []) j i (omega arith))
+
+    moved-holds : Holds (blockAt moved k) k (recordsOfBlock (fewer ++ last ∷ []) j)
+    moved-holds =
+        let long : length (blockAt moved k) ≡ 512 = length-part moved (k * 512) 512 (rw length-moved (omega (arith, fits))) in
+        record {
+          long = long;
+          kind = between 0 (inl (omega arith)) (omega arith) ∙ old .kind;
+          count = between 1 (inl (omega arith)) (omega arith) ∙ old .count ∙ sym length-old;
+          numbered = part-kept (blockAt moved k) (blockAt s k) 2 2 (long ∙ sym (old .long)) (λ m b e. between m (inl (omega arith)) (omega arith)) ∙ old .numbered;
+          each = λ i b. at-record i (rw length-old at b);
+          behind =
+              rw length-old
+              (zeros-of (blockAt moved k) (recordPlace (length (recordsOfBlock rs j))) 508
+              (λ m b d. between m (inr b) (omega arith) ∙ zeros-at (blockAt s k) (recordPlace (length (recordsOfBlock rs j))) 508 (old .behind) m b d));
+        }
+
+  first-kept : blockAt moved 0 ≡ blockAt s 0
+  first-kept = part-kept moved s 0 512 length-moved (λ m b e. moved-apart m (λ q l h. inl (omega arith)))
+
+  pub curves-same : curveCount moved ≡ c
+  curves-same = sym (head-curves moved) ∙ ap curveCount first-kept ∙ head-curves s
+
+  -- ---- the last cut off
+
+  abbrev cut : List ℕ
+  cut = cutBack moved used left
+
+  length-cut : length cut ≡ length s
+  length-cut = length-cutBack moved used left ∙ length-moved
+
+  read : CutRead moved used left c
+  read = cut-read moved used left c curves-same last-block (rw length-moved (z .lent))
+
+  -- bytes that are in no block with a record moved
+  outside : (m : ℕ) → 512 ≤ m → (m < (1 + c + p / 9) * 512) ⊎ (used ≤ m) → byteAt cut m ≡ byteAt s m
+  outside m h (inl l) =
+      read .apart m h (inl (omega (arith, end-within c left .0))) (λ e. omega (arith, last-block)) ∙ moved-apart m (λ q b e. inl (omega arith))
+  outside m h (inr l) =
+      read .apart m h (inr l) (λ e. omega (arith, last-block)) ∙ moved-apart m (λ q b e. inr (omega (arith, last-block)))
+
+  -- a full block
+  full-holds : (j : ℕ) → j * 9 + 9 ≤ left → Holds (blockAt cut (1 + c + j)) (1 + c + j) (recordsOfBlock fewer j)
+  full-holds j h =
+      let k = 1 + c + j in
+      let same : blockAt cut k ≡ blockAt moved k =
+      part-kept cut moved (k * 512) 512 (length-cutBack moved used left)
+      (λ m b l. read .apart m (omega arith) (inl (omega (arith, end-within c left .0))) (λ e. omega (arith, last-block))) in
+      rw (same, ← nine-full fewer last j (rw length-fewer h)) (moved-holds j (omega arith))
+
+  -- the last, where others are left in it
+  module _ (some : left % 9 ≡ 0 → ⊥) where
+    end : endOf c left ≡ placeOf c left
+    end = rw (ne-eqb (left % 9) 0 some)
+
+    long : length (blockAt cut u) ≡ 512
+    long = length-part cut (u * 512) 512 (rw length-cut fits)
+
+    before-end : (m : ℕ) → m < recordPlace (left % 9) → (m ≡ 1 → ⊥) → byteAt (blockAt cut u) m ≡ byteAt (blockAt moved u) m
+    before-end m l e =
+        byte-part cut (u * 512) 512 m (omega arith)
+        ∙ read .apart (u * 512 + m) (omega arith) (inl (omega (arith, end))) (λ y. omega (arith, last-block))
+        ∙ sym (byte-part moved (u * 512) 512 m (omega arith))
+
+    last-holds : Holds (blockAt cut u) u (recordsOfBlock fewer (left / 9))
+    last-holds =
+        let n : length (recordsOfBlock fewer (left / 9)) ≡ left % 9 = omega (arith, length-nine fewer (left / 9), length-fewer) in
+        let h = rw (nine-last fewer last (left / 9) (rw length-fewer (omega arith)) (rw length-fewer (omega arith))) at (moved-holds (left / 9) (omega arith)) in
+        let at : u * 512 + 1 ≡ used - 511 = omega (arith, last-block) in
+        let before : (m w : ℕ) → 2 ≤ m → m + w ≤ recordPlace (left % 9) → part (blockAt cut u) m w ≡ part (blockAt moved u) m w =
+        λ m w b e. part-kept (blockAt cut u) (blockAt moved u) m w (long ∙ sym (h .long)) (λ i f g. before-end i (omega arith) (λ y. omega arith)) in
+        record {
+          long = long;
+          kind = before-end 0 (omega arith) (λ e. omega arith) ∙ h .kind;
+          count = byte-part cut (u * 512) 512 1 (omega arith) ∙ ap (byteAt cut) at ∙ read .count ∙ sym n;
+          numbered = before 2 2 (omega arith) (omega arith) ∙ h .numbered;
+          each = λ i b.
+              before (recordPlace i) 56 (omega arith) (omega arith)
+              ∙ h .each i (omega (arith, length-append (recordsOfBlock fewer (left / 9)) (last ∷ [])))
+              ∙ List·getD-append (recordsOfBlock fewer (left / 9)) (last ∷ []) [] i b;
+          behind =
+              zeros-of (blockAt cut u) (recordPlace (length (recordsOfBlock fewer (left / 9)))) 508
+              (λ m b d.
+              byte-part cut (u * 512) 512 m (omega arith)
+              ∙ read .blank (u * 512 + m) (omega (arith, end)) (omega (arith, last-block)) (λ e. omega (arith, last-block)));
+        }
+
+  cut-trades : (j : ℕ) → j < blocksFor left → Holds (blockAt cut (1 + c + j)) (1 + c + j) (recordsOfBlock fewer j)
+  cut-trades j l = go (decLt j (left / 9))
     where
-      closed : Dec (j * 9 + 9 ≤ left) → closedUp (tradesAt first rs j) (p - j * 9) (movedUp (during j) left j) (min 9 (left - j * 9)) ≡ tradesAt first fewer j
-      closed (yes h) = rw (moves j h e) (closed-within rs p in-list j (omega arith) (omega arith) (first + j) (fine .each-record) h)
-      closed (no h) = rw (moves-none j (omega arith)) (closed-at-end rs p in-list j (omega arith) (omega arith) (first + j) (fine .each-record) (omega arith))
+      go : Dec (j < left / 9) → Holds (blockAt cut (1 + c + j)) (1 + c + j) (recordsOfBlock fewer j)
+      go (yes h) = full-holds j (omega arith)
+      go (no h) = let e : j ≡ left / 9 = omega arith in rw e (last-holds (λ y. omega arith))
 
-      others : (i : ℕ) → (i ≡ j → ⊥) → Dec (i < j) → mixed j i ≡ mixed (j + 1) i
-      others i n (yes l) = mixed-new j i l ∙ sym (mixed-new (j + 1) i (omega arith))
-      others i n (no l) = mixed-old j i (omega arith) ∙ sym (mixed-old (j + 1) i (omega arith))
-
-  turns : (m j : ℕ) → p / 9 ≤ j → j + m ≤ blocksFor left → curveCount (during j) ≡ length cs → run (closedBlock p left) j m (during j) ≡ during (j + m)
-  unfolding run
-  turns zero j from to e = ap during (sym (add-zero j))
-  turns (suc m) j from to e =
-      let next = turn j from (omega arith) e in
-      let kept : curveCount (during (j + 1)) ≡ length cs = ap curveCount (sym next) ∙ curves-kept p left j (during j) ∙ e in
-      let k : suc j ≡ j + 1 = sym (add-one j) in
-      let q : j + 1 + m ≡ j + suc m = omega arith in
-      rw (next, k) (turns m (j + 1) (omega arith) (omega arith) kept ∙ ap during q)
-
-  -- as the book was
-  start : encode header cs rs ++ rest ≡ during (p / 9)
-  unfolding during
-  start =
-      rw (encode-laid header cs rs)
-      (ap (λ (l : List (List ℕ)). flatten l ++ rest) (laid-same head cs (tradesAt first rs) (mixed (p / 9)) t (λ i l. same i (decLt i (p / 9)))))
+  -- the bytes of the block that goes, where none is left in it
+  gone : (m : ℕ) → (1 + c + blocksFor left) * 512 ≤ m → m < used → byteAt cut m ≡ 0
+  gone m h l = go (ℕ-discrete m (used - 511))
     where
-      same : (i : ℕ) → Dec (i < p / 9) → tradesAt first rs i ≡ mixed (p / 9) i
-      same i (yes l) = sym (mixed-new (p / 9) i l ∙ ap (tradeBlock (first + i)) (nine-before rs p in-list i (omega arith)))
-      same i (no l) = sym (mixed-old (p / 9) i (omega arith))
+      none : left % 9 ≡ 0
+      none = omega (arith, last-block)
 
-  pub closed-gap : (s : List ℕ) → s ≡ encode header cs rs ++ rest → curveCount s ≡ length cs → closedGap s p left ≡ during (blocksFor left)
-  unfolding closedGap
-  closed-gap s is e =
-      let begun : s ≡ during (p / 9) = is ∙ start in
-      let q : p / 9 + (blocksFor left - p / 9) ≡ blocksFor left = omega arith in
-      rw begun (turns (blocksFor left - p / 9) (p / 9) (omega arith) (omega arith) (ap curveCount (sym begun) ∙ e) ∙ ap during q)
+      go : Dec (m ≡ used - 511) → byteAt cut m ≡ 0
+      go (yes e) = rw e (read .count ∙ none)
+      go (no e) = read .blank m (rw (eq-eqb (left % 9) 0 none) (omega (arith, last-block))) l e
 
-  -- no block is left empty
-  pub kept-blocks : (left % 9 ≡ 0 → ⊥) → during (blocksFor left) ≡ encode header cs fewer ++ rest
-  unfolding during
-  kept-blocks some =
-      let n : length fewer ≡ left = length-without rs p in-list in
-      let same : blocksFor left ≡ t = omega arith in
-      rw (encode-laid header cs fewer, n, same)
-      (ap (λ (l : List (List ℕ)). flatten l ++ rest) (laid-same head cs (mixed t) (tradesAt first fewer) t (λ i l. mixed-new t i l)))
+  -- ---- the blocks sealed
 
-  -- the last is
-  pub emptied : left % 9 ≡ 0
-      → onBlock (λ (b : List ℕ). withTradeBlocks b (t - 1)) (put (during (blocksFor left)) ((first + blocksFor left) * 512) (replicate 512 0)) 0
-      ≡ encode header cs fewer ++ replicate 512 0 ++ rest
-  unfolding during
-  emptied full =
-      let u = blocksFor left in
-      let n : length fewer ≡ left = length-without rs p in-list in
-      let one : t ≡ u + 1 = omega arith in
-      let less : t - 1 ≡ u = omega arith in
-      let written = trade-put head cs (mixed u) t (whole u) rest new u (omega arith) (ap length new-last ∙ length-replicate {A = ℕ} 512 0) (λ i l e. others i e (omega arith)) in
-      let headed : withTradeBlocks head u ≡ headerBlock header (length cs) u = recount header (length cs) t u in
-      rw less
-      (ap (λ (l : List ℕ). onBlock (λ (b : List ℕ). withTradeBlocks b u) l 0) (rw new-last at written)
-      ∙ header-changed head cs new t whole-new rest (λ (b : List ℕ). withTradeBlocks b u) (rw headed (length-header header (length cs) u))
-      ∙ rw (headed, one, encode-laid header cs fewer, n)
-      (ap (λ (l : List (List ℕ)). flatten l ++ rest) (sym (laid-more (headerBlock header (length cs) u) cs new u))
-      ∙ rw (flatten-append (laidOut (headerBlock header (length cs) u) cs new u) (new u ∷ []), flatten-cons (new u) [], flatten-none, append-nil, new-last, laid-same (headerBlock header (length cs) u) cs new (tradesAt first fewer) u (λ i l. new-before i l))))
+  abbrev from : ℕ
+  from = 1 + c + p / 9
+
+  abbrev to : ℕ
+  to = 1 + c + blocksFor left
+
+  abbrev done : List ℕ
+  done = run blockSealed from (to - from) cut
+
+  length-done : length done ≡ length s
+  length-done = length-seals from (to - from) cut ∙ length-cut
+
+  seal-apart : (m : ℕ) → (m < from * 512) ⊎ (to * 512 ≤ m) → byteAt done m ≡ byteAt cut m
+  seal-apart m h = let upto : from + (to - from) ≡ to = omega arith in seals-apart m from (to - from) cut (rw upto h)
+
+  block-before : (j : ℕ) → 1 ≤ j → j < from → blockAt done j ≡ blockAt s j
+  block-before j h l =
+      part-kept done s (j * 512) 512 length-done (λ m b e. seal-apart m (inl (omega arith)) ∙ outside m (omega arith) (inl (omega arith)))
+
+  trade-sealed : (j : ℕ) → j < blocksFor left → blockAt done (1 + c + j) ≡ tradeBlock (1 + c + j) (recordsOfBlock fewer j)
+  trade-sealed j l = go (decLt j (p / 9))
     where
-      new : ℕ → List ℕ
-      new i = cond (ltb i (blocksFor left)) (tradesAt first fewer i) (replicate 512 0)
+      go : Dec (j < p / 9) → blockAt done (1 + c + j) ≡ tradeBlock (1 + c + j) (recordsOfBlock fewer j)
+      go (yes h) =
+          block-before (1 + c + j) (omega arith) (omega arith)
+          ∙ sym (trade-block s used bytes (sound s used ok) j (omega (arith, z .trade-blocks)))
+          ∙ rw (nine-before rs p in-list j (omega arith))
+      go (no h) =
+          seals-sealed (1 + c + j) from (to - from) cut (rw length-cut (omega (arith, fits))) (omega arith) (omega arith)
+          ∙ sealed-trades (blockAt cut (1 + c + j)) (1 + c + j) (recordsOfBlock fewer j) (omega (arith, length-nine fewer j)) (cut-trades j l)
 
-      new-before : (i : ℕ) → i < blocksFor left → new i ≡ tradesAt first fewer i
-      new-before i l = rw (lt-ltb i (blocksFor left) l)
+  -- from the end of the book on
+  abbrev rest : List ℕ
+  rest = replicate (used - to * 512) 0 ++ drop used s
 
-      new-last : new (blocksFor left) ≡ replicate 512 0
-      new-last = rw (le-ltb (blocksFor left) (blocksFor left) (omega arith))
+  behind : drop (to * 512) done ≡ rest
+  behind =
+      let n = to * 512 in
+      let most : n + (used - n) ≡ used = omega (arith, last-block) in
+      let zero : part done n (used - n) ≡ replicate (used - n) 0 =
+      zeros-part done n (used - n) (rw (most, length-done) (z .lent)) (zeros-of done n (n + (used - n)) (λ m h l. seal-apart m (inr h) ∙ gone m h (omega arith))) in
+      sym (take-append-drop (used - n) (drop n done))
+      ∙ rw (zero, drop-drop (used - n) n done, most, drop-kept done s used length-done (λ m h. seal-apart m (inr (omega arith)) ∙ outside m (omega (arith, last-block)) (inr h)))
 
-      others : (i : ℕ) → (i ≡ blocksFor left → ⊥) → i ≤ blocksFor left → mixed (blocksFor left) i ≡ new i
-      others i e l = mixed-new (blocksFor left) i (omega arith) ∙ sym (new-before i (omega arith))
-
-      each-new : (i : ℕ) → Dec (i < blocksFor left) → length (new i) ≡ 512
-      each-new i (yes l) = rw (new-before i l) (length-tradesAt first fewer i (each-without rs p in-list (fine .each-record)))
-      each-new i (no l) = rw (le-ltb i (blocksFor left) (omega arith)) (length-replicate {A = ℕ} 512 0)
-
-      whole-new : Whole head cs new t
-      whole-new = record { head = length-header header (length cs) t; rates = fine .each-curve; each = λ i l. each-new i (decLt i (blocksFor left)) }
+  pub struck-lent : (to * 512 ≡ length (struckBook s p)) × (done ≡ struckBook s p ++ replicate (used - length (struckBook s p)) 0 ++ drop used s)
+  unfolding struckBook
+  struck-lent =
+      let head : blockAt done 0 ≡ headerBlock (headerOf s) c (blocksFor left) =
+      part-kept done cut 0 512 (length-seals from (to - from) cut) (λ m b l. seal-apart m (inl (omega arith)))
+      ∙ read .header
+      ∙ rw first-kept (header-counted s used bytes ok (blocksFor left) (omega (arith, z .limit, last-block))) in
+      let all : done ≡ bookOf s fewer ++ rest =
+      relaid s fewer done rest (rw length-fewer head) (λ k l. block-before (1 + k) (omega arith) (omega arith)) (rw length-fewer trade-sealed) (rw length-fewer behind) in
+      let size : to * 512 ≡ length (bookOf s fewer) =
+      omega (arith, ap length all, length-done, last-block, z .lent, length-append (bookOf s fewer) rest, length-append (replicate (used - to * 512) 0) (drop used s), length-replicate {A = ℕ} (used - to * 512) 0, length-drop used s) in
+      (size, all ∙ rw size (sym (append-assoc (bookOf s fewer) (replicate (used - length (bookOf s fewer)) 0) (drop used s))))

@@ -3,14 +3,13 @@
 pub mod refusals;
 
 use acceptance::Today;
+use book::parts::curve_count;
 use book::parts::record_at;
 use book::parts::trade_count;
 use ground::Ground;
 use ground::Verdict;
-use trade_edit::blocks::put_record;
-use trade_edit::steps::close_gap;
-use trade_edit::steps::grow;
-use trade_edit::steps::shrink;
+use trade_edit::blocks;
+use trade_edit::steps;
 ghost use mathlib.Core.Path.{_≡_};
 ghost use mathlib.Core.List.{_++_};
 ghost use Prim.Native.Nat.{_-_, _<_};
@@ -61,10 +60,10 @@ pub fn add(book: &mut [u8], used: usize, r: [u8; 56]) -> usize
 {
     let place = trade_count(&book[..]) % 9;
     if place == 0 {
-        grow(book, used, r);
+        steps::grow(book, used, r);
         return used + 512;
     }
-    put_record(&mut book[used - 512..used], place, r);
+    blocks::put_record(&mut book[used - 512..used], place, r);
     used
 }
 
@@ -87,12 +86,12 @@ fn remove(book: &mut [u8], used: usize, position: usize) -> usize
     ensures { λ _. ⌜ now (book .exit) ≡ struckBook (now (book .entry)) position ++ replicate (used - length (struckBook (now (book .entry)) position)) 0 ++ drop used (now (book .entry)) ⌝ }
 {
     let left = trade_count(&book[..]) - 1;
-    close_gap(book, position, left);
-    if left % 9 == 0 {
-        shrink(book, used);
-        return used - 512;
-    }
-    used
+    let first = 1 + curve_count(&book[..]);
+    let end = first + (left + 8) / 9;
+    steps::move_up(book, position, left);
+    steps::cut_back(book, used, left);
+    steps::seal_blocks(book, first + position / 9, end);
+    end * 512
 }
 
 // Strikes the record at a position from the book of a used length, given the current day.

@@ -3,6 +3,7 @@ use mathlib.Core.Path.{_≡_, refl, ap, _∙_}
 use Prim.Native.Nat.{ℕ, zero, suc, _+_, _-_, _≤_, _<_}
 use native.Mathlib.Nat.{add-zero}
 use native.Mathlib.Numerals.{add-one}
+use native.Mathlib.Decide.{ℕ-discrete}
 use native.Mathlib.Omega.{arith}
 use lib.ListN.{length, getD}
 use Rattle.laws.specs.Walk.{over, run, table}
@@ -38,6 +39,28 @@ module _ {A : Type 0} (turn : ℕ → A → A) (i n : ℕ) (x : A) where
   run-end h =
       let e : n - i ≡ 0 = omega arith in
       rw e
+
+-- ---- what such a loop leaves
+
+module _ {A B : Type 0} (turn : ℕ → A → A) where
+  -- what no turn changes is as it was
+  pub run-kept : (f : A → B) (i n : ℕ) (x : A) → ((k : ℕ) (y : A) → i ≤ k → k < i + n → f (turn k y) ≡ f y) → f (run turn i n x) ≡ f x
+  unfolding run
+  run-kept f i zero x same = refl
+  run-kept f i (suc n) x same =
+      run-kept f (suc i) n (turn i x) (λ k y l h. same k y (omega arith) (omega arith)) ∙ same i x (omega arith) (omega arith)
+
+  -- what turn k makes of g, where no turn before it changes g and none behind it changes f; P holds throughout
+  pub run-made : (P : A → Type 0) → ((k : ℕ) (y : A) → P y → P (turn k y)) → (f g : A → B) (k i n : ℕ) (x : A) → P x → i ≤ k → k < i + n
+      → ((y : A) → P y → f (turn k y) ≡ g y) → ((q : ℕ) (y : A) → q < k → g (turn q y) ≡ g y) → ((q : ℕ) (y : A) → k < q → f (turn q y) ≡ f y) → f (run turn i n x) ≡ g x
+  unfolding run
+  run-made P keeps f g k i zero x p l h made before behind = absurd (omega arith)
+  run-made P keeps f g k i (suc n) x p l h made before behind =
+      go (ℕ-discrete k i) (λ z. run-made P keeps f g k (suc i) n (turn i x) (keeps i x p) (omega arith) (omega arith) made before behind)
+    where
+      go : Dec (k ≡ i) → ((k ≡ i → ⊥) → f (run turn (suc i) n (turn i x)) ≡ g (turn i x)) → f (run turn (suc i) n (turn i x)) ≡ g x
+      go (yes z) later = run-kept f (suc i) n (turn i x) (λ q y b e. behind q y (omega arith)) ∙ (rw z at (made x p))
+      go (no z) later = later z ∙ before i x (omega arith)
 
 -- ---- a list by index
 

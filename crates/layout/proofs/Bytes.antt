@@ -119,6 +119,17 @@ part-same s at t place n h l same =
     ext-getD 0 (part s at n) (part t place n) (m ∙ sym (length-part t place n l))
     (λ k b. let c : k < n = omega arith in byte-part s at n k c ∙ same k c ∙ sym (byte-part t place n k c))
 
+-- and those of two lists of one length, from a place on
+pub part-kept : (s t : List ℕ) (at n : ℕ) → length s ≡ length t → ((k : ℕ) → at ≤ k → k < at + n → byteAt s k ≡ byteAt t k) → part s at n ≡ part t at n
+part-kept s t at n long same =
+    let m = length-take n (drop at s) in
+    ext-getD 0 (part s at n) (part t at n) (simp (length-take, length-drop) (rw long))
+    (λ k l. byte-part s at n k (omega arith) ∙ same (at + k) (omega arith) (omega arith) ∙ sym (byte-part t at n k (omega arith)))
+
+pub drop-kept : (s t : List ℕ) (n : ℕ) → length s ≡ length t → ((k : ℕ) → n ≤ k → byteAt s k ≡ byteAt t k) → drop n s ≡ drop n t
+drop-kept s t n long same =
+    ext-getD 0 (drop n s) (drop n t) (simp length-drop (rw long)) (λ k l. getD-drop n s k 0 ∙ same (n + k) (omega arith) ∙ sym (getD-drop n t k 0))
+
 pub part-all : (s : List ℕ) → part s 0 (length s) ≡ s
 part-all s = take-length s
 

@@ -1,4 +1,2 @@
-pub mod Joined
-pub mod Resealed
 pub mod BlockLaws
 pub mod StepLaws

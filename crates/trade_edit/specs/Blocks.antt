@@ -1,14 +1,13 @@
 -- The bytes of one block changed, and the steps of an edit on the lent bytes: what the code does, as the way to what `edit` promises.
-use Prim.Native.Nat.{ℕ, _+_, _-_, _*_, _/_, min}
+use Prim.Native.Nat.{ℕ, _+_, _-_, _*_, _/_, _%_}
 use mathlib.Core.Bool.{cond}
 use mathlib.Core.List.{List}
-use lib.Dec.{leb}
+use lib.Dec.{eqb}
 use lib.ListN.{set, replicate}
-use Rattle.laws.specs.Walk.{run}
 use Rattle.layout.specs.Bytes.{part, put, onBlock}
 use Rattle.layout.specs.Field.{bytesOf}
 use Rattle.layout.specs.Check.{sealed}
-use Rattle.book.specs.Parts.{curveCount, tradeBlocks, recordPlace, recordAt}
+use Rattle.book.specs.Parts.{curveCount, tradeBlocks, recordPlace}
 use Rattle.book.specs.Encode.{blocksFor}
 
 -- a block of trades with a record in place n, behind its others
@@ -23,11 +22,6 @@ bareBlock number = put (set (replicate 512 0) 0 3) 2 (bytesOf 2 number)
 unfoldable pub withTradeBlocks : List ℕ → ℕ → List ℕ
 withTradeBlocks b n = sealed (put b 10 (bytesOf 2 n))
 
--- a block of trades with the gap at a place closed: the records behind it move up, `next` comes ninth, and so many records are left
-unfoldable pub closedUp : List ℕ → ℕ → List ℕ → ℕ → List ℕ
-closedUp b place next count =
-    sealed (set (put (put b (recordPlace place) (part b (recordPlace place + 56) (508 - (recordPlace place + 56)))) (recordPlace 8) next) 1 count)
-
 -- ---- steps
 
 -- a new block behind the book, with the record, and the header's count
@@ -35,19 +29,24 @@ unfoldable pub lengthened : List ℕ → ℕ → List ℕ → List ℕ
 lengthened s used r =
     onBlock (λ (b : List ℕ). withTradeBlocks b (tradeBlocks s + 1)) (put s used (withRecord (bareBlock (used / 512)) 0 r)) 0
 
--- the last block made zeros, and the header's count
-unfoldable pub shrunk : List ℕ → ℕ → List ℕ
-shrunk s used = onBlock (λ (b : List ℕ). withTradeBlocks b (tradeBlocks s - 1)) (put s (used - 512) (replicate 512 0)) 0
+-- where the record at a position stands, behind so many curves
+abbrev pub placeOf : ℕ → ℕ → ℕ
+placeOf curves i = (1 + curves + i / 9) * 512 + recordPlace (i % 9)
 
--- the record that moves up into trade block j, where so many are left: the first of the next block, or zeros
-unfoldable pub movedUp : List ℕ → ℕ → ℕ → List ℕ
-movedUp s left j = cond (leb (j * 9 + 9) left) (recordAt s (j * 9 + 9)) (replicate 56 0)
+-- the record behind a position moved up to it
+unfoldable pub recordMoved : ℕ → ℕ → List ℕ → List ℕ
+recordMoved curves i s = put s (placeOf curves i) (part s (placeOf curves (i + 1)) 56)
 
--- trade block j with the gap closed that a strike at a position leaves in it: its own record's, or the one that moved up
-unfoldable pub closedBlock : ℕ → ℕ → ℕ → List ℕ → List ℕ
-closedBlock position left j s =
-    onBlock (λ (b : List ℕ). closedUp b (position - j * 9) (movedUp s left j) (min 9 (left - j * 9))) s ((1 + curveCount s + j) * 512)
+-- where so many records end: with their last block, if they fill it
+abbrev pub endOf : ℕ → ℕ → ℕ
+endOf curves n = cond (eqb (n % 9) 0) ((1 + curves + n / 9) * 512) (placeOf curves n)
 
--- the blocks of the records left, from the position's on
-unfoldable pub closedGap : List ℕ → ℕ → ℕ → List ℕ
-closedGap s position left = run (closedBlock position left) (position / 9) (blocksFor left - position / 9) s
+-- n records left: zeros behind them, and the counts: byte 1 of the last block, and the header's
+unfoldable pub cutBack : List ℕ → ℕ → ℕ → List ℕ
+cutBack s used n =
+    onBlock (λ (b : List ℕ). withTradeBlocks b (blocksFor n))
+    (set (put s (endOf (curveCount s) n) (replicate (used - endOf (curveCount s) n) 0)) (used - 511) (n % 9)) 0
+
+-- block k sealed
+abbrev pub blockSealed : ℕ → List ℕ → List ℕ
+blockSealed k s = onBlock sealed s (k * 512)

@@ -3,9 +3,10 @@ use layout::check::seal;
 use layout::copy_in;
 use layout::put_le;
 ghost use mathlib.Core.Path.{_≡_};
-ghost use Prim.Native.Nat.{_≤_, _<_};
-ghost use lib.ListN.{length};
-ghost use Rattle.trade_edit.specs.Blocks.{withRecord, bareBlock, withTradeBlocks, closedUp};
+ghost use Prim.Native.Nat.{_+_, _≤_, _<_};
+ghost use lib.ListN.{length, replicate};
+ghost use Rattle.layout.specs.Bytes.{put};
+ghost use Rattle.trade_edit.specs.Blocks.{withRecord, bareBlock, withTradeBlocks};
 
 // Puts a record into place n of a block of trades, behind its others.
 pub fn put_record(b: &mut [u8], n: usize, r: [u8; 56])
@@ -36,17 +37,10 @@ pub fn put_trade_blocks(b: &mut [u8], n: usize)
     seal(b);
 }
 
-// Closes the gap at a place of a block of trades, by way of a spare block. The ninth place is at 452.
-pub fn close_up(b: &mut [u8], place: usize, next: [u8; 56], count: usize)
-    requires { ⌜ (length (now b) ≡ 512) × ((place < 9) × (count ≤ 9)) ⌝ }
-    ensures { λ _. ⌜ now (b .exit) ≡ closedUp (now (b .entry)) place next count ⌝ }
+// Writes n zeros.
+pub fn clear(s: &mut [u8], at: usize, n: usize)
+    requires { ⌜ at + n ≤ length (now s) ⌝ }
+    ensures { λ _. ⌜ now (s .exit) ≡ put (now (s .entry)) at (replicate n 0) ⌝ }
 {
-    let gap = 4 + place * 56;
-    let mut spare = [0u8; 512];
-    copy_in(&mut spare, 0, &b[..]);
-    copy_in(&mut spare, gap, &b[gap + 56..508]);
-    copy_in(&mut spare, 452, &next);
-    spare[1] = count as u8;
-    seal(&mut spare);
-    copy_in(b, 0, &spare);
+    put_le(s, at, n, 0);
 }

@@ -1,17 +1,19 @@
 // The steps of an edit, on the lent bytes of a book that no ground refuses.
 use crate::blocks::bare_block;
-use crate::blocks::close_up;
+use crate::blocks::clear;
 use crate::blocks::put_record;
 use crate::blocks::put_trade_blocks;
 use book::parts::curve_count;
-use book::parts::record_at;
 use book::parts::trade_blocks;
+use layout::check::seal;
 use layout::copy_in;
 ghost use mathlib.Core.Path.{_≡_};
-ghost use Prim.Native.Nat.{_+_, _-_, _*_, _/_, _≤_, _<_, min};
+ghost use Prim.Native.Nat.{_+_, _-_, _*_, _/_, _≤_};
 ghost use lib.ListN.{length};
-ghost use Rattle.book.specs.Parts.{curveCount, tradeBlocks};
-ghost use Rattle.trade_edit.specs.Blocks.{lengthened, shrunk, movedUp, closedBlock, closedGap};
+ghost use Rattle.laws.specs.Walk.{run};
+ghost use Rattle.layout.specs.Bytes.{part, put};
+ghost use Rattle.book.specs.Parts.{curveCount};
+ghost use Rattle.trade_edit.specs.Blocks.{lengthened, placeOf, recordMoved, endOf, cutBack, blockSealed};
 
 // A new block behind the book, with the record, and the header's count.
 pub fn grow(book: &mut [u8], used: usize, r: [u8; 56])
@@ -25,71 +27,70 @@ pub fn grow(book: &mut [u8], used: usize, r: [u8; 56])
     put_trade_blocks(&mut book[0..512], blocks + 1);
 }
 
-// The last block made zeros, and the header's count.
-pub fn shrink(book: &mut [u8], used: usize)
-    requires { ⌜ (512 ≤ used) × ((used ≤ length (now book)) × (1 ≤ tradeBlocks (now book))) ⌝ }
-    ensures { λ _. ⌜ now (book .exit) ≡ shrunk (now (book .entry)) used ⌝ }
+// Where the record at a position stands.
+fn place_of(curves: usize, i: usize) -> usize
+    requires { ⌜ (curves ≤ 65536) × (i ≤ 1152) ⌝ }
+    ensures { λ r. ⌜ r ≡ placeOf curves i ⌝ }
 {
-    let blocks = trade_blocks(&book[..]);
-    let b = [0u8; 512];
-    copy_in(book, used - 512, &b);
-    put_trade_blocks(&mut book[0..512], blocks - 1);
+    (1 + curves + i / 9) * 512 + 4 + i % 9 * 56
 }
 
-// The record that moves up into trade block j, or zeros.
-fn moved_up(book: &[u8], left: usize, j: usize) -> [u8; 56]
-    requires { ⌜ (j ≤ 128) × ((1 + curveCount (now book) + left / 9) * 512 + 512 ≤ length (now book)) ⌝ }
-    ensures { λ r. ⌜ r ≡ movedUp (now (book .entry)) left j ⌝ }
+// Writes the record at one place over another's.
+fn move_record(book: &mut [u8], from: usize, to: usize)
+    requires { ⌜ (to + 56 ≤ from) × (from + 56 ≤ length (now book)) ⌝ }
+    ensures { λ _. ⌜ now (book .exit) ≡ put (now (book .entry)) to (part (now (book .entry)) from 56) ⌝ }
 {
-    if j * 9 + 9 <= left {
-        return record_at(book, j * 9 + 9);
+    let mut k: usize = 0;
+    while k < 56 {
+        book[to + k] = book[from + k];
+        k += 1;
     }
-    [0u8; 56]
 }
 
-// The place of the gap in trade block j: the position's, or the first.
-fn gap_in(position: usize, j: usize) -> usize
-    requires { ⌜ j ≤ 128 ⌝ }
-    ensures { λ r. ⌜ r ≡ position - j * 9 ⌝ }
-{
-    if j * 9 <= position {
-        return position - j * 9;
-    }
-    0
-}
-
-fn at_most_nine(n: usize) -> usize
-    ensures { λ r. ⌜ r ≡ min 9 n ⌝ }
-{
-    if 9 <= n {
-        return 9;
-    }
-    n
-}
-
-// Closes the gap in trade block j.
-fn close_block(book: &mut [u8], position: usize, left: usize, j: usize)
-    requires { ⌜ (position < j * 9 + 9) × ((j * 9 < left) × (left ≤ 1152)) ⌝ }
-    requires { ⌜ (1 + curveCount (now book) + left / 9) * 512 + 512 ≤ length (now book) ⌝ }
-    ensures { λ _. ⌜ now (book .exit) ≡ closedBlock position left j (now (book .entry)) ⌝ }
-{
-    let at = (1 + curve_count(&book[..]) + j) * 512;
-    let next = moved_up(&book[..], left, j);
-    let place = gap_in(position, j);
-    let count = at_most_nine(left - j * 9);
-    close_up(&mut book[at..at + 512], place, next, count);
-}
-
-// Closes the gap in each block of the records left, from the position's on.
-pub fn close_gap(book: &mut [u8], position: usize, left: usize)
+// Moves every record behind a position up by one, from block to block too.
+pub fn move_up(book: &mut [u8], position: usize, left: usize)
     requires { ⌜ (position ≤ left) × (left ≤ 1152) ⌝ }
     requires { ⌜ (1 + curveCount (now book) + left / 9) * 512 + 512 ≤ length (now book) ⌝ }
-    ensures { λ _. ⌜ now (book .exit) ≡ closedGap (now (book .entry)) position left ⌝ }
+    ensures { λ _. ⌜ now (book .exit) ≡ run (recordMoved (curveCount (now (book .entry)))) position (left - position) (now (book .entry)) ⌝ }
 {
-    let to = (left + 8) / 9;
-    let mut j: usize = position / 9;
-    while j < to {
-        close_block(book, position, left, j);
-        j += 1;
+    let curves = curve_count(&book[..]);
+    let mut i: usize = position;
+    while i < left {
+        move_record(book, place_of(curves, i + 1), place_of(curves, i));
+        i += 1;
+    }
+}
+
+// Where n records end.
+fn end_of(curves: usize, n: usize) -> usize
+    requires { ⌜ (curves ≤ 65536) × (n ≤ 1152) ⌝ }
+    ensures { λ r. ⌜ r ≡ endOf curves n ⌝ }
+{
+    if n % 9 == 0 {
+        return (1 + curves + n / 9) * 512;
+    }
+    place_of(curves, n)
+}
+
+// Leaves n records: zeros behind them, then the count of the last block, its byte 1, and the header's.
+pub fn cut_back(book: &mut [u8], used: usize, n: usize)
+    requires { ⌜ (n ≤ 1152) × ((used ≡ (1 + curveCount (now book) + n / 9) * 512 + 512) × (used ≤ length (now book))) ⌝ }
+    ensures { λ _. ⌜ now (book .exit) ≡ cutBack (now (book .entry)) used n ⌝ }
+{
+    let end = end_of(curve_count(&book[..]), n);
+    clear(book, end, used - end);
+    book[used - 511] = (n % 9) as u8;
+    put_trade_blocks(&mut book[0..512], (n + 8) / 9);
+}
+
+// Seals the blocks from one up to, not including, another.
+pub fn seal_blocks(book: &mut [u8], from: usize, to: usize)
+    requires { ⌜ (to ≤ 128) × (to * 512 ≤ length (now book)) ⌝ }
+    ensures { λ _. ⌜ now (book .exit) ≡ run blockSealed from (to - from) (now (book .entry)) ⌝ }
+{
+    let mut k: usize = from;
+    while k < to {
+        seal(&mut book[k * 512..k * 512 + 512]);
+        k += 1;
     }
 }

@@ -1,16 +1,16 @@
 -- `edit::add` meets its contract.
 use mathlib.Core.Path.{_≡_, sym, _∙_, ap}
-use mathlib.Core.List.{_++_}
+use mathlib.Core.List.{List}
 use Prim.Native.Nat.{ℕ, _-_, _%_}
 use native.Mathlib.Omega.{arith}
-use lib.ListN.{length, drop}
+use lib.ListN.{length}
 use Rattle.layout.specs.Bytes.{AreBytes}
 use Rattle.book.specs.Parts.{tradeCount}
 use Rattle.book.proofs.Accepted.{sound}
-use Rattle.trade_edit.proofs.StepLaws.{fill-left}
-use Rattle.edit.specs.Edits.{appendedBook}
+use Rattle.trade_edit.specs.Blocks.{withRecord}
+use Rattle.trade_edit.proofs.StepLaws.{length-withRecord, block-left}
+use Rattle.edit.proofs.Added.{filled-lent, lengthened-lent}
 use Rattle.edit.proofs.Given.{record-admitted, room}
-use Rattle.edit.proofs.Lent.{length-filled, filled-lent, length-lengthened, lengthened-lent}
 use borrow.Author.Needs.{needs}
 use Rattle.edit.proofs.add.Statement.{statement}
 use Rattle.edit.proofs.add.Tie as tie
@@ -48,8 +48,8 @@ returns c =
     let bytes : AreBytes s = λ k. omega (arith, counted .before .before .slice-known .given k) in
     let full = ap (λ (n : ℕ). n % 9) (sym (counted .trade-count .ensures)) ∙ tested .if1 .taken in
     let space = room (tradeCount s) used (length s) (w .roomy) full in
-    let n = length-lengthened s used bytes (w .accepted) r long full space in
-    (sym n, c .before .before .grow .ensures ∙ lengthened-lent s used bytes (w .accepted) r long full space ∙ ap (λ (k : ℕ). appendedBook s r ++ drop k s) (sym n))
+    let a = lengthened-lent s used bytes (w .accepted) r long full (space .within) in
+    (a .0, c .before .before .grow .ensures ∙ a .1)
 
 sub-put-record : tie.Need-sub-put-record
 sub-put-record c =
@@ -84,10 +84,11 @@ returns-2 c =
     let bytes : AreBytes s = λ k. omega (arith, counted .before .before .slice-known .given k) in
     let count = counted .trade-count .ensures in
     let some : tradeCount s % 9 ≡ 0 → ⊥ = rw count at (tested .if1 .left) in
-    let n = length-filled s used bytes (w .accepted) r long some in
+    let a = filled-lent s used bytes (w .accepted) r long some in
     let span : used - (used - 512) ≡ 512 = omega arith in
     let put = rw (span, count) at (c .before .before .put-record .ensures) in
-    (sym n, rw span (fill-left s used (tradeCount s % 9) r (omega arith) (b .lent) put) ∙ filled-lent s used bytes (w .accepted) r long some ∙ ap (λ (k : ℕ). appendedBook s r ++ drop k s) (sym n))
+    let left = block-left (λ (d : List ℕ). withRecord d (tradeCount s % 9) r) (length-withRecord (tradeCount s % 9) r) s (used - 512) (omega (arith, b .lent)) put in
+    (a .0, rw span left ∙ a .1)
 
 pub add-spec : {M : Type 1} → statement M
 add-spec =
