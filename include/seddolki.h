@@ -41,14 +41,14 @@ extern "C" {
  * has. The next version may change the parameters of a function, or leave them
  * and change which books are accepted and what they mean. A program that says
  *
- *     #if SEDDOLKI_VERSION != 4
- *     #error "this program is written for version 4 of seddolki.h"
+ *     #if SEDDOLKI_VERSION != 5
+ *     #error "this program is written for version 5 of seddolki.h"
  *     #endif
  *
  * does not compile with another. The archive has no number: it is to be the
  * one that was made with the header.
  */
-#define SEDDOLKI_VERSION 4
+#define SEDDOLKI_VERSION 5
 
 /* Bytes of a block, and of a report. */
 #define SEDDOLKI_BLOCK 512

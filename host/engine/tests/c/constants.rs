@@ -73,7 +73,7 @@ pub fn add_sizes(all: &mut Constants) {
         ("BOND", BOND),
         ("LARGEST_BOOK", largest),
         ("COMPONENTS", components),
-        ("VERSION", 4),
+        ("VERSION", 5),
     ];
     for (name, size) in sizes {
         all.add_number(name, size as i128);
