@@ -3,18 +3,13 @@ use acceptance::Today;
 use book::parts;
 use ground::Ground;
 use ground::Verdict;
+use ground::Written;
 use layout::copy_in;
 ghost use mathlib.Core.Path.{_≡_};
 ghost use mathlib.Core.List.{_++_};
 ghost use Prim.Native.Nat.{_≤_};
 ghost use lib.ListN.{length, drop};
-ghost use Rattle.account_list.specs.Text.{listText, listedOf, listedIn};
-
-// The length of the text that was written, or the ground by which none was.
-pub enum Listed {
-    Length(usize),
-    Refused(Ground, u64),
-}
+ghost use Rattle.account_list.specs.Text.{listText, listAnswer, listBytes};
 
 // Writes the text into the first bytes of a space that suffices for any, and answers its length. Given its own day, a book is judged as
 // without one.
@@ -35,16 +30,16 @@ fn put_listing(book: &[u8], used: usize, out: &mut [u8]) -> usize
 }
 
 // Writes the text into the first bytes lent; the bytes past it are kept. Where it does not fit, nothing is written. Takes every input.
-pub fn list_text(book: &[u8], used: usize, out: &mut [u8]) -> Listed
-    ensures { λ r. ⌜ r ≡ listedOf (listText (now (book .entry)) used) (length (now (out .entry))) ⌝ }
-    ensures { λ _. ⌜ now (out .exit) ≡ listedIn (listText (now (book .entry)) used) (now (out .entry)) ⌝ }
+pub fn list_text(book: &[u8], used: usize, out: &mut [u8]) -> Written
+    ensures { λ r. ⌜ r ≡ listAnswer (now (book .entry)) used (length (now (out .entry))) ⌝ }
+    ensures { λ _. ⌜ now (out .exit) ≡ listBytes (now (book .entry)) used (now (out .entry)) ⌝ }
     ensures { λ _. ⌜ length (listText (now (book .entry)) used) ≤ 1481 ⌝ }
 {
     let mut text = [0u8; 1481];
     let n = put_listing(book, used, &mut text);
-    if out.len() < n {
-        return Listed::Refused(Ground::ReportSpace, 0);
+    if ground::breaks_space(n, out.len()) {
+        return Written::Refused(Ground::ReportSpace, 0);
     }
     copy_in(out, 0, &text[..n]);
-    Listed::Length(n)
+    Written::Length(n)
 }

@@ -1,5 +1,5 @@
 -- What a bond is worth on a curve with one node more, and the rate of that node (document 02, wish 1).
-use Prim.Native.Nat.{ℕ, _+_, _-_, _*_}
+use Prim.Native.Nat.{ℕ}
 use mathlib.Core.Bool.{Bool, _||_}
 use mathlib.Core.List.{List, [], _∷_, _++_}
 use lib.Dec.{leb, ltb}
@@ -10,11 +10,12 @@ use Rattle.curve.specs.declared.Node.{Node}
 use Rattle.curve.specs.Limits.{highestRate}
 use Rattle.curve.specs.Lengthen.{atRate}
 use Rattle.curve.specs.Rates.{rateAt}
+use Rattle.record.specs.Uses.{lastPaymentDay}
 use Rattle.legs.specs.declared.Leg.{Leg}
 
 -- the day of a leg's last payment
 abbrev pub lastPayment : Leg → ℕ
-lastPayment l = l .first + (l .count - 1) * l .period
+lastPayment l = lastPaymentDay (l .first) (l .period) (l .count)
 
 -- "the bond's summed present value": of its payments, at the rates of a curve
 unfoldable pub bondValue : List Node → List Flow → ℕ

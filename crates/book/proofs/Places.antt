@@ -10,7 +10,7 @@ use borrow.Author.Tests.{eq-eqb, ne-eqb}
 use lib.ListN.{length, getD, List·getD-eq-default}
 use Rattle.laws.proofs.Walk.{length-table, getD-table}
 use Rattle.layout.specs.Bytes.{put}
-use Rattle.layout.proofs.Bytes.{part-put, part-apart}
+use Rattle.layout.proofs.Bytes.{length-put, byte-apart, part-put, part-kept}
 use Rattle.layout.proofs.Field.{field-part}
 use Rattle.book.specs.Parts.{blockAt, headerOf, curveCount, tradeBlocks, curveBlocks, curvesIn, curvesOf, recordCount, tradeCount, recordAt, records}
 
@@ -67,13 +67,14 @@ record-of s i l = getD-table (recordAt s) 0 (tradeCount s) i [] l ∙ ap (record
 
 -- ---- a block written over
 
-module _ (s : List ℕ) (k : ℕ) (b : List ℕ) (long : length b ≡ 512) where
-  pub block-put : k * 512 + 512 ≤ length s → blockAt (put s (k * 512) b) k ≡ b
-  block-put h = rw long at (part-put s (k * 512) b (rw long h))
+module _ (s : List ℕ) (k : ℕ) (b : List ℕ) where
+  pub block-put : length b ≡ 512 → k * 512 + 512 ≤ length s → blockAt (put s (k * 512) b) k ≡ b
+  block-put long h = rw long at (part-put s (k * 512) b (rw long h))
 
-  pub block-apart : (j : ℕ) → j * 512 + 512 ≤ length s → (j ≡ k → ⊥) → blockAt (put s (k * 512) b) j ≡ blockAt s j
-  block-apart j h other = part-apart s (k * 512) b (j * 512) 512 h (rw long (side (decLt j k)))
+  pub block-apart : length b ≤ 512 → (j : ℕ) → (j ≡ k → ⊥) → blockAt (put s (k * 512) b) j ≡ blockAt s j
+  block-apart short j other =
+      part-kept (put s (k * 512) b) s (j * 512) 512 (length-put s (k * 512) b) (λ m l h. byte-apart s (k * 512) b m (side m l h (decLt j k)))
     where
-      side : Dec (j < k) → (j * 512 + 512 ≤ k * 512) ⊎ (k * 512 + 512 ≤ j * 512)
-      side (yes l) = inl (omega arith)
-      side (no l) = inr (omega arith)
+      side : (m : ℕ) → j * 512 ≤ m → m < j * 512 + 512 → Dec (j < k) → (m < k * 512) ⊎ (k * 512 + length b ≤ m)
+      side m l h (yes d) = inl (omega arith)
+      side m l h (no d) = inr (omega arith)

@@ -56,7 +56,7 @@ module _ (s : List ℕ) (used k : ℕ) (b : List ℕ) (fine : Replaceable s used
   at-curve = block-put s k b (fine .long) (within k (omega (arith, fine .last)))
 
   elsewhere : (j : ℕ) → j < 1 + curveCount s + tradeBlocks s → (j ≡ k → ⊥) → blockAt t j ≡ blockAt s j
-  elsewhere j l other = block-apart s k b (fine .long) j (within j l) other
+  elsewhere j l other = block-apart s k b (omega (arith, fine .long)) j other
 
   -- ---- the header
 

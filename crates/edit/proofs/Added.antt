@@ -76,7 +76,7 @@ module _ (s : List ℕ) (used : ℕ) (bytes : AreBytes s) (ok : verdict s used �
   z : Sized s used
   z = sized s used bytes ok
 
-  -- with it, and its place in it
+  -- the last block, with the record behind its others
   new-block : (b : List ℕ) → Holds b k (recordsOfBlock rs u) → withRecord b (tradeCount s % 9) r ≡ tradeBlock k (recordsOfBlock (rs ++ r ∷ []) u)
   new-block b h =
       let n : tradeCount s % 9 ≡ length (recordsOfBlock rs u) = omega (arith, length-nine rs u, z .trade-count) in
@@ -141,7 +141,7 @@ module _ (s : List ℕ) (used : ℕ) (bytes : AreBytes s) (ok : verdict s used �
       rw (number, count, at)
       (appended-by (onBlock counted longer 0) (length-onBlock counted longer 0 ∙ length-put s (k * 512) new) (omega arith)
       (block-changed counted same longer 0 (rw length-put (omega arith))
-      ∙ rw (block-apart s k new size 0 (omega arith) (λ e. omega arith)) (header-counted s used bytes ok (u + 1) (omega (arith, z .size, z .limit))))
-      (λ j l h. block-kept counted same longer 0 j (λ e. omega arith) ∙ block-apart s k new size j (omega arith) (λ e. omega arith))
+      ∙ rw (block-apart s k new (omega (arith, size)) 0 (λ e. omega arith)) (header-counted s used bytes ok (u + 1) (omega (arith, z .size, z .limit))))
+      (λ j l h. block-kept counted same longer 0 j (λ e. omega arith) ∙ block-apart s k new (omega (arith, size)) j (λ e. omega arith))
       (block-kept counted same longer 0 k (λ e. omega arith) ∙ block-put s k new size (omega arith) ∙ (rw full at (new-block (bareBlock k) (rw none (bare-holds k)))))
       (λ m h. byte-kept counted same longer 0 m (inr (omega arith)) ∙ byte-apart s (k * 512) new m (inr (rw size h))))

@@ -101,8 +101,8 @@ module _ (s : List ℕ) (used : ℕ) (bytes : AreBytes s) (ok : verdict s used �
   abbrev moved : List ℕ
   moved = run (recordMoved c) p (left - p) s
 
-  length-moved : length moved ≡ length s
-  length-moved = length-moves c p (left - p) s
+  as-long : length moved ≡ length s
+  as-long = length-moves c p (left - p) s
 
   moved-apart : (m : ℕ) → ((q : ℕ) → p ≤ q → q < left → (m < placeOf c q) ⊎ (placeOf c q + 56 ≤ m)) → byteAt moved m ≡ byteAt s m
   moved-apart m apart = moves-apart c m p (left - p) s (λ q l h. apart q l (omega arith))
@@ -116,7 +116,7 @@ module _ (s : List ℕ) (used : ℕ) (bytes : AreBytes s) (ok : verdict s used �
   record-moved q l = go (decLt q p) (decLt q left)
     where
       stays : (q < p) ⊎ (left ≤ q) → part moved (placeOf c q) 56 ≡ getD rs q []
-      stays out = part-kept moved s (placeOf c q) 56 length-moved (λ m b e. moved-apart m (λ i j h. side m b e i j h out)) ∙ at-place q l
+      stays out = part-kept moved s (placeOf c q) 56 as-long (λ m b e. moved-apart m (λ i j h. side m b e i j h out)) ∙ at-place q l
         where
           side : (m : ℕ) → placeOf c q ≤ m → m < placeOf c q + 56 → (i : ℕ) → p ≤ i → i < left → (q < p) ⊎ (left ≤ q) → (m < placeOf c i) ⊎ (placeOf c i + 56 ≤ m)
           side m b e i j h (inl d) = inl (omega (arith, places-apart c q i (omega arith)))
@@ -125,7 +125,7 @@ module _ (s : List ℕ) (used : ℕ) (bytes : AreBytes s) (ok : verdict s used �
       go : Dec (q < p) → Dec (q < left) → part moved (placeOf c q) 56 ≡ getD (fewer ++ last ∷ []) q []
       go (yes h) d = stays (inl h) ∙ sym (List·getD-append fewer (last ∷ []) [] q (rw length-fewer (omega arith)) ∙ without-before rs p in-list q h)
       go (no h) (yes d) =
-          part-same moved (placeOf c q) s (placeOf c (q + 1)) 56 (rw length-moved (omega (arith, fits))) (omega (arith, fits))
+          part-same moved (placeOf c q) s (placeOf c (q + 1)) 56 (rw as-long (omega (arith, fits))) (omega (arith, fits))
           (λ o b. moves-moved c o q p (left - p) s b (omega (arith, fits)) (omega arith) (omega arith))
           ∙ at-place (q + 1) (omega arith)
           ∙ sym (List·getD-append fewer (last ∷ []) [] q (rw length-fewer d) ∙ without-behind rs p in-list q (omega arith))
@@ -161,14 +161,14 @@ module _ (s : List ℕ) (used : ℕ) (bytes : AreBytes s) (ok : verdict s used �
     at-record i b =
         let n = length-nine rs j in
         let e : k * 512 + recordPlace i ≡ placeOf c (j * 9 + i) = omega arith in
-        part-part moved (k * 512) 512 (recordPlace i) 56 (rw length-moved (omega (arith, fits))) (omega arith)
+        part-part moved (k * 512) 512 (recordPlace i) 56 (rw as-long (omega (arith, fits))) (omega arith)
         ∙ ap (λ (x : ℕ). part moved x 56) e
         ∙ record-moved (j * 9 + i) (omega (arith, z .trade-count))
         ∙ sym (nine-at (fewer ++ last ∷ []) j i (omega arith))
 
     moved-holds : Holds (blockAt moved k) k (recordsOfBlock (fewer ++ last ∷ []) j)
     moved-holds =
-        let long : length (blockAt moved k) ≡ 512 = length-part moved (k * 512) 512 (rw length-moved (omega (arith, fits))) in
+        let long : length (blockAt moved k) ≡ 512 = length-part moved (k * 512) 512 (rw as-long (omega (arith, fits))) in
         record {
           long = long;
           kind = between 0 (inl (omega arith)) (omega arith) ∙ old .kind;
@@ -182,7 +182,7 @@ module _ (s : List ℕ) (used : ℕ) (bytes : AreBytes s) (ok : verdict s used �
         }
 
   first-kept : blockAt moved 0 ≡ blockAt s 0
-  first-kept = part-kept moved s 0 512 length-moved (λ m b e. moved-apart m (λ q l h. inl (omega arith)))
+  first-kept = part-kept moved s 0 512 as-long (λ m b e. moved-apart m (λ q l h. inl (omega arith)))
 
   pub curves-same : curveCount moved ≡ c
   curves-same = sym (head-curves moved) ∙ ap curveCount first-kept ∙ head-curves s
@@ -193,10 +193,10 @@ module _ (s : List ℕ) (used : ℕ) (bytes : AreBytes s) (ok : verdict s used �
   cut = cutBack moved used left
 
   length-cut : length cut ≡ length s
-  length-cut = length-cutBack moved used left ∙ length-moved
+  length-cut = length-cutBack moved used left ∙ as-long
 
   read : CutRead moved used left c
-  read = cut-read moved used left c curves-same last-block (rw length-moved (z .lent))
+  read = cut-read moved used left c curves-same last-block (rw as-long (z .lent))
 
   -- bytes that are in no block with a record moved
   outside : (m : ℕ) → 512 ≤ m → (m < (1 + c + p / 9) * 512) ⊎ (used ≤ m) → byteAt cut m ≡ byteAt s m

@@ -14,8 +14,9 @@ use Rattle.ground.specs.declared.Ground.{Ground}
 use Rattle.ground.specs.declared.Ground.the-variants.{Length, BookSpace}
 use Rattle.ground.specs.declared.Verdict.{Verdict}
 use Rattle.ground.specs.declared.Verdict.the-variants.{Accepted, Refused}
+use Rattle.ground.specs.declared.Written.the-variants as written
 use Rattle.ground.specs.Number.{numberOf}
-use Rattle.ground.specs.Verdicts.{orElse, unless, Rule, firstBroken}
+use Rattle.ground.specs.Verdicts.{orElse, unless, Rule, firstBroken, writtenOf}
 use Rattle.curve_block.specs.Verdict.{curveRules, curveVerdict}
 use Rattle.record.specs.declared.Curves.{Curves}
 use Rattle.record.specs.declared.Fields.{Fields}
@@ -27,9 +28,8 @@ use Rattle.book.specs.Verdict.{firstOf, bytesVerdict, headerRules, headerVerdic
 use Rattle.acceptance.specs.declared.Today.{Today}
 use Rattle.acceptance.specs.declared.Today.the-variants.{Given}
 use Rattle.acceptance.specs.Verdict.{bookRules, bookVerdict}
-use Rattle.edit.specs.declared.Edited.the-variants as edited
 use Rattle.edit.specs.Refusals.{blockOf, breaksBookSpace, newRecordVerdict, appendVerdict}
-use Rattle.edit.specs.Edits.{answerOf, appendedBook, appendAnswer}
+use Rattle.edit.specs.Edits.{appendedBook, appendAnswer}
 use Rattle.edit.proofs.Given.{no-room}
 
 -- a verdict by another ground
@@ -121,12 +121,12 @@ by-space Accepted Accepted false k h l e = let z : _≡_ {A = ℕ} 0 1 = cc in a
 by-space Accepted (Refused g m) b k h l e = absurd (l .other (is-space g m k e))
 by-space (Refused g m) w b k h l e = absurd (h .other (is-space g m k e))
 
-answered : (v : Verdict) (n k : ℕ) → answerOf v n ≡ edited.Refused BookSpace k → v ≡ Refused BookSpace k
+answered : (v : Verdict) (n k : ℕ) → writtenOf v n ≡ written.Refused BookSpace k → v ≡ Refused BookSpace k
 answered Accepted n k e = let z : _≡_ {A = ℕ} 0 1 = cc in absurd (omega arith)
 answered (Refused g m) n k e = cc
 
 -- an append is refused by 15 only where a new block is needed, and the book has 128 or the lent bytes end before that block does
-pub append-space : (s : List ℕ) (used day : ℕ) (r : List ℕ) (k : ℕ) → appendAnswer s used day r ≡ edited.Refused BookSpace k
+pub append-space : (s : List ℕ) (used day : ℕ) (r : List ℕ) (k : ℕ) → appendAnswer s used day r ≡ written.Refused BookSpace k
     → (tradeCount s % 9 ≡ 0) × ((used / 512 ≡ 128) ⊎ (length s < used + 512))
 unfolding appendAnswer appendVerdict newRecordVerdict
 append-space s used day r k e =

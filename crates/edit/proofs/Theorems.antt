@@ -15,6 +15,7 @@ use Rattle.ground.specs.declared.Ground.{Ground}
 use Rattle.ground.specs.declared.Ground.the-variants.{Position}
 use Rattle.ground.specs.declared.Verdict.{Verdict}
 use Rattle.ground.specs.declared.Verdict.the-variants.{Accepted, Refused}
+use Rattle.ground.specs.declared.Written.the-variants as written
 use Rattle.book.specs.Parts.{Header, headerOf, curvesIn, curvesOf, curveBlocks, tradeCount, records}
 use Rattle.book.specs.Verdict.{bytesVerdict, verdict}
 use Rattle.book.specs.Encode.{encode}
@@ -27,7 +28,6 @@ use Rattle.acceptance.specs.declared.Today.the-variants.{Given, NotGiven}
 use Rattle.acceptance.specs.Verdict.{bookVerdict}
 use Rattle.acceptance.proofs.Laws.{same-header, no-day}
 use Rattle.book.proofs.Canonical.{sound-encodable, sound-acceptable, accepted-encoded, accepted-lent, length-accepted}
-use Rattle.edit.specs.declared.Edited.the-variants as edited
 use Rattle.edit.specs.declared.Found.{Found}
 use Rattle.edit.specs.Refusals.{blockOf, breaksPosition, positionVerdict, appendVerdict}
 use Rattle.edit.specs.Edits.{usedAppended, usedStruck, BookAppended, BookStruck, found, appendedBook, appendAnswer, appended, without, struckBook, strikeAnswer, struck}
@@ -76,7 +76,7 @@ module _ (header : Header) (cs rs : List (List ℕ)) (rest : List ℕ) (fine : E
   struck-book i = rw (header-encoded header cs rs fine rest, curves-encoded header cs rs fine rest, records-encoded header cs rs fine rest)
 
   module _ (day : ℕ) (ok : bookVerdict book size (Given day) ≡ Accepted) (i : ℕ) (l : i < length rs) where
-    strike-answer : strikeAnswer book size day i ≡ edited.Used (length (encode header cs (without rs i)))
+    strike-answer : strikeAnswer book size day i ≡ written.Length (length (encode header cs (without rs i)))
     unfolding strikeAnswer
     strike-answer = rw (position-encoded (Given day) ok i true (lt-ltb i (length rs) l), struck-book i)
 
@@ -241,12 +241,12 @@ module _ (s : List ℕ) (used : ℕ) (bytes : AreBytes s) where
       with-day : bookVerdict (encode header cs more ++ behind) (length (encode header cs more)) (Given day) ≡ Accepted
       with-day = rw (appended-is, append-used) at (appended-accepted (Given day) (append-book s used r day ok))
 
-      pub append-strike-answer : strikeAnswer (appended s used day r) (usedAppended s used day r) day (tradeCount s) ≡ edited.Used used
+      pub append-strike-answer : strikeAnswer (appended s used day r) (usedAppended s used day r) day (tradeCount s) ≡ written.Length used
       append-strike-answer =
           rw (appended-is, append-used, ← length-records s)
           (strike-answer header cs more behind (more-fine given) (more-good given) day with-day (length rs) last-in
-          ∙ ap (λ (l : List (List ℕ)). edited.Used (length (encode header cs l))) taken-back
-          ∙ ap edited.Used old-size)
+          ∙ ap (λ (l : List (List ℕ)). written.Length (length (encode header cs l))) taken-back
+          ∙ ap written.Length old-size)
 
       pub append-strike : take used (struck (appended s used day r) (usedAppended s used day r) day (tradeCount s)) ≡ take used s
       append-strike =

@@ -4,23 +4,18 @@ use mathlib.Core.List.{List, [], _∷_, _++_}
 use lib.ListN.{length, take, drop, replicate}
 use Rattle.ground.specs.declared.Verdict.{Verdict}
 use Rattle.ground.specs.declared.Verdict.the-variants as verdict
-use Rattle.ground.specs.Verdicts.{bytesAfter}
+use Rattle.ground.specs.declared.Written.{Written}
+use Rattle.ground.specs.declared.Written.the-variants.{Length, Refused}
+use Rattle.ground.specs.Verdicts.{bytesAfter, writtenOf}
 use Rattle.book.specs.Parts.{headerOf, curveBlocks, recordAt, records, WithRecords}
 use Rattle.book.specs.Encode.{encode}
 use Rattle.acceptance.specs.declared.Today.the-variants.{Given, NotGiven}
-use Rattle.edit.specs.declared.Edited.{Edited}
-use Rattle.edit.specs.declared.Edited.the-variants.{Used, Refused}
 use Rattle.edit.specs.declared.Found.{Found}
 use Rattle.edit.specs.Refusals.{positionVerdict, appendVerdict}
 
--- "Append and strike return the new used length"
-abbrev pub answerOf : Verdict → ℕ → Edited
-answerOf verdict.Accepted used = Used used
-answerOf (verdict.Refused g k) used = Refused g k
-
--- the used length after a call
-abbrev pub usedAfter : Edited → ℕ → ℕ
-usedAfter (Used n) used = n
+-- the used length after a call: "Append and strike return the new used length"
+abbrev pub usedAfter : Written → ℕ → ℕ
+usedAfter (Length n) used = n
 usedAfter (Refused g k) used = used
 
 -- the book with other records
@@ -45,8 +40,8 @@ found s used position =
 unfoldable pub appendedBook : List ℕ → List ℕ → List ℕ
 appendedBook s r = bookOf s (records s ++ r ∷ [])
 
-unfoldable pub appendAnswer : List ℕ → ℕ → ℕ → List ℕ → Edited
-appendAnswer s used day r = answerOf (appendVerdict s used day r) (length (appendedBook s r))
+unfoldable pub appendAnswer : List ℕ → ℕ → ℕ → List ℕ → Written
+appendAnswer s used day r = writtenOf (appendVerdict s used day r) (length (appendedBook s r))
 
 -- the used length after an append, refused or not
 abbrev pub usedAppended : List ℕ → ℕ → ℕ → List ℕ → ℕ
@@ -69,8 +64,8 @@ without rs position = take position rs ++ drop (position + 1) rs
 unfoldable pub struckBook : List ℕ → ℕ → List ℕ
 struckBook s position = bookOf s (without (records s) position)
 
-unfoldable pub strikeAnswer : List ℕ → ℕ → ℕ → ℕ → Edited
-strikeAnswer s used day position = answerOf (positionVerdict s used (Given day) position) (length (struckBook s position))
+unfoldable pub strikeAnswer : List ℕ → ℕ → ℕ → ℕ → Written
+strikeAnswer s used day position = writtenOf (positionVerdict s used (Given day) position) (length (struckBook s position))
 
 -- the used length after a strike, refused or not
 abbrev pub usedStruck : List ℕ → ℕ → ℕ → ℕ → ℕ

@@ -8,6 +8,7 @@ use book::parts::record_at;
 use book::parts::trade_count;
 use ground::Ground;
 use ground::Verdict;
+use ground::Written;
 use trade_edit::blocks;
 use trade_edit::steps;
 ghost use mathlib.Core.Path.{_≡_};
@@ -19,12 +20,6 @@ ghost use Rattle.book.specs.Parts.{tradeCount};
 ghost use Rattle.book.specs.Verdict.{verdict};
 ghost use Rattle.edit.specs.Refusals.{newRecordVerdict};
 ghost use Rattle.edit.specs.Edits.{found, appendedBook, appendAnswer, appended, struckBook, strikeAnswer, struck};
-
-// The answer of an append or a strike: the new used length, or the ground and the block.
-pub enum Edited {
-    Used(usize),
-    Refused(Ground, u64),
-}
 
 // The answer of a read: the verdict, and the record, all 0 where refused.
 pub struct Found {
@@ -68,14 +63,14 @@ pub fn add(book: &mut [u8], used: usize, r: [u8; 56]) -> usize
 }
 
 // Appends a record to the book of a used length, given the current day.
-pub fn append(book: &mut [u8], used: usize, day: u64, r: [u8; 56]) -> Edited
+pub fn append(book: &mut [u8], used: usize, day: u64, r: [u8; 56]) -> Written
     ensures { λ a. ⌜ a ≡ appendAnswer (now (book .entry)) used day r ⌝ }
     ensures { λ _. ⌜ now (book .exit) ≡ appended (now (book .entry)) used day r ⌝ }
 {
     let v = refusals::append_verdict(&book[..], used, day, r);
     match v {
-        Verdict::Refused(g, k) => Edited::Refused(g, k),
-        Verdict::Accepted => Edited::Used(add(book, used, r)),
+        Verdict::Refused(g, k) => Written::Refused(g, k),
+        Verdict::Accepted => Written::Length(add(book, used, r)),
     }
 }
 
@@ -95,13 +90,13 @@ fn remove(book: &mut [u8], used: usize, position: usize) -> usize
 }
 
 // Strikes the record at a position from the book of a used length, given the current day.
-pub fn strike(book: &mut [u8], used: usize, day: u64, position: usize) -> Edited
+pub fn strike(book: &mut [u8], used: usize, day: u64, position: usize) -> Written
     ensures { λ a. ⌜ a ≡ strikeAnswer (now (book .entry)) used day position ⌝ }
     ensures { λ _. ⌜ now (book .exit) ≡ struck (now (book .entry)) used day position ⌝ }
 {
     let v = refusals::position_verdict(&book[..], used, Today::Given(day), position);
     match v {
-        Verdict::Refused(g, k) => Edited::Refused(g, k),
-        Verdict::Accepted => Edited::Used(remove(book, used, position)),
+        Verdict::Refused(g, k) => Written::Refused(g, k),
+        Verdict::Accepted => Written::Length(remove(book, used, position)),
     }
 }

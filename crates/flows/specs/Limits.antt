@@ -1,9 +1,10 @@
 -- What the numbers of a trade keep to, where the rules 8, 9 and 10 are not broken: none of its amounts then overflows.
-use Prim.Native.Nat.{ℕ, _+_, _-_, _*_, _≤_, _<_}
+use Prim.Native.Nat.{ℕ, _≤_, _<_}
 use mathlib.Core.Path.{_≡_}
 use mathlib.Core.Bool.{false}
 use Rattle.decimal.specs.Product.{unit}
 use Rattle.ground.specs.Limits.{lastDay}
+use Rattle.record.specs.Uses.{lastPaymentDay}
 use Rattle.trade.specs.declared.SinglePayment.{SinglePayment}
 use Rattle.trade.specs.declared.CouponBond.{CouponBond}
 use Rattle.trade.specs.declared.IndexedBond.{IndexedBond}
@@ -19,7 +20,7 @@ pub record BondLimits (b : CouponBond) : Type 0 where
   pub nominal : b .nominal ≤ unit
   pub coupon : b .coupon ≤ 1000000
   pub few : b .payments ≤ 120
-  pub reach : b .first + (b .payments - 1) * b .period ≤ lastDay
+  pub reach : lastPaymentDay (b .first) (b .period) (b .payments) ≤ lastDay
 
 pub record IndexLimits (i : IndexedBond) : Type 0 where
   pub bond : BondLimits (i .bond)

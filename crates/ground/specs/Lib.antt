@@ -1,3 +1,4 @@
 pub mod Limits
 pub mod Number
 pub mod Verdicts
+pub mod Space

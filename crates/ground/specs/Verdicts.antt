@@ -5,6 +5,8 @@ use Prim.Native.Nat.{ℕ}
 use Rattle.ground.specs.declared.Ground.{Ground}
 use Rattle.ground.specs.declared.Verdict.{Verdict}
 use Rattle.ground.specs.declared.Verdict.the-variants.{Accepted, Refused}
+use Rattle.ground.specs.declared.Written.{Written}
+use Rattle.ground.specs.declared.Written.the-variants as written
 
 abbrev pub isAccepted : Verdict → Bool
 isAccepted Accepted = true
@@ -32,3 +34,8 @@ firstBroken k (r ∷ rules) = unless (r .0) (r .1) k (firstBroken k rules)
 abbrev pub bytesAfter : Verdict → List ℕ → List ℕ → List ℕ
 bytesAfter Accepted before after = after
 bytesAfter (Refused g k) before after = before
+
+-- the answer of a call that writes and gives a length
+abbrev pub writtenOf : Verdict → ℕ → Written
+writtenOf Accepted n = written.Length n
+writtenOf (Refused g k) n = written.Refused g k

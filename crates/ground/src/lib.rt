@@ -1,6 +1,7 @@
 // The grounds on which a call is refused, the verdict, and a limit that several crates share.
 ghost use mathlib.Core.Path.{_≡_};
 ghost use Rattle.ground.specs.Number.{numberOf};
+ghost use Rattle.ground.specs.Space.{breaksSpace};
 ghost use Rattle.ground.specs.declared.Verdict.the-variants.{Accepted};
 ghost use Rattle.ground.specs.Verdicts.{orElse, unless, isAccepted};
 
@@ -36,6 +37,12 @@ pub enum Verdict {
     Refused(Ground, u64),
 }
 
+// The answer of a call that writes and gives a length: that of what it wrote, or the ground by which nothing was, and the block.
+pub enum Written {
+    Length(usize),
+    Refused(Ground, u64),
+}
+
 impl Verdict {
     pub fn is_accepted(self) -> bool
         ensures { λ r. ⌜ r ≡ isAccepted self ⌝ }
@@ -60,6 +67,13 @@ impl Verdict {
             }
         }
     }
+}
+
+// Ground 13, of a space for so many bytes.
+pub fn breaks_space(needed: usize, space: usize) -> bool
+    ensures { λ r. ⌜ r ≡ breaksSpace needed space ⌝ }
+{
+    space < needed
 }
 
 // The ground's number in documents 01 and 02.

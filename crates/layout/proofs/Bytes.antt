@@ -9,7 +9,7 @@ use native.Mathlib.Omega.{arith}
 use borrow.Author.Tests.{eqb-true, eq-eqb}
 use lib.Dec.{eqb}
 use lib.ListN.{length, set, take, drop, replicate, length-set, length-take, length-drop, length-replicate, getD-replicate, take-append-drop}
-use lib.Seq.{getD-set-same, getD-set-other, getD-take, getD-drop, drop-drop, drop-append-add, take-add, take-at, take-length, ext-getD, sets, sets-eq}
+use lib.Seq.{set-comm, getD-set-same, getD-set-other, getD-take, getD-drop, drop-drop, drop-append-add, take-add, take-at, take-length, ext-getD, sets, sets-eq}
 use Rattle.laws.proofs.Every.{every-at, every-of}
 use Rattle.layout.specs.Bytes.{byteAt, part, put, onBlock, zeros, AreBytes}
 
@@ -43,6 +43,21 @@ put-put s at (b ∷ bs) cs =
 -- the same for the lists that two calls in a row leave: t is s with bs from a place on, and u is t with cs right behind
 pub then : (s : List ℕ) (at : ℕ) (bs cs : List ℕ) {t u : List ℕ} {next : ℕ} → t ≡ put s at bs → u ≡ put t next cs → next ≡ at + length bs → u ≡ put s at (bs ++ cs)
 then s at bs cs et eu en = eu ∙ rw (et, en) (put-put s at bs cs)
+
+-- a byte behind, written before or after
+set-behind : (s : List ℕ) (at : ℕ) (bs : List ℕ) (k b : ℕ) → at + length bs ≤ k → put (set s k b) at bs ≡ set (put s at bs) k b
+unfolding put
+set-behind s at [] k b h = refl
+set-behind s at (x ∷ bs) k b h =
+    ap (λ (t : List ℕ). put t (suc at) bs) (set-comm s k at b x (λ e. omega (arith, e, h)))
+    ∙ set-behind (set s at x) (suc at) bs k b (omega (arith, h))
+
+-- the last byte may be written first
+pub last-first : (s : List ℕ) (at : ℕ) (bs : List ℕ) (b : ℕ) → put s at (bs ++ (b ∷ [])) ≡ put (set s (at + length bs) b) at bs
+last-first s at bs b =
+    sym (put-put s at bs (b ∷ []))
+    ∙ put-byte (put s at bs) (at + length bs) b
+    ∙ sym (set-behind s at bs (at + length bs) b (omega arith))
 
 is-sets : (s : List ℕ) (at : ℕ) (bs : List ℕ) → put s at bs ≡ sets s at bs
 unfolding put

@@ -1,5 +1,5 @@
 // The list program: a book on standard input, its margin's lines on standard output.
-use account_list::Listed;
+use ground::Written;
 use libc::STDIN_FILENO;
 use libc::STDOUT_FILENO;
 
@@ -13,11 +13,11 @@ fn main() {
     let mut book = [0u8; 65537];
     let used = io::read_full(STDIN_FILENO, &mut book);
     let mut text = [0u8; 1481];
-    let listed = account_list::list_text(&book, used, &mut text);
-    match listed {
-        Listed::Length(n) => {
+    let written = account_list::list_text(&book, used, &mut text);
+    match written {
+        Written::Length(n) => {
             io::write_all(STDOUT_FILENO, &text[..n]);
         }
-        Listed::Refused(_, _) => refused(),
+        Written::Refused(_, _) => refused(),
     }
 }

@@ -1,85 +1,19 @@
 // The text that the list program prints, written into lent bytes.
 // Each function writes from a place on and answers the place behind what it wrote.
-use layout::copy_in;
 use margin::CurrencyMargin;
 use margin::CurveMargin;
 use margin::Margin;
+use margin::margins::has_currency;
+use text::put_currency;
+use text::put_number;
+use text::put_signed;
+use text::put_text;
 ghost use mathlib.Core.Path.{_≡_};
 ghost use mathlib.Core.List.{_++_};
 ghost use Prim.Native.Nat.{_+_, _*_, _≤_};
 ghost use lib.ListN.{length, take, drop};
-ghost use Rattle.listing.specs.Text.{decimalOf, signedText, TextWritten};
-ghost use Rattle.listing.specs.Listing.{currencyWord, curveFigures, curveLine, currencyFigures, curveLines, hasCurrency, currencyPart, currencyLines, listing, refusedLine};
-
-fn put_text(out: &mut [u8], at: usize, text: &[u8]) -> usize
-    requires { ⌜ at + length (now text) ≤ length (now out) ⌝ }
-    ensures { λ r. ⌜ TextWritten (now (out .entry)) at (now (text .entry)) (now (out .exit)) r ⌝ }
-{
-    copy_in(out, at, text);
-    at + text.len()
-}
-
-fn put_digits(out: &mut [u8], at: usize, n: u64) -> usize
-    requires { ⌜ at + length (decimalOf n) ≤ length (now out) ⌝ }
-    ensures { λ r. ⌜ TextWritten (now (out .entry)) at (decimalOf n) (now (out .exit)) r ⌝ }
-{
-    if n < 10 {
-        out[at] = 48 + n as u8;
-        return at + 1;
-    }
-    let last = put_digits(out, at, n / 10);
-    out[last] = 48 + (n % 10) as u8;
-    last + 1
-}
-
-fn put_integer(out: &mut [u8], at: usize, v: i64) -> usize
-    requires { ⌜ at + 20 ≤ length (now out) ⌝ }
-    ensures { λ r. ⌜ TextWritten (now (out .entry)) at (signedText v) (now (out .exit)) r ⌝ }
-    ensures { λ r. ⌜ r ≤ at + 20 ⌝ }
-{
-    if v < 0 {
-        out[at] = b'-';
-        let size = (-1 - v) as u64 + 1;
-        return put_digits(out, at + 1, size);
-    }
-    put_digits(out, at, v as u64)
-}
-
-// A word and a number.
-fn put_number(out: &mut [u8], at: usize, word: &[u8], n: u64) -> usize
-    requires { ⌜ at + length (now word) + 20 ≤ length (now out) ⌝ }
-    ensures { λ r. ⌜ TextWritten (now (out .entry)) at (now (word .entry) ++ decimalOf n) (now (out .exit)) r ⌝ }
-    ensures { λ r. ⌜ r ≤ at + length (now (word .entry)) + 20 ⌝ }
-{
-    let from = put_text(out, at, word);
-    put_digits(out, from, n)
-}
-
-fn put_signed(out: &mut [u8], at: usize, word: &[u8], v: i64) -> usize
-    requires { ⌜ at + length (now word) + 20 ≤ length (now out) ⌝ }
-    ensures { λ r. ⌜ TextWritten (now (out .entry)) at (now (word .entry) ++ signedText v) (now (out .exit)) r ⌝ }
-    ensures { λ r. ⌜ r ≤ at + length (now (word .entry)) + 20 ⌝ }
-{
-    let from = put_text(out, at, word);
-    put_integer(out, from, v)
-}
-
-fn put_currency_word(out: &mut [u8], at: usize, currency: u64) -> usize
-    requires { ⌜ at + 4 ≤ length (now out) ⌝ }
-    ensures { λ r. ⌜ TextWritten (now (out .entry)) at (currencyWord currency) (now (out .exit)) r ⌝ }
-    ensures { λ r. ⌜ r ≤ at + 4 ⌝ }
-{
-    if currency == 1 {
-        return put_text(out, at, b" TRY");
-    }
-    if currency == 2 {
-        return put_text(out, at, b" USD");
-    }
-    if currency == 3 {
-        return put_text(out, at, b" EUR");
-    }
-    put_text(out, at, b" ???")
-}
+ghost use Rattle.text.specs.Text.{linesOf, TextWritten};
+ghost use Rattle.listing.specs.Listing.{curveFigures, curveListed, currencyFigures, currencyListedIf, currencyListedIn, listing, refusedLine};
 
 fn put_curve_figures(out: &mut [u8], at: usize, m: CurveMargin) -> usize
     requires { ⌜ at + 113 ≤ length (now out) ⌝ }
@@ -94,11 +28,11 @@ fn put_curve_figures(out: &mut [u8], at: usize, m: CurveMargin) -> usize
 
 fn put_curve_line(out: &mut [u8], at: usize, k: u64, m: CurveMargin) -> usize
     requires { ⌜ at + 144 ≤ length (now out) ⌝ }
-    ensures { λ r. ⌜ TextWritten (now (out .entry)) at (curveLine k m) (now (out .exit)) r ⌝ }
+    ensures { λ r. ⌜ TextWritten (now (out .entry)) at (curveListed k m) (now (out .exit)) r ⌝ }
     ensures { λ r. ⌜ r ≤ at + 144 ⌝ }
 {
     let currency = put_number(out, at, b"curve ", k);
-    let figures = put_currency_word(out, currency, m.currency);
+    let figures = put_currency(out, currency, b" ", m.currency);
     let end = put_curve_figures(out, figures, m);
     put_text(out, end, b"\n")
 }
@@ -115,7 +49,7 @@ fn put_currency_figures(out: &mut [u8], at: usize, m: CurrencyMargin) -> usize
 
 fn put_curve_lines(out: &mut [u8], at: usize, curves: [CurveMargin; 8], count: usize) -> usize
     requires { ⌜ (count ≤ 8) × (at + 144 * count ≤ length (now out)) ⌝ }
-    ensures { λ r. ⌜ TextWritten (now (out .entry)) at (curveLines 1 (take count curves)) (now (out .exit)) r ⌝ }
+    ensures { λ r. ⌜ TextWritten (now (out .entry)) at (linesOf curveListed 1 (take count curves)) (now (out .exit)) r ⌝ }
     ensures { λ r. ⌜ r ≤ at + 144 * count ⌝ }
 {
     let mut next = at;
@@ -128,21 +62,6 @@ fn put_curve_lines(out: &mut [u8], at: usize, curves: [CurveMargin; 8], count: u
     next
 }
 
-fn has_currency(curves: [CurveMargin; 8], count: usize, currency: u64) -> bool
-    requires { ⌜ count ≤ 8 ⌝ }
-    ensures { λ r. ⌜ r ≡ hasCurrency currency (take count curves) ⌝ }
-{
-    let mut i: usize = 0;
-    while i < count {
-        let m = curves[i];
-        if m.currency == currency {
-            return true;
-        }
-        i += 1;
-    }
-    false
-}
-
 // The line of a currency that a curve has.
 fn put_currency_line(
     out: &mut [u8],
@@ -152,12 +71,11 @@ fn put_currency_line(
     m: CurrencyMargin,
 ) -> usize
     requires { ⌜ at + 100 ≤ length (now out) ⌝ }
-    ensures { λ r. ⌜ TextWritten (now (out .entry)) at (currencyPart has currency m) (now (out .exit)) r ⌝ }
+    ensures { λ r. ⌜ TextWritten (now (out .entry)) at (currencyListedIf has currency m) (now (out .exit)) r ⌝ }
     ensures { λ r. ⌜ r ≤ at + 100 ⌝ }
 {
     if has {
-        let word = put_text(out, at, b"currency");
-        let figures = put_currency_word(out, word, currency);
+        let figures = put_currency(out, at, b"currency ", currency);
         let end = put_currency_figures(out, figures, m);
         return put_text(out, end, b"\n");
     }
@@ -172,7 +90,7 @@ fn put_currency_lines(
     currencies: [CurrencyMargin; 3],
 ) -> usize
     requires { ⌜ (count ≤ 8) × (at + 300 ≤ length (now out)) ⌝ }
-    ensures { λ r. ⌜ TextWritten (now (out .entry)) at (currencyLines (take count curves) 1 currencies) (now (out .exit)) r ⌝ }
+    ensures { λ r. ⌜ TextWritten (now (out .entry)) at (linesOf (currencyListedIn (take count curves)) 1 currencies) (now (out .exit)) r ⌝ }
     ensures { λ r. ⌜ r ≤ at + 300 ⌝ }
 {
     let mut next = at;

@@ -1,6 +1,6 @@
 -- The sums of a currency: what the code holds with one curve more, and that it fits; the loop over the curves; the places behind them.
 use mathlib.Core.Path.{_≡_, refl, sym, _∙_, ap}
-use mathlib.Core.Bool.{Bool, true, false, cond}
+use mathlib.Core.Bool.{Bool, true, false, cond, _||_}
 use mathlib.Core.List.{List, _∷_}
 use Prim.Native.Nat.{ℕ, _+_, _^_, _≤_, _<_}
 use native.Mathlib.Numerals.{add-one}
@@ -15,7 +15,18 @@ use Rattle.decimal.specs.Product.{unit}
 use Rattle.margin.specs.declared.CurveMargin.{CurveMargin}
 use Rattle.margin.specs.declared.CurrencyMargin.{CurrencyMargin}
 use Rattle.margin.specs.declared.margins.Sums.{Sums}
-use Rattle.margin.specs.Margins.{sumIn, currencyMargin, noCurve, MarginLimits, plusCurve, SumsLimits, PlacesLimits}
+use Rattle.margin.specs.Margins.{sumIn, currencyMargin, hasCurrency, noCurve, MarginLimits, plusCurve, SumsLimits, PlacesLimits}
+
+-- ---- whether a curve has the currency: the first n curves of l, from i on
+
+module _ (l : List CurveMargin) (n i currency : ℕ) where
+  pub has-next : n ≤ length l → i < n → hasCurrency currency (drop i (take n l)) ≡ (eqb (getD l i noCurve .currency) currency || hasCurrency currency (drop (i + 1) (take n l)))
+  unfolding hasCurrency
+  has-next h k = rw (drop-next l n i noCurve h k) (simp add-one)
+
+  pub has-none : n ≤ i → hasCurrency currency (drop i (take n l)) ≡ false
+  unfolding hasCurrency
+  has-none h = rw (drop-end l n i h)
 
 -- ---- one curve more
 

@@ -7,3 +7,4 @@ pub mod Accounts
 pub mod Discarding
 pub mod Choosing
 pub mod Estimating
+pub mod Buyer

@@ -1,5 +1,5 @@
 -- The figures of a curve, of a currency and of a whole book (document 01, "Margin").
-use mathlib.Core.Bool.{cond}
+use mathlib.Core.Bool.{Bool, false, cond, _||_}
 use mathlib.Core.List.{List, [], _∷_, _++_, map}
 use Prim.Native.Nat.{ℕ, _-_, _*_, _≤_, _<_}
 use lib.Dec.{eqb}
@@ -38,6 +38,11 @@ currencyMargin currency ms =
     let initial : ℤ = sumIn currency (λ m. m .loss) ms in
     let variation : ℤ = sumIn currency (λ m. m .base) ms in
     record { initial = initial; variation = variation; total = variation -ℤ initial }
+
+-- whether a curve has the currency
+unfoldable pub hasCurrency : ℕ → List CurveMargin → Bool
+hasCurrency currency [] = false
+hasCurrency currency (m ∷ ms) = eqb (m .currency) currency || hasCurrency currency ms
 
 -- the figures of a place with no curve, and of a currency that no curve has
 abbrev pub noCurve : CurveMargin

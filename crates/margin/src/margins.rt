@@ -3,7 +3,7 @@ ghost use mathlib.Core.Path.{_≡_};
 ghost use mathlib.Core.List.{_++_};
 ghost use Prim.Native.Nat.{_-_, _≤_};
 ghost use lib.ListN.{take, replicate};
-ghost use Rattle.margin.specs.Margins.{curveMargin, currencyMargin, noCurve, assembled, MarginLimits, plusCurve, SumsLimits, PlacesLimits};
+ghost use Rattle.margin.specs.Margins.{curveMargin, currencyMargin, hasCurrency, noCurve, assembled, MarginLimits, plusCurve, SumsLimits, PlacesLimits};
 ghost use Rattle.margin.specs.Positions.{exposureOf, PositionLimits};
 use super::CurrencyMargin;
 use super::CurveMargin;
@@ -86,6 +86,22 @@ pub fn currency_margin(currency: u64, curves: [CurveMargin; 8], count: usize) ->
         variation: t.variation,
         total: t.variation - t.initial,
     }
+}
+
+// Whether one of the first count curves has the currency.
+pub fn has_currency(curves: [CurveMargin; 8], count: usize, currency: u64) -> bool
+    requires { ⌜ count ≤ 8 ⌝ }
+    ensures { λ r. ⌜ r ≡ hasCurrency currency (take count curves) ⌝ }
+{
+    let mut i: usize = 0;
+    while i < count {
+        let m = curves[i];
+        if m.currency == currency {
+            return true;
+        }
+        i += 1;
+    }
+    false
 }
 
 // The figures of a place with no curve.

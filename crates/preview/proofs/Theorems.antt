@@ -9,6 +9,7 @@ use Rattle.ground.specs.declared.Ground.the-variants.{ReportSpace}
 use Rattle.ground.specs.declared.Verdict.{Verdict}
 use Rattle.ground.specs.declared.Verdict.the-variants.{Accepted, Refused}
 use Rattle.ground.specs.Verdicts.{bytesAfter}
+use Rattle.ground.specs.Space.{breaksSpace}
 use Rattle.ground.proofs.Verdicts.{orElse-accepted}
 use Rattle.layout.specs.Bytes.{AreBytes}
 use Rattle.acceptance.specs.declared.Today.the-variants.{Given}
@@ -18,7 +19,7 @@ use Rattle.edit.specs.Edits.{appended, usedAppended}
 use Rattle.edit.proofs.Given.{append-book}
 use Rattle.edit.proofs.Theorems.{appended-accepted, book-appended}
 use Rattle.edit.proofs.Copies.{copy-takes, copy-appended}
-use Rattle.report.specs.Entry.{breaksReportSpace, reportVerdict, marginVerdict, reported, marginBytes}
+use Rattle.report.specs.Entry.{reportVerdict, marginVerdict, reported, marginBytes}
 use Rattle.report.specs.Bounded.{Bounded}
 use Rattle.report.proofs.Answers.{accepted-book-reported, same-report}
 use Rattle.report.proofs.Demand.{demand, demand-met}
@@ -72,7 +73,7 @@ module _ (s : List ℕ) (used day : ℕ) (r out : List ℕ) where
 
     -- 13 comes last
     pub no-report-space : length out < 512 → (previewVerdict s used day r (length out) ≡ Refused ReportSpace 0) × (previewBytes s used day r out ≡ out)
-    unfolding breaksReportSpace
+    unfolding breaksSpace
     no-report-space short =
         let e = lt-ltb (length out) 512 short in
         (rw e at (with-record-reported .0), rw e at (with-record-reported .1))

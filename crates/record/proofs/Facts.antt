@@ -2,7 +2,7 @@
 use mathlib.Core.Path.{_≡_}
 use mathlib.Core.Bool.{Bool, true, false, _&&_, _||_, not, cond}
 use mathlib.Core.Logic.{⊎-elim}
-use Prim.Native.Nat.{_+_, _-_, _*_, _≤_, _<_}
+use Prim.Native.Nat.{_-_, _≤_, _<_}
 use native.Mathlib.Omega.{arith}
 use lib.Dec.{eqb, leb, ltb}
 use borrow.Author.Tests.{eqb-true, leb-true, ltb-true, not-false}
@@ -13,7 +13,7 @@ use Rattle.record.specs.declared.Form.{Form}
 use Rattle.record.specs.declared.Days.{Days}
 use Rattle.record.specs.declared.Amounts.{Amounts}
 use Rattle.record.specs.declared.Curves.{Curves}
-use Rattle.record.specs.Uses.{inLimits, usedInLimits, asked, isOutright, isPool, isSpecified, hasSettled, hasSecurity, hasCoupons, isIndexed}
+use Rattle.record.specs.Uses.{lastPaymentDay, inLimits, usedInLimits, asked, isOutright, isPool, isSpecified, hasSettled, hasSecurity, hasCoupons, isIndexed}
 use Rattle.record.specs.Rules.{phaseFits, securityFits, curvesFit, breaksForm, inReach, legsAhead, secondLegAhead, valueDaysFit, firstPaymentFits}
 use Rattle.record.specs.Rules.{countsFit, couponDaysFit, breaksDays, unusedDaysFit, principalsFit, priceFits, couponsFit, indicesFit, breaksAmounts}
 use Rattle.record.proofs.Limits.{InLimits, in-limits, used, unused, at-most, asked-true, CouponCounts, coupon-counts}
@@ -66,7 +66,7 @@ formed curves f h =
 
 pub record Coupons (d : Days) : Type 0 where
   pub number : CouponCounts (d .period) (d .payments)
-  pub last : d .first + (d .payments - 1) * d .period ≤ lastDay
+  pub last : lastPaymentDay (d .first) (d .period) (d .payments) ≤ lastDay
 
 pub record DaysKept (f : Form) (d : Days) : Type 0 where
   pub bought : isOutright (f .kind) ≡ true → d .day1 ≤ lastDay
@@ -107,7 +107,7 @@ days-kept f d h =
           let after = cond s (ltb 0 (d .first)) (ltb (d .day1) (d .first)) in
           leb-true (d .first) lastDay (both after (inReach (d .first)) (asked-true paying (firstPaymentFits f d) (p .1 .0) e) .1);
       coupons = λ e.
-          let q = both (countsFit (d .period) (d .payments)) (inReach (d .first + (d .payments - 1) * d .period)) (asked-true coupons rule (p .1 .1) e) in
+          let q = both (countsFit (d .period) (d .payments)) (inReach (lastPaymentDay (d .first) (d .period) (d .payments))) (asked-true coupons rule (p .1 .1) e) in
           record { number = coupon-counts (d .period) (d .payments) (q .0); last = leb-true _ lastDay (q .1) };
     }
 

@@ -1,5 +1,5 @@
 -- The rules 8 to 11 of document 01 on the fields of one record: each is true where it is broken.
-use Prim.Native.Nat.{ℕ, _+_, _-_, _*_}
+use Prim.Native.Nat.{ℕ, _-_}
 use mathlib.Core.Bool.{Bool, _&&_, _||_, not, cond}
 use lib.Dec.{eqb, leb, ltb}
 use lib.ListN.{getD}
@@ -9,7 +9,7 @@ use Rattle.record.specs.declared.Form.{Form}
 use Rattle.record.specs.declared.Days.{Days}
 use Rattle.record.specs.declared.Amounts.{Amounts}
 use Rattle.record.specs.declared.Curves.{Curves}
-use Rattle.record.specs.Uses.{inLimits, usedInLimits, asked, isOutright, isPool, isSpecified, hasSettled, hasSecurity, hasCoupons, isIndexed}
+use Rattle.record.specs.Uses.{lastPaymentDay, inLimits, usedInLimits, asked, isOutright, isPool, isSpecified, hasSettled, hasSecurity, hasCoupons, isIndexed}
 
 -- ---- 8. A record's kind, side, phase, security or curve id is none of those allowed together.
 
@@ -62,7 +62,7 @@ countsFit period payments = inLimits 1 period 366 && inLimits 1 payments 120
 
 -- and the last payment's day
 abbrev pub couponDaysFit : ℕ → ℕ → ℕ → Bool
-couponDaysFit first period payments = countsFit period payments && inReach (first + (payments - 1) * period)
+couponDaysFit first period payments = countsFit period payments && inReach (lastPaymentDay first period payments)
 
 -- all days, given whether that of the first payment fits
 abbrev pub daysFit : Bool → Form → Days → Bool

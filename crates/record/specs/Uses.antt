@@ -1,5 +1,5 @@
 -- Which fields a record uses, by its kind, phase and security (document 01, "Record" and "Fields a record doesn't use are 0").
-use Prim.Native.Nat.{ℕ}
+use Prim.Native.Nat.{ℕ, _+_, _-_, _*_}
 use mathlib.Core.Bool.{Bool, _&&_, _||_, not, cond}
 use lib.Dec.{eqb, leb}
 
@@ -37,3 +37,7 @@ hasCoupons security = inLimits 2 security 3
 
 abbrev pub isIndexed : ℕ → Bool
 isIndexed security = eqb security 3
+
+-- "first day + i × period, i from 0": the last of so many payments. A single one, which has neither period nor count, is on the first day
+abbrev pub lastPaymentDay : ℕ → ℕ → ℕ → ℕ
+lastPaymentDay first period payments = first + (payments - 1) * period

@@ -6,9 +6,10 @@ use crate::Form;
 use crate::LARGEST;
 use ground::LAST_DAY;
 ghost use mathlib.Core.Path.{_≡_};
-ghost use mathlib.Core.Bool.{true, cond};
-ghost use Prim.Native.Nat.{_+_, _-_, _*_};
-ghost use Rattle.record.specs.Uses.{inLimits, usedInLimits, asked, isOutright, isPool, isSpecified, hasSettled, hasSecurity, hasCoupons, isIndexed};
+ghost use mathlib.Core.Bool.{cond};
+ghost use Prim.Native.Nat.{_-_, _≤_};
+ghost use Rattle.ground.specs.Limits.{lastDay};
+ghost use Rattle.record.specs.Uses.{inLimits, usedInLimits, asked, isOutright, isPool, isSpecified, hasSettled, hasSecurity, hasCoupons, isIndexed, lastPaymentDay};
 ghost use Rattle.record.specs.Rules.{phaseFits, securityFits, curvesFit, breaksForm};
 ghost use Rattle.record.specs.Rules.{inReach, legsAhead, secondLegAhead, valueDaysFit, firstPaymentFits, countsFit, couponDaysFit, breaksDays};
 ghost use Rattle.record.specs.Rules.{unusedDaysFit, principalsFit, priceFits, couponsFit, indicesFit, breaksAmounts};
@@ -62,7 +63,7 @@ pub fn has_settled(kind: u64, phase: u64) -> bool
     is_pool(kind) & (phase == 3) | is_specified(kind) & (phase == 2)
 }
 
-fn has_security(security: u64) -> bool
+pub fn has_security(security: u64) -> bool
     ensures { λ r. ⌜ r ≡ hasSecurity security ⌝ }
 {
     !(security == 0)
@@ -168,12 +169,11 @@ fn counts_fit(period: u64, payments: u64) -> bool
     in_limits(1, period, 366) & in_limits(1, payments, 120)
 }
 
-// The span from the first payment to the last.
-fn span(period: u64, payments: u64) -> u64
-    requires { ⌜ countsFit period payments ≡ true ⌝ }
-    ensures { λ r. ⌜ r ≡ (payments - 1) * period ⌝ }
+pub fn last_payment_day(first: u64, period: u64, payments: u64) -> u64
+    requires { ⌜ (first ≤ lastDay) × ((period ≤ 366) × (payments ≤ 120)) ⌝ }
+    ensures { λ r. ⌜ r ≡ lastPaymentDay first period payments ⌝ }
 {
-    (payments - 1) * period
+    first + minus(payments, 1) * period
 }
 
 // The days are added only where they are known to fit.
@@ -186,7 +186,7 @@ fn coupon_days_fit(first: u64, period: u64, payments: u64) -> bool
     if !in_reach(first) {
         return false;
     }
-    in_reach(first + span(period, payments))
+    in_reach(last_payment_day(first, period, payments))
 }
 
 pub fn breaks_days(f: Form, d: Days) -> bool

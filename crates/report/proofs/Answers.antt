@@ -9,6 +9,7 @@ use Rattle.ground.specs.declared.Ground.{Ground}
 use Rattle.ground.specs.declared.Ground.the-variants.{ReportSpace}
 use Rattle.ground.specs.declared.Verdict.the-variants.{Accepted, Refused}
 use Rattle.ground.specs.Verdicts.{bytesAfter}
+use Rattle.ground.specs.Space.{breaksSpace}
 use Rattle.book.specs.Parts.{Header}
 use Rattle.book.proofs.Copied.{SameBook}
 use Rattle.margin.specs.declared.Margin.{Margin}
@@ -16,20 +17,20 @@ use Rattle.report_block.specs.Report.{reportBytes}
 use Rattle.exposure.proofs.Parts.{same-exposures}
 use Rattle.acceptance.specs.declared.Today.the-variants.{Given}
 use Rattle.acceptance.specs.Verdict.{bookVerdict}
-use Rattle.report.specs.Entry.{marginIn, breaksReportSpace, reportVerdict, marginVerdict, reported, marginBytes}
+use Rattle.report.specs.Entry.{marginIn, reportVerdict, marginVerdict, reported, marginBytes}
 
 module _ (s out : List ℕ) where
   -- 13 applies
-  pub no-space : breaksReportSpace (length out) ≡ true
+  pub no-space : breaksSpace 512 (length out) ≡ true
       → (Refused ReportSpace 0 ≡ reportVerdict (length out)) × (out ≡ bytesAfter (reportVerdict (length out)) out (reported s out))
   no-space f = (rw f refl, rw f refl)
 
-  pub space : breaksReportSpace (length out) ≡ false → 512 ≤ length out
-  unfolding breaksReportSpace
+  pub space : breaksSpace 512 (length out) ≡ false → 512 ≤ length out
+  unfolding breaksSpace
   space e = ltb-false (length out) 512 e
 
   -- it does not
-  pub filled : (m : Margin) (after : List ℕ) → breaksReportSpace (length out) ≡ false → m ≡ marginIn s → after ≡ reportBytes m ++ drop 512 out
+  pub filled : (m : Margin) (after : List ℕ) → breaksSpace 512 (length out) ≡ false → m ≡ marginIn s → after ≡ reportBytes m ++ drop 512 out
       → (Accepted ≡ reportVerdict (length out)) × (after ≡ bytesAfter (reportVerdict (length out)) out (reported s out))
   filled m after f g h = (rw f refl, rw f (h ∙ rw g refl))
 

@@ -11,6 +11,7 @@ use borrow.Author.Tests.{le-ltb, leb-true, leb-false}
 use Rattle.laws.specs.Walk.{table}
 use Rattle.laws.proofs.Tables.{flat-same}
 use Rattle.ground.specs.declared.Verdict.the-variants.{Accepted}
+use Rattle.ground.specs.Space.{breaksSpace}
 use Rattle.discount.specs.declared.Flow.{Flow}
 use Rattle.record.specs.Bytes.{fieldsOf}
 use Rattle.flows.specs.Legs.{flowsOf}
@@ -25,7 +26,7 @@ use Rattle.exposure.specs.Exposures.{tradeAt, flowsUpTo, flowsIn, exposureTo, e
 use Rattle.acceptance.specs.declared.Today.the-variants.{Given}
 use Rattle.acceptance.specs.Verdict.{breaksValuationDay, bookVerdict}
 use Rattle.acceptance.proofs.Laws.{accepted-book}
-use Rattle.report.specs.Entry.{marginIn, breaksReportSpace, marginVerdict, marginBytes}
+use Rattle.report.specs.Entry.{marginIn, marginVerdict, marginBytes}
 use Rattle.report.specs.Earlier.{EarlierBook, earlierFlowsIn, earlierReport}
 
 module _ (s : List ℕ) (used : ℕ) (h : EarlierBook s used) where
@@ -79,5 +80,5 @@ module _ (s : List ℕ) (used : ℕ) (h : EarlierBook s used) where
   exposures-of-then = ap (λ (fs : List Flow). table (exposureTo fs s) 1 (curveCount s)) flows-of-then
 
   pub earlier-book-reported : (out : List ℕ) → 512 ≤ length out → marginBytes s used 0 out ≡ earlierReport s ++ drop 512 out
-  unfolding marginBytes marginVerdict breaksReportSpace marginIn earlierReport
+  unfolding marginBytes marginVerdict breaksSpace marginIn earlierReport
   earlier-book-reported out space = rw (earlier-book-accepted, le-ltb (length out) 512 space, exposures-of-then)

@@ -1,4 +1,5 @@
 pub mod Placed
+pub mod Figures
 pub mod Answers
 pub mod Demand
 pub mod Earlier

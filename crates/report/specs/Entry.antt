@@ -1,13 +1,10 @@
 -- The margin entry: its answer, and every lent byte afterwards (document 01, "Margin" and ground 13).
-use mathlib.Core.Bool.{Bool}
 use mathlib.Core.List.{List, _++_}
 use Prim.Native.Nat.{ℕ}
-use lib.Dec.{ltb}
 use lib.ListN.{length, drop}
-use Rattle.ground.specs.declared.Ground.the-variants.{ReportSpace}
 use Rattle.ground.specs.declared.Verdict.{Verdict}
-use Rattle.ground.specs.declared.Verdict.the-variants.{Accepted}
-use Rattle.ground.specs.Verdicts.{orElse, unless, bytesAfter}
+use Rattle.ground.specs.Verdicts.{orElse, bytesAfter}
+use Rattle.ground.specs.Space.{spaceVerdict}
 use Rattle.book.specs.Parts.{headerOf}
 use Rattle.acceptance.specs.declared.Today.the-variants.{Given}
 use Rattle.acceptance.specs.Verdict.{bookVerdict}
@@ -20,13 +17,9 @@ use Rattle.exposure.specs.Exposures.{exposures}
 unfoldable pub marginIn : List ℕ → Margin
 marginIn s = marginOf (headerOf s .account) (exposures s)
 
--- 13. "The report space is under 512 bytes."
-unfoldable pub breaksReportSpace : ℕ → Bool
-breaksReportSpace space = ltb space 512
-
 -- what is asked of a book that is accepted
 abbrev pub reportVerdict : ℕ → Verdict
-reportVerdict space = unless (breaksReportSpace space) ReportSpace 0 Accepted
+reportVerdict space = spaceVerdict 512 space
 
 -- given the day: the whole-book check, then 13
 unfoldable pub marginVerdict : List ℕ → ℕ → ℕ → ℕ → Verdict

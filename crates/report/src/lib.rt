@@ -19,7 +19,7 @@ ghost use Rattle.book.specs.Verdict.{verdict};
 ghost use Rattle.margin.specs.Margins.{curveMargin};
 ghost use Rattle.exposure.specs.Exposures.{exposureAt};
 ghost use Rattle.report.specs.Bounded.{Bounded};
-ghost use Rattle.report.specs.Entry.{marginIn, breaksReportSpace, reportVerdict, marginVerdict, reported, marginBytes};
+ghost use Rattle.report.specs.Entry.{marginIn, reportVerdict, marginVerdict, reported, marginBytes};
 
 // The components of a curve of an accepted book: each curve has scenarios of its own.
 fn components_at(book: &[u8], used: usize, curve: usize) -> Components
@@ -66,20 +66,13 @@ pub fn margin_of_book(book: &[u8], used: usize) -> Margin
     margin::margins::margin_of(parts::account(book), curves, count)
 }
 
-// Ground 13.
-fn breaks_report_space(space: usize) -> bool
-    ensures { λ r. ⌜ r ≡ breaksReportSpace space ⌝ }
-{
-    space < 512
-}
-
 // Writes the report of an accepted book, where there is space for it.
 pub fn fill_report(book: &[u8], used: usize, out: &mut [u8]) -> Verdict
     requires { ⌜ verdict (now book) used ≡ Accepted ⌝ }
     ensures { λ r. ⌜ r ≡ reportVerdict (length (now (out .entry))) ⌝ }
     ensures { λ _. ⌜ now (out .exit) ≡ bytesAfter (reportVerdict (length (now (out .entry)))) (now (out .entry)) (reported (now (book .entry)) (now (out .entry))) ⌝ }
 {
-    if breaks_report_space(out.len()) {
+    if ground::breaks_space(512, out.len()) {
         return Verdict::Refused(Ground::ReportSpace, 0);
     }
     report_block::write_report(out, margin_of_book(book, used));

@@ -1,4 +1,4 @@
--- A book whose blocks are accepted and which is for another day is refused by 19, by each of the five entries that are given the day.
+-- A book whose blocks are accepted and which is for another day is refused by 19, by each of the six entries that are given the day.
 use mathlib.Core.Path.{_≡_, sym}
 use mathlib.Core.List.{List}
 use Prim.Native.Nat.{ℕ}
@@ -13,6 +13,7 @@ use Rattle.edit.specs.Refusals.{positionVerdict, appendVerdict}
 use Rattle.edit.specs.Edits.{appendAnswer, strikeAnswer}
 use Rattle.edit.proofs.Theorems.{refused-append, refused-strike}
 use Rattle.report.proofs.Answers.{refused-book}
+use Rattle.statement.proofs.Answers.{refused-statement}
 use Rattle.preview.proofs.Theorems.{refused-by-append}
 use Rattle.bootstrap.specs.declared.Quote.{Quote}
 use Rattle.bootstrap.specs.Refusals.{bootstrapVerdict}
@@ -40,6 +41,7 @@ module _ (s : List ℕ) (used day : ℕ) (ok : verdict s used ≡ Accepted) (oth
   another-day =
       record {
         margin = λ out. let p = refused-book s used day out ValuationDay 0 refused in (sym (p .0), sym (p .1));
+        statement = λ out. let p = refused-statement s used day out ValuationDay 0 refused in (sym (p .0), sym (p .1));
         preview = λ r out. refused-by-append s used day r out ValuationDay 0 (append-refused r);
         append = λ r. (rw (append-refused r), refused-append s used day r ValuationDay 0 (append-refused r) .0);
         strike = λ position. (rw (strike-refused position), refused-strike s used day position ValuationDay 0 (strike-refused position) .0);

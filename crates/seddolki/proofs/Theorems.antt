@@ -8,11 +8,11 @@ use Rattle.ground.specs.declared.Ground.{Ground}
 use Rattle.ground.specs.declared.Ground.the-variants.{Length, Check, Place, Header, Curve, Node, TradeBlock, Form, Days, Amounts, Currency, FlowLimit, ReportSpace, Position, BookSpace, ValueRange, CurveEnd, RateRange, ValuationDay}
 use Rattle.ground.specs.declared.Verdict.{Verdict}
 use Rattle.ground.specs.declared.Verdict.the-variants as verdict
+use Rattle.ground.specs.declared.Written.{Written}
+use Rattle.ground.specs.declared.Written.the-variants as written
 use Rattle.discount.specs.declared.entry.Valued.{Valued}
 use Rattle.discount.specs.declared.entry.Valued.the-variants as valued
-use Rattle.edit.specs.declared.Edited.{Edited}
-use Rattle.edit.specs.declared.Edited.the-variants as edited
-use Rattle.seddolki.specs.Answers.{verdictAnswer, editedAnswer, valuedAnswer, valuedTolerance}
+use Rattle.seddolki.specs.Answers.{verdictAnswer, writtenAnswer, valuedAnswer, valuedTolerance}
 
 pub number-above-zero : (g : Ground) → 0 < numberOf g
 number-above-zero Length = lit< tt
@@ -39,9 +39,9 @@ pub done-accepted : (v : Verdict) → verdictAnswer v .number ≡ 0 → v ≡ ve
 done-accepted verdict.Accepted done = refl
 done-accepted (verdict.Refused g block) done = absurd (omega (arith, number-above-zero g))
 
-pub done-used : (e : Edited) → editedAnswer e .number ≡ 0 → e ≡ edited.Used (editedAnswer e .value)
-done-used (edited.Used used) done = refl
-done-used (edited.Refused g block) done = absurd (omega (arith, number-above-zero g))
+pub done-used : (w : Written) → writtenAnswer w .number ≡ 0 → w ≡ written.Length (writtenAnswer w .value)
+done-used (written.Length n) done = refl
+done-used (written.Refused g block) done = absurd (omega (arith, number-above-zero g))
 
 pub done-worth : (v : Valued) → valuedAnswer v .number ≡ 0 → v ≡ valued.Worth (valuedAnswer v .value) (valuedTolerance v)
 done-worth (valued.Worth value tolerance) done = refl

@@ -4,10 +4,10 @@ use Rattle.ground.specs.Number.{numberOf}
 use Rattle.ground.specs.declared.Ground.{Ground}
 use Rattle.ground.specs.declared.Verdict.{Verdict}
 use Rattle.ground.specs.declared.Verdict.the-variants as verdict
+use Rattle.ground.specs.declared.Written.{Written}
+use Rattle.ground.specs.declared.Written.the-variants as written
 use Rattle.discount.specs.declared.entry.Valued.{Valued}
 use Rattle.discount.specs.declared.entry.Valued.the-variants as valued
-use Rattle.edit.specs.declared.Edited.{Edited}
-use Rattle.edit.specs.declared.Edited.the-variants as edited
 use Rattle.seddolki.specs.declared.Answer.{Answer}
 
 -- number 0, which no ground has, and the result
@@ -23,10 +23,10 @@ abbrev pub verdictAnswer : Verdict → Answer
 verdictAnswer verdict.Accepted = doneAnswer 0
 verdictAnswer (verdict.Refused g block) = refused g block
 
--- "Append and strike return the new used length."
-abbrev pub editedAnswer : Edited → Answer
-editedAnswer (edited.Used used) = doneAnswer used
-editedAnswer (edited.Refused g block) = refused g block
+-- "Append and strike return the new used length."; of a statement "the page's length is returned"
+abbrev pub writtenAnswer : Written → Answer
+writtenAnswer (written.Length n) = doneAnswer n
+writtenAnswer (written.Refused g block) = refused g block
 
 -- "Another entry gives one present value and its tolerance.": the value is in the answer
 abbrev pub valuedAnswer : Valued → Answer

@@ -1,11 +1,11 @@
 // The answers of the entries as numbers.
 use super::Answer;
 use discount::entry::Valued;
-use edit::Edited;
 use ground::Ground;
 use ground::Verdict;
+use ground::Written;
 ghost use mathlib.Core.Path.{_≡_};
-ghost use Rattle.seddolki.specs.Answers.{doneAnswer, refused, verdictAnswer, editedAnswer, valuedAnswer, valuedTolerance};
+ghost use Rattle.seddolki.specs.Answers.{doneAnswer, refused, verdictAnswer, writtenAnswer, valuedAnswer, valuedTolerance};
 
 fn done_answer(value: u64) -> Answer
     ensures { λ r. ⌜ r ≡ doneAnswer value ⌝ }
@@ -34,12 +34,12 @@ pub fn verdict_answer(v: Verdict) -> Answer
     }
 }
 
-pub fn edited_answer(e: Edited) -> Answer
-    ensures { λ r. ⌜ r ≡ editedAnswer e ⌝ }
+pub fn written_answer(w: Written) -> Answer
+    ensures { λ r. ⌜ r ≡ writtenAnswer w ⌝ }
 {
-    match e {
-        Edited::Used(n) => done_answer(n as u64),
-        Edited::Refused(g, k) => refused(g, k),
+    match w {
+        Written::Length(n) => done_answer(n as u64),
+        Written::Refused(g, k) => refused(g, k),
     }
 }
 

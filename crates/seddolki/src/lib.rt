@@ -3,10 +3,10 @@
 mod answers;
 
 use acceptance::Today;
-use answers::edited_answer;
 use answers::valued_answer;
 use answers::valued_tolerance;
 use answers::verdict_answer;
+use answers::written_answer;
 use bootstrap::Quote;
 ghost use mathlib.Core.Path.{_≡_};
 ghost use lib.ListN.{length};
@@ -20,7 +20,8 @@ ghost use Rattle.edit.specs.Edits.{found, appendAnswer, appended, strikeAnswer,
 ghost use Rattle.preview.specs.Preview.{previewVerdict, previewBytes};
 ghost use Rattle.report.specs.Bounded.{Bounded};
 ghost use Rattle.report.specs.Entry.{marginVerdict, marginBytes};
-ghost use Rattle.seddolki.specs.Answers.{verdictAnswer, editedAnswer, valuedAnswer, valuedTolerance};
+ghost use Rattle.statement.specs.Entry.{statementAnswer, statementBytes};
+ghost use Rattle.seddolki.specs.Answers.{verdictAnswer, writtenAnswer, valuedAnswer, valuedTolerance};
 
 // Number 0 is done, and the value is the result; any other number is the ground of refusal, and the value is the block.
 #[repr(C)]
@@ -45,6 +46,15 @@ pub extern "C" fn seddolki_margin(book: &[u8], used: usize, day: u32, report: &m
     ensures { λ r. ⌜ (r .number ≡ 0 → Bounded (now (book .entry)) (now (report .exit))) ⌝ }
 {
     verdict_answer(report::margin(book, used, day as u64, report))
+}
+
+// Writes the page of a book into the first bytes of the space lent for it; the value is its length. A refused call writes nothing.
+#[no_mangle]
+pub extern "C" fn seddolki_statement(book: &[u8], used: usize, day: u32, page: &mut [u8]) -> Answer
+    ensures { λ r. ⌜ r ≡ writtenAnswer (statementAnswer (now (book .entry)) used day (length (now (page .entry)))) ⌝ }
+    ensures { λ _. ⌜ now (page .exit) ≡ statementBytes (now (book .entry)) used day (now (page .entry)) ⌝ }
+{
+    written_answer(statement::statement(book, used, day as u64, page))
 }
 
 // Writes the report of a book's margin as it would be after the append of a record; the book is not written.
@@ -72,20 +82,20 @@ pub extern "C" fn seddolki_append(
     day: u32,
     record: &[u8; 56],
 ) -> Answer
-    ensures { λ r. ⌜ r ≡ editedAnswer (appendAnswer (now (book .entry)) used day (now («record» .entry))) ⌝ }
+    ensures { λ r. ⌜ r ≡ writtenAnswer (appendAnswer (now (book .entry)) used day (now («record» .entry))) ⌝ }
     ensures { λ _. ⌜ now (book .exit) ≡ appended (now (book .entry)) used day (now («record» .entry)) ⌝ }
 {
     let bytes = *record;
-    edited_answer(edit::append(book, used, day as u64, bytes))
+    written_answer(edit::append(book, used, day as u64, bytes))
 }
 
 // Strikes the record at a position; the value is the new used length.
 #[no_mangle]
 pub extern "C" fn seddolki_strike(book: &mut [u8], used: usize, day: u32, position: usize) -> Answer
-    ensures { λ r. ⌜ r ≡ editedAnswer (strikeAnswer (now (book .entry)) used day position) ⌝ }
+    ensures { λ r. ⌜ r ≡ writtenAnswer (strikeAnswer (now (book .entry)) used day position) ⌝ }
     ensures { λ _. ⌜ now (book .exit) ≡ struck (now (book .entry)) used day position ⌝ }
 {
-    edited_answer(edit::strike(book, used, day as u64, position))
+    written_answer(edit::strike(book, used, day as u64, position))
 }
 
 // What a desk gives, its components as numbers of 64 bits.

@@ -4,7 +4,6 @@ use mathlib.Core.Logic.{_⊎_, inl, inr}
 use mathlib.Core.Bool.{Bool, true, false, cond}
 use mathlib.Core.List.{List, _++_}
 use Prim.Native.Nat.{ℕ, _+_, _-_, _*_, _/_, _%_, _≤_, _<_}
-use native.Mathlib.Decide.{decLt}
 use native.Mathlib.Omega.{arith}
 use lib.Dec.{eqb}
 use lib.ListN.{length, set, take, drop, replicate, length-take, length-set, length-replicate, getD-replicate}
@@ -17,7 +16,7 @@ use Rattle.layout.proofs.Bytes.{length-put, byte-apart, byte-put, length-part, 
 use Rattle.layout.proofs.Sealed.{length-sealed}
 use Rattle.book.specs.Parts.{blockAt, curveCount, tradeBlocks}
 use Rattle.book.specs.Encode.{blocksFor}
-use Rattle.book.proofs.Places.{block-put}
+use Rattle.book.proofs.Places.{block-put, block-apart}
 use Rattle.trade_edit.specs.Blocks.{withRecord, bareBlock, withTradeBlocks, lengthened, placeOf, recordMoved, endOf, cutBack, blockSealed}
 
 -- ---- lengths
@@ -52,11 +51,8 @@ module _ (f : List ℕ → List ℕ) (same : (b : List ℕ) → length (f b) ≡
     byte-kept m (inr l) = byte-apart s (k * 512) (f (blockAt s k)) m (inr (omega (arith, same (blockAt s k), length-take 512 (drop (k * 512) s))))
 
     pub block-kept : (j : ℕ) → (j ≡ k → ⊥) → blockAt (onBlock f s (k * 512)) j ≡ blockAt s j
-    block-kept j other = part-kept (onBlock f s (k * 512)) s (j * 512) 512 (length-onBlock f s (k * 512)) (λ m l h. byte-kept m (side m l h (decLt j k)))
-      where
-        side : (m : ℕ) → j * 512 ≤ m → m < j * 512 + 512 → Dec (j < k) → (m < k * 512) ⊎ (k * 512 + 512 ≤ m)
-        side m l h (yes b) = inl (omega arith)
-        side m l h (no b) = inr (omega arith)
+    unfolding onBlock
+    block-kept j other = block-apart s k (f (blockAt s k)) (omega (arith, same (blockAt s k), length-take 512 (drop (k * 512) s))) j other
 
 -- ---- a new block behind the book
 

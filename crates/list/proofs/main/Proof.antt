@@ -2,7 +2,7 @@
 use mathlib.Core.Path.{sym}
 use lib.Seq.{length-take-le}
 use borrow.Author.Needs.{needs}
-use Rattle.account_list.proofs.Fitting.{length-listed, never-refused}
+use Rattle.account_list.proofs.Sufficing.{length-listed, never-refused}
 use Rattle.list.proofs.main.Statement.{statement}
 use Rattle.list.proofs.main.Tie as tie
 
@@ -10,7 +10,7 @@ array-share-prefix-text : tie.Need-array-share-prefix-text
 array-share-prefix-text c =
     let known = c .before in
     let listed = known .before .before .before in
-    let n = length-listed _ _ (listed .list-text .ensures .0) (search needs) (known .listed .given .1) in
+    let n = length-listed _ _ _ (listed .list-text .ensures .0) (search needs) (known .written .given .1) in
     search needs
 
 -- the text's first bytes, as many as list_text answers
@@ -20,7 +20,7 @@ slice-aggregate-write-all c = let fits = array-share-prefix-text (c .before) in 
 refused-requires : tie.Need-refused-requires
 refused-requires c κs =
     let listed = c .before .before .before in
-    never-refused _ _ (listed .list-text .ensures .0) (search needs) (c .enum-told .given .1)
+    never-refused _ _ _ (listed .list-text .ensures .0) (search needs) (c .enum-told .given .1)
 
 pub main-spec : {M : Type 1} → statement M
 main-spec =

@@ -3,9 +3,9 @@ use borrow.Author.Needs.{needs}
 use mir.Syntax.{w64}
 use mir.Val.{SFits}
 use Rattle.layout.proofs.Signed.{code-read}
-use Rattle.listing.specs.Text.{ascii}
+use Rattle.text.specs.Text.{ascii}
 use Rattle.listing.specs.Listing.{curveFigures}
-use Rattle.listing.proofs.Writing.{and-then}
+use Rattle.text.proofs.Writing.{and-then}
 use Rattle.listing.proofs.put_curve_figures.Statement.{statement}
 use Rattle.listing.proofs.put_curve_figures.Tie as tie
 

@@ -1,12 +1,12 @@
 -- `record::rules::coupon_days_fit` meets its contract.
 use mathlib.Core.Path.{_≡_, sym, _∙_}
 use mathlib.Core.Bool.{true, false, and-false}
-use Prim.Native.Nat.{_+_, _-_, _*_}
 use native.Mathlib.Omega.{arith}
 use lib.Dec.{leb}
 use borrow.Author.Needs.{needs}
 use borrow.Author.Tests.{leb-true, leb-false, lt-leb, not-true, not-false}
 use Rattle.ground.specs.Limits.{lastDay}
+use Rattle.record.specs.Uses.{lastPaymentDay}
 use Rattle.record.specs.Rules.{countsFit}
 use Rattle.record.proofs.Limits.{coupon-counts}
 use Rattle.record.proofs.rules.coupon_days_fit.Statement.{statement}
@@ -22,7 +22,7 @@ returns-2 c =
     let a = after-counts-fit .before .args in
     let e : leb (a .first) lastDay ≡ false = sym (c .before .in-reach .ensures) ∙ not-true _ (c .if2 .taken) in
     let l = leb-false (a .first) lastDay e in
-    rw (lt-leb (a .first + (a .payments - 1) * a .period) lastDay (omega arith), and-false)
+    rw (lt-leb (lastPaymentDay (a .first) (a .period) (a .payments)) lastDay (omega arith), and-false)
 
 module _ (c : tie.Else2) where
   counted : let count = c .before .before .before in countsFit (count .before .args .period) (count .before .args .payments) ≡ true
@@ -31,17 +31,15 @@ module _ (c : tie.Else2) where
   near : let count = c .before .before .before in leb (count .before .args .first) lastDay ≡ true
   near = sym (c .before .in-reach .ensures) ∙ not-false _ (c .if2 .left)
 
-span-requires : tie.Need-span-requires
-span-requires c κs = counted c
-
-add-in-reach : tie.Need-add-in-reach
-add-in-reach c =
-    let else1 = c .before .before .before in
+last-payment-day-requires : tie.Need-last-payment-day-requires
+last-payment-day-requires c κs =
+    let else1 = c .before .before in
     let a = else1 .before .before .args in
-    omega (arith, coupon-counts (a .period) (a .payments) (counted (c .before)) .span, leb-true (a .first) lastDay (near (c .before)))
+    let counts = coupon-counts (a .period) (a .payments) (counted c) in
+    (leb-true (a .first) lastDay (near c), (counts .apart .high, counts .some .high))
 
 returns-3 : tie.Need-returns-3
-returns-3 c = rw (counted (c .before .before), c .in-reach2 .ensures, c .before .span .ensures)
+returns-3 c = rw (counted (c .before .before), c .in-reach2 .ensures, c .before .last-payment-day .ensures)
 
 pub coupon-days-fit-spec : {M : Type 1} → statement M
 coupon-days-fit-spec =
@@ -51,7 +49,6 @@ coupon-days-fit-spec =
     returns
     (λ c κs. search needs)
     returns-2
-    span-requires
-    add-in-reach
+    last-payment-day-requires
     (λ c κs. search needs)
     returns-3)

@@ -1,0 +1,3 @@
+pub mod Page
+pub mod Limits
+pub mod PageRead

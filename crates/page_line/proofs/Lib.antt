@@ -1,0 +1,4 @@
+pub mod LineWritten
+pub mod Lengths
+pub mod LineRead
+pub mod Figures
