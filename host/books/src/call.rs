@@ -10,6 +10,7 @@ use crate::near_ties::{draw_near_ties, NearTies};
 use crate::preview::draw_preview;
 use crate::record::draw_record;
 use crate::record_damage::{damage_record, record_grounds};
+use crate::statement::draw_statement;
 use seddolki_model::accept::Book;
 use seddolki_model::block::{seal, valuation_day, BLOCK};
 use seddolki_model::layout::Layout;
@@ -47,6 +48,9 @@ pub enum Call {
     Bootstrap {
         quote: Quote,
     },
+    Statement {
+        page: Vec<u8>,
+    },
 }
 
 impl Call {
@@ -60,6 +64,7 @@ impl Call {
             Call::Read { .. } => "read",
             Call::PresentValue { .. } => "present value",
             Call::Bootstrap { .. } => "bootstrap",
+            Call::Statement { .. } => "statement",
         }
     }
 
@@ -112,6 +117,7 @@ impl Case {
                 tolerance,
             } => engine.present_value(*amount, *rate, *day, tolerance),
             Call::Bootstrap { quote } => engine.bootstrap(lent, used, day, quote),
+            Call::Statement { page } => engine.statement(lent, used, day, page),
         };
         Outcome { answer, after }
     }
@@ -206,7 +212,7 @@ fn draw_noise(draw: &mut Draw) -> Vec<u8> {
 }
 
 pub(crate) fn draw_call(draw: &mut Draw, book: &Book) -> Call {
-    match draw.within(0..=7) {
+    match draw.within(0..=8) {
         0 => Call::Check,
         1 => Call::Margin {
             report: draw_report_space(draw),
@@ -223,6 +229,7 @@ pub(crate) fn draw_call(draw: &mut Draw, book: &Book) -> Call {
         },
         5 => draw_present_value(draw),
         6 => draw_preview(draw, book),
+        7 => draw_statement(draw, book),
         _ => draw_bootstrap(draw, book),
     }
 }

@@ -65,6 +65,7 @@ impl DayCase {
         let quote: BTreeSet<Ground> = QuoteDamage::ALL.map(QuoteDamage::ground).into();
         [
             ("margin", vec![space]),
+            ("statement", vec![space]),
             ("preview", preview),
             ("append", append),
             ("strike", vec![Besides::Asked(Ground::Position)]),

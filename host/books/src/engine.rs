@@ -3,7 +3,7 @@
 use seddolki_model::record::RECORD;
 use seddolki_model::{Answer, Date, Quote};
 
-/// The eight calls, so that two engines can be given the same case.
+/// The nine calls, so that two engines can be given the same case.
 pub trait Engine {
     fn check(&self, book: &[u8], used: usize) -> Answer;
     fn margin(&self, book: &[u8], used: usize, day: Date, report: &mut [u8]) -> Answer;
@@ -20,6 +20,7 @@ pub trait Engine {
     fn read(&self, book: &[u8], used: usize, position: usize, record: &mut [u8; RECORD]) -> Answer;
     fn present_value(&self, amount: u64, rate: u64, day: u64, tolerance: &mut u64) -> Answer;
     fn bootstrap(&self, book: &mut [u8], used: usize, day: Date, quote: &Quote) -> Answer;
+    fn statement(&self, book: &[u8], used: usize, day: Date, page: &mut [u8]) -> Answer;
 }
 
 /// The second implementation.
@@ -63,5 +64,9 @@ impl Engine for Model {
 
     fn bootstrap(&self, book: &mut [u8], used: usize, day: Date, quote: &Quote) -> Answer {
         seddolki_model::bootstrap(book, used, day, quote)
+    }
+
+    fn statement(&self, book: &[u8], used: usize, day: Date, page: &mut [u8]) -> Answer {
+        seddolki_model::statement(book, used, day, page)
     }
 }

@@ -15,6 +15,25 @@ use seddolki_model::units::ONE;
 use seddolki_model::Ground;
 use std::ops::RangeInclusive;
 
+/// Kind, phase, side and security of every form that a trade can have.
+pub fn forms() -> impl Iterator<Item = Record> {
+    TABLE.iter().flat_map(|&(kind, phase, side, _)| {
+        let form = Record {
+            kind,
+            phase,
+            side,
+            ..Record::default()
+        };
+        form.securities()
+            .map(move |security| Record { security, ..form })
+    })
+}
+
+/// The same of a trade.
+pub fn form_of(record: &Record) -> (u8, u8, u8, u8) {
+    (record.kind, record.phase, record.side, record.security)
+}
+
 /// A record that a book with these curves accepts, with at most so many
 /// payments. A repo's security pays in each way equally often.
 pub fn draw_record(draw: &mut Draw, curves: &[Curve], most_payments: u64) -> Record {

@@ -1,6 +1,7 @@
 //! What the payments of a repo's security come to.
 
-use seddolki_model::flows::{payments, TABLE};
+use crate::record::forms;
+use seddolki_model::flows::payments;
 use seddolki_model::limits::MAX_AMOUNT;
 use seddolki_model::record::{Record, POOL, SECOND_SIDE, SINGLE_PAYMENT, SPECIFIED};
 use seddolki_model::Ground;
@@ -121,16 +122,7 @@ pub struct RepoCase {
 impl RepoCase {
     /// All that there are.
     pub fn all() -> impl Iterator<Item = Self> {
-        let forms = TABLE.iter().map(|&(kind, phase, side, _)| Record {
-            kind,
-            phase,
-            side,
-            ..Record::default()
-        });
-        let repos = forms.filter(Record::is_repo).flat_map(|form| {
-            let with = move |security| Record { security, ..form };
-            form.securities().map(with).filter(Record::has_security)
-        });
+        let repos = forms().filter(|form| form.is_repo() && form.has_security());
         repos.flat_map(|repo| {
             let all = Seen::all(repo.security).into_iter();
             all.map(move |seen| Self::new(&repo, seen))

@@ -106,13 +106,13 @@ fn drawn_calls_reach_every_ground_and_refusals_write_nothing() {
 #[test]
 fn drawn_calls_are_done_by_each_call() {
     let mut done = BTreeMap::new();
-    for seed in 0..2_000 {
+    for seed in 0..3_000 {
         let outcome = draw_case(&mut Draw::new(seed), WORK).run(&Model);
         if outcome.answer.number == 0 {
             *done.entry(outcome.after.call.name()).or_insert(0) += 1;
         }
     }
-    assert_eq!(done.len(), 8);
+    assert_eq!(done.len(), 9);
     assert!(done.values().all(|&count| count >= 20), "{done:?}");
 }
 

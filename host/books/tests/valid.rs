@@ -1,11 +1,13 @@
 //! The drawn books are accepted and reach what they are meant to reach.
 
-use seddolki_books::{assemble, draw_book, full_book, small_book, typical_book, Draw};
+use seddolki_books::{
+    assemble, draw_book, form_of, forms, full_book, small_book, typical_book, Draw,
+};
 use seddolki_model::accept::{accept, Book};
 use seddolki_model::answer::Answer;
 use seddolki_model::block::BLOCK;
 use seddolki_model::check;
-use seddolki_model::flows::{cash_flows, CashFlow, TABLE};
+use seddolki_model::flows::{cash_flows, CashFlow};
 use seddolki_model::limits::{FULL_BLOCK, MAX_AMOUNT, MAX_BLOCKS, MAX_DAY, MAX_RATE};
 use seddolki_model::record::Record;
 use seddolki_model::scenario::scenarios;
@@ -42,22 +44,11 @@ fn the_same_seed_gives_the_same_book() {
 
 #[test]
 fn every_combination_is_used_with_each_security() {
-    let combination = |r: &Record| (r.kind, r.phase, r.side, r.security);
     let used: BTreeSet<_> = (0..SEEDS)
         .flat_map(|seed| book(seed).trades)
-        .map(|record| combination(&record))
+        .map(|record| form_of(&record))
         .collect();
-    for (kind, phase, side, _) in TABLE {
-        let trade = Record {
-            kind,
-            phase,
-            side,
-            ..Record::default()
-        };
-        for security in trade.securities() {
-            assert!(used.contains(&(kind, phase, side, security)));
-        }
-    }
+    assert!(forms().all(|form| used.contains(&form_of(&form))));
 }
 
 /// Counts the books that have what is asked.

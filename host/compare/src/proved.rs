@@ -47,4 +47,8 @@ impl Engine for Proved {
     fn bootstrap(&self, book: &mut [u8], used: usize, day: Date, quote: &Quote) -> Answer {
         lent::bootstrap(book, used, day, quote)
     }
+
+    fn statement(&self, book: &[u8], used: usize, day: Date, page: &mut [u8]) -> Answer {
+        lent::statement(book, used, day, page)
+    }
 }

@@ -34,6 +34,7 @@ fn lent_bytes(case: &Case) -> Vec<u8> {
         Call::Preview { record, report } => [&record[..], report].concat(),
         Call::Read { record, .. } => record.to_vec(),
         Call::PresentValue { tolerance, .. } => tolerance.to_le_bytes().to_vec(),
+        Call::Statement { page } => page.clone(),
         _ => vec![],
     };
     [&case.lent[..], &beside].concat()

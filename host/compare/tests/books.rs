@@ -1,13 +1,13 @@
 //! Whole books, and the same books spoiled for every ground.
 
 use seddolki_books::{
-    assemble, assert_demand_3, book_grounds, damage_book, draw_book, draw_day, near_tie_book,
-    small_book, typical_book, zero_component_book, Call, Case, Draw,
+    assemble, assert_demand_3, book_grounds, damage_book, draw_book, draw_day, form_of, forms,
+    near_tie_book, small_book, typical_book, zero_component_book, Call, Case, Draw,
 };
 use seddolki_compare::{assert_alike, books, is_whole, margin_case, whole_case, Proved, Seeds};
 use seddolki_model::accept::{accept_on, Book};
 use seddolki_model::block::{Node, BLOCK};
-use seddolki_model::flows::{cash_flows, signs_of, TABLE};
+use seddolki_model::flows::{cash_flows, signs_of};
 use seddolki_model::layout::Layout;
 use seddolki_model::limits::{MAX_AMOUNT, MAX_BLOCKS, MAX_DAY, MAX_RATE, MAX_STEPS, NODES};
 use seddolki_model::record::Record;
@@ -32,8 +32,7 @@ struct Reached {
 impl Reached {
     fn add(&mut self, book: &Book) {
         for trade in &book.trades {
-            self.forms
-                .insert((trade.kind, trade.phase, trade.side, trade.security));
+            self.forms.insert(form_of(trade));
             self.add_flows(trade);
         }
         let blocks = assemble(book).len() / BLOCK;
@@ -88,17 +87,10 @@ impl Reached {
     }
 
     fn assert_all(&self) {
-        for (kind, phase, side, _) in TABLE {
-            assert!(self.with_flows.contains(&(kind, phase, side)));
-            let trade = Record {
-                kind,
-                phase,
-                side,
-                ..Record::default()
-            };
-            for security in trade.securities() {
-                assert!(self.forms.contains(&(kind, phase, side, security)));
-            }
+        for form in forms() {
+            let with_flows = (form.kind, form.phase, form.side);
+            assert!(self.with_flows.contains(&with_flows));
+            assert!(self.forms.contains(&form_of(&form)));
         }
         assert_eq!(self.boundaries.len(), 17, "{:?}", self.boundaries);
     }

@@ -25,6 +25,6 @@ fn calls_answer_and_leave_the_same_and_reach_every_ground() {
         for ground in Ground::ALL {
             assert!(answered.contains_key(&ground.number()), "{ground:?}");
         }
-        assert_eq!(done.len(), 8, "{done:?}");
+        assert_eq!(done.len(), 9, "{done:?}");
     }
 }

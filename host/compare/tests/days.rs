@@ -14,7 +14,14 @@ use seddolki_model::Ground;
 const WORK: usize = 300;
 
 /// The calls that are given a day.
-const CALLS: [&str; 5] = ["margin", "preview", "append", "strike", "bootstrap"];
+const CALLS: [&str; 6] = [
+    "margin",
+    "preview",
+    "append",
+    "strike",
+    "bootstrap",
+    "statement",
+];
 
 #[test]
 fn another_day_is_refused_alike_in_every_case_and_nothing_is_written() {

@@ -6,6 +6,7 @@ use seddolki_model::block::{Curve, BLOCK};
 use seddolki_model::bootstrap::bond_value;
 use seddolki_model::layout::Layout;
 use seddolki_model::limits::{MAX_BLOCKS, PAYMENTS};
+use seddolki_model::page::PAGE;
 use seddolki_model::quote::{bond_of, Quote};
 use seddolki_model::record::{Record, RECORD};
 use std::thread;
@@ -51,6 +52,9 @@ fn every_call_on_a_full_book_keeps_to_its_stack() {
             day: 10_949,
             tolerance: 0,
         },
+        Call::Statement {
+            page: vec![0; PAGE],
+        },
     ] {
         let number = number(long_book(), call);
         assert!(number == 0 || number == 8, "{number}");
@@ -75,6 +79,15 @@ fn a_preview_of_all_scenarios_keeps_to_its_stack() {
         };
         assert_eq!(number(assemble(&book), call), 0);
     }
+}
+
+#[test]
+fn a_statement_of_all_scenarios_keeps_to_its_stack() {
+    let page = vec![0; PAGE];
+    assert_eq!(
+        number(assemble(&typical_book()), Call::Statement { page }),
+        0
+    );
 }
 
 /// For the first curve, with as many payments as a bond can have.

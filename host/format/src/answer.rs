@@ -121,7 +121,7 @@ impl Ground {
             }
             Ground::Currency => "the security curve and the cash curve differ in currency",
             Ground::FlowLimit => "a cash flow of the trade exceeds 10,000,000,000.00",
-            Ground::ReportSpace => "the report space is under 512 bytes",
+            Ground::ReportSpace => "the report space is under 512 bytes, or the page does not fit",
             Ground::Position => "no trade has that position",
             Ground::BookSpace => {
                 "a new block is needed, and the book has 128 or the lent bytes end too early"

@@ -1,5 +1,5 @@
-//! The eight calls over lent bytes. Those that change a book or work out its
-//! margin are given the day that it is to be for.
+//! The nine calls over lent bytes. Those that change a book, work out its
+//! margin or write its statement are given the day that it is to be for.
 
 use crate::accept::{accept, accept_on, Book};
 use crate::answer::{Answer, Ground, Refusal};
@@ -14,6 +14,7 @@ use crate::margin::report;
 use crate::quote::Quote;
 use crate::record::{Record, RECORD};
 use crate::rules::{accept_quote, accept_record};
+use crate::statement::page;
 
 /// Whether the book is accepted.
 pub fn check(book: &[u8], used: usize) -> Answer {
@@ -30,9 +31,28 @@ fn try_margin(lent: &[u8], used: usize, day: Date, space: &mut [u8]) -> Result<u
 }
 
 fn write_report(book: &Book, space: &mut [u8]) -> Result<u64, Refusal> {
-    let block = space.get_mut(..BLOCK).ok_or(Ground::ReportSpace.alone())?;
-    block.copy_from_slice(&sealed(&report(book)));
+    write(&sealed(&report(book)), space)?;
     Ok(0)
+}
+
+/// Writes to the first bytes of a space, if all that is to be written fits.
+fn write(bytes: &[u8], space: &mut [u8]) -> Result<(), Refusal> {
+    let first = space.get_mut(..bytes.len());
+    first
+        .ok_or(Ground::ReportSpace.alone())?
+        .copy_from_slice(bytes);
+    Ok(())
+}
+
+/// Writes the account statement; the value is the page's length.
+pub fn statement(book: &[u8], used: usize, day: Date, page: &mut [u8]) -> Answer {
+    try_statement(book, used, day, page).into()
+}
+
+fn try_statement(lent: &[u8], used: usize, day: Date, space: &mut [u8]) -> Result<u64, Refusal> {
+    let page = page(&accept_on(lent, used, day)?);
+    write(page.as_bytes(), space)?;
+    Ok(page.len() as u64)
 }
 
 /// Fills the report's first block as it would be after an append. The trade

@@ -142,7 +142,9 @@ fn advice(ground: Ground) -> &'static str {
         Ground::FlowLimit => {
             "correct the amount, price, rate, coupon or indices, or enter the trade in parts"
         }
-        Ground::ReportSpace => "lend the bytes of a block for the report",
+        Ground::ReportSpace => {
+            "lend the bytes of a block for the report, or those of all its lines for the page"
+        }
         Ground::Position => "positions are counted from 0, in the order of the trades",
         Ground::BookSpace => {
             "strike trades or begin another book; a caller in C may lend more bytes"

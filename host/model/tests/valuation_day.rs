@@ -5,9 +5,10 @@ mod samples;
 use samples::single_payment;
 use seddolki_model::block::{assemble, seal, Curve, Node, BLOCK, CURVE};
 use seddolki_model::layout::Layout;
+use seddolki_model::page::LINE;
 use seddolki_model::quote::bond_of;
 use seddolki_model::record::{Record, RECORD};
-use seddolki_model::{append, bootstrap, check, list, margin, preview, read, strike};
+use seddolki_model::{append, bootstrap, check, list, margin, preview, read, statement, strike};
 use seddolki_model::{Answer, Date, Ground, Quote};
 
 /// The first, the last, and days that fill one byte to four.
@@ -59,6 +60,9 @@ fn book(days: u32) -> Vec<u8> {
     )
 }
 
+/// Bytes of its page: a title, ten trades, a curve and a currency.
+const PAGE_LENGTH: usize = (1 + 10 + 1 + 1) * LINE;
+
 fn done(value: usize) -> Answer {
     Ok(value as u64).into()
 }
@@ -76,17 +80,19 @@ fn on_copy(lent: &[u8], call: impl FnOnce(&mut [u8]) -> Answer) -> Answer {
     answer
 }
 
-/// What the five calls that are given a day answer.
-fn answers(book: &[u8], day: Date, asked: &Asked) -> [Answer; 5] {
+/// What the six calls that are given a day answer.
+fn answers(book: &[u8], day: Date, asked: &Asked) -> [Answer; 6] {
     let used = book.len();
     let record = asked.record.to_bytes();
     let space = vec![7; asked.space];
+    let page = vec![7; asked.page];
     [
         on_copy(&space, |space| margin(book, used, day, space)),
         on_copy(&space, |space| preview(book, used, day, &record, space)),
         on_copy(book, |book| append(book, used, day, &record)),
         on_copy(book, |book| strike(book, used, day, asked.position)),
         on_copy(book, |book| bootstrap(book, used, day, &asked.quote)),
+        on_copy(&page, |page| statement(book, used, day, page)),
     ]
 }
 
@@ -96,6 +102,7 @@ struct Asked {
     position: usize,
     quote: Quote,
     space: usize,
+    page: usize,
 }
 
 /// What each call takes.
@@ -105,6 +112,7 @@ fn right() -> Asked {
         position: 9,
         quote: quote(),
         space: BLOCK,
+        page: PAGE_LENGTH,
     }
 }
 
@@ -115,6 +123,7 @@ fn wrong() -> Asked {
         position: 10,
         quote: Quote::default(),
         space: BLOCK - 1,
+        page: PAGE_LENGTH - 1,
     }
 }
 
@@ -127,7 +136,7 @@ fn the_day_stands_in_bytes_12_to_15_and_may_be_any() {
         assert_eq!(bytes, book(days));
         assert_eq!(check(&bytes, bytes.len()), done(0));
         let used = bytes.len();
-        let due = [0, 0, used, used - BLOCK, 0].map(done);
+        let due = [0, 0, used, used - BLOCK, 0, PAGE_LENGTH].map(done);
         assert_eq!(answers(&bytes, Date::from_days(days), &right()), due);
     }
 }
@@ -151,7 +160,7 @@ fn a_day_that_differs_in_any_bit_is_refused_before_what_is_asked() {
             let day = Date::from_days(days ^ 1 << bit);
             for asked in [right(), wrong()] {
                 let answers = answers(&book(days), day, &asked);
-                assert_eq!(answers, [another_day(); 5], "{days} on {day}");
+                assert_eq!(answers, [another_day(); 6], "{days} on {day}");
             }
         }
     }
@@ -161,7 +170,7 @@ fn a_day_that_differs_in_any_bit_is_refused_before_what_is_asked() {
 fn what_is_asked_is_looked_at_on_the_day_of_the_book() {
     let day = Date::from_days(9_815);
     let grounds = answers(&book(9_815), day, &wrong()).map(|answer| answer.number);
-    assert_eq!(grounds, [13, 8, 8, 14, 8]);
+    assert_eq!(grounds, [13, 8, 8, 14, 8, 13]);
 }
 
 #[test]
@@ -182,10 +191,10 @@ fn every_block_is_looked_at_before_the_day() {
         let number = at / BLOCK;
         seal(&mut bytes[number * BLOCK..][..BLOCK]);
         let due = Err(ground.in_block(number)).into();
-        assert_eq!(answers(&bytes, day, &right()), [due; 5]);
+        assert_eq!(answers(&bytes, day, &right()), [due; 6]);
         bytes[at] ^= 1;
         let due = Err(Ground::Check.in_block(number)).into();
-        assert_eq!(answers(&bytes, day, &right()), [due; 5]);
+        assert_eq!(answers(&bytes, day, &right()), [due; 6]);
     }
 }
 
