@@ -25,8 +25,8 @@ static uint64_t print_call(const char *name, const uint64_t times[ANSWERS]) {
 }
 
 __attribute__((destructor)) static void print_answers(void) {
-    static const char *names[CALLS] = {"check",  "margin", "append",        "preview",
-                                       "strike", "read",   "present value", "bootstrap"};
+    static const char *names[CALLS] = {"check", "margin",        "append",    "preview",  "strike",
+                                       "read",  "present value", "bootstrap", "statement"};
     uint64_t all = 0;
     for (int call = 0; call < CALLS; call++) all += print_call(names[call], answers[call]);
     fprintf(stderr, "%llu calls\n", (unsigned long long)all);

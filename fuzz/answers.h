@@ -4,7 +4,7 @@
 
 #include "seddolki.h"
 
-enum { CHECK, MARGIN, APPEND, PREVIEW, STRIKE, READ, PRESENT_VALUE, BOOTSTRAP, CALLS };
+enum { CHECK, MARGIN, APPEND, PREVIEW, STRIKE, READ, PRESENT_VALUE, BOOTSTRAP, STATEMENT, CALLS };
 
 /* The one call that is tried beside the check; every one where none is named. */
 #ifndef ALONE

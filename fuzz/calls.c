@@ -1,5 +1,5 @@
 /*
- * The eight calls on any bytes. Whatever a call promises of the lent bytes is
+ * The nine calls on any bytes. Whatever a call promises of the lent bytes is
  * looked at after it.
  */
 #include "calls.h"
@@ -100,7 +100,7 @@ static input parse(const uint8_t *data, size_t size) {
     input in = {.head = head, .lent = data + HEAD, .len = size - HEAD};
     in.record = (const uint8_t *)&head->record;
     in.position = seddolki_get_u32(&head->position);
-    in.report_len = seddolki_get_u16(&head->report_len) % PAINTED_MOST;
+    in.report_len = seddolki_get_u16(&head->report_len) % SPACE_MOST;
     in.filled = seddolki_get_u16(&head->filled);
     in.used = in.len - seddolki_get_u32(&head->behind);
     in.day = valuation_day(in.lent, in.len) ^ seddolki_get_u32(&head->days_apart);
@@ -111,7 +111,7 @@ static void try_calls(const input *in, seddolki_answer checked) {
     static try_call *const tries[CALLS] = {
         [MARGIN] = try_margin,       [APPEND] = try_append, [PREVIEW] = try_preview,
         [STRIKE] = try_strike,       [READ] = try_read,     [PRESENT_VALUE] = try_present_value,
-        [BOOTSTRAP] = try_bootstrap,
+        [BOOTSTRAP] = try_bootstrap, [STATEMENT] = try_statement,
     };
     seddolki_answer on_day = due_on_day(in, checked);
     for (int call = CHECK + 1; call < CALLS; call++)

@@ -57,7 +57,13 @@ const seddolki_record *trade_at(const seddolki_block *trade_blocks, size_t posit
     return &block->places[position % SEDDOLKI_FULL_BLOCK];
 }
 
-int is_quick(const uint8_t *book, size_t used) {
+int has_currency(const uint8_t *book, uint8_t currency) {
+    for (size_t id = 1; id <= curves_of(book); id++)
+        if (blocks_of(book)[id].curve.currency == currency) return 1;
+    return 0;
+}
+
+size_t work_of(const uint8_t *book, size_t used) {
     const seddolki_block *blocks = blocks_of(book);
     size_t curves = curves_of(book), flows = 0, scenarios = 0;
     for (size_t i = 1; i <= curves; i++) {
@@ -67,8 +73,10 @@ int is_quick(const uint8_t *book, size_t used) {
     for (size_t i = 1 + curves; i < used / SEDDOLKI_BLOCK; i++)
         for (size_t j = 0; j < blocks[i].trades.count; j++)
             flows += 2 + seddolki_get_u16(&blocks[i].trades.places[j].payments);
-    return (A_SCENARIO + flows) * scenarios < WORK;
+    return (A_SCENARIO + flows) * scenarios;
 }
+
+int is_quick(const uint8_t *book, size_t used) { return work_of(book, used) < WORK; }
 
 __attribute__((destructor)) static void print_repos(void) {
     static const char *words[] = {"not settled", "settled"};

@@ -14,7 +14,11 @@ const seddolki_block *trade_blocks_of(const uint8_t *book);
 /* The trade at a position of a book's blocks of trades. */
 const seddolki_record *trade_at(const seddolki_block *trade_blocks, size_t position);
 
-/* Whether a book's flows times scenarios are few. */
+/* Whether a curve has a currency. */
+int has_currency(const uint8_t *book, uint8_t currency);
+
+/* A book's flows times scenarios, and whether they are few. */
+size_t work_of(const uint8_t *book, size_t used);
 int is_quick(const uint8_t *book, size_t used);
 
 /* Guide the fuzzer to forms of trades, days of payments, numbers of curves and worst scenarios. */

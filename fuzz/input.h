@@ -12,7 +12,7 @@ typedef struct {
     seddolki_u64 day;                             /* 24 */
     seddolki_record record;                       /* 32 */
     seddolki_u16 report_len;                      /* 88: the length of the report space */
-    seddolki_u16 filled;                          /* 90: trades to fill the book with and strike */
+    seddolki_u16 filled;                          /* 90: trades to fill the book with */
     seddolki_u32 curve;                           /* 92: that the bond is to lengthen */
     seddolki_bond bond;                           /* 96 */
     seddolki_u64 cash;                            /* 116 */

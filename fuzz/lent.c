@@ -6,8 +6,9 @@
 #include <sys/mman.h>
 
 #define GUARD 4096
+#define PAINT 0xa5
 
-/* The end of a place: a page without access starts there. */
+/* The end of a place: a page of memory without access starts there. */
 static uint8_t *end_of(int place) {
     static uint8_t *ends[4];
     if (!ends[place]) {
@@ -25,15 +26,12 @@ uint8_t *lend(int place, const uint8_t *bytes, size_t len) {
     return start;
 }
 
-static const uint8_t *paint(void) {
-    static uint8_t painted[PAINTED_MOST];
-    if (!painted[0]) memset(painted, 0xa5, sizeof painted);
-    return painted;
+uint8_t *lend_painted(int place, size_t len) { return memset(end_of(place) - len, PAINT, len); }
+
+/* The first byte is paint, and each is as the one before. */
+int is_painted(const uint8_t *bytes, size_t len) {
+    return !len || (bytes[0] == PAINT && !memcmp(bytes, bytes + 1, len - 1));
 }
-
-uint8_t *lend_painted(int place, size_t len) { return lend(place, paint(), len); }
-
-int is_painted(const uint8_t *bytes, size_t len) { return !memcmp(bytes, paint(), len); }
 
 int all_zero(const uint8_t *bytes, size_t len) {
     for (size_t i = 0; i < len; i++)

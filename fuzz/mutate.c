@@ -3,7 +3,7 @@
  * of a book: one time in ten any bytes change, otherwise a field in its
  * place, a whole record, the days of its payments, the bond and its cash, the
  * day that the book is for or the current day, the position, or the lengths
- * that are lent. At times a book is to be filled with trades and struck.
+ * that are lent. At times a book is to be filled with trades.
  * The current day is that of the book most times. The length of the book, the
  * places of its blocks and their checks are then mended.
  */
@@ -164,8 +164,9 @@ static void move_position(uint8_t *data, size_t blocks, uint64_t *state) {
  */
 static void fill_at_times(uint8_t *data, uint64_t *state) {
     enum { MOST = (SEDDOLKI_MAX_BLOCKS - 2) * SEDDOLKI_FULL_BLOCK };
+    enum { TIMES = ALONE == STRIKE ? 1 : ALONE == STATEMENT ? 8 : 256 };
     size_t trades = 0;
-    if (ALONE == STRIKE || draw(state, 256) == 0) {
+    if (draw(state, TIMES) == 0) {
         switch (draw(state, 4)) {
         case 0: trades = MOST - draw(state, SEDDOLKI_MAX_CURVES * SEDDOLKI_FULL_BLOCK); break;
         case 1: trades = 1 + draw(state, 4 * SEDDOLKI_FULL_BLOCK); break;

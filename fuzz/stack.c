@@ -12,9 +12,10 @@
 #include <string.h>
 #include <sys/mman.h>
 
-enum { STACK = 4 << 20, PAINT = 0xa5, CALLS = 8 };
+enum { STACK = 4 << 20, PAINT = 0xa5, CALLS = 9 };
 
 static uint8_t book[SEDDOLKI_LARGEST_BOOK + SEDDOLKI_BLOCK], report[SEDDOLKI_BLOCK];
+static uint8_t page[SEDDOLKI_PAGE_SIZE];
 static size_t used;
 static uint32_t day;
 
@@ -82,6 +83,11 @@ static void *bootstrap_first(void *unused) {
     return unused;
 }
 
+static void *statement(void *unused) {
+    seddolki_statement(book, sizeof book, used, day, page, sizeof page);
+    return unused;
+}
+
 /* Bytes of the stack that a call has touched, the thread's own included. */
 static size_t touched(void *(*call)(void *)) {
     static uint8_t *stack;
@@ -115,11 +121,12 @@ static void load(const char *name) {
 }
 
 int main(int count, char **names) {
-    static const char *words[CALLS] = {"check",   "margin", "read",          "append",
-                                       "preview", "strike", "present value", "bootstrap"};
-    void *(*const calls[CALLS])(void *) = {check,         margin,         read_first,
-                                           append_it,     preview_first,  strike_first,
-                                           present_value, bootstrap_first};
+    static const char *words[CALLS] = {"check",         "margin",    "read",
+                                       "append",        "preview",   "strike",
+                                       "present value", "bootstrap", "statement"};
+    void *(*const calls[CALLS])(void *) = {check,         margin,          read_first,
+                                           append_it,     preview_first,   strike_first,
+                                           present_value, bootstrap_first, statement};
     size_t deepest[CALLS] = {0}, thread = touched(none);
     for (int i = 1; i < count; i++) {
         for (int call = 0; call < CALLS; call++) {

@@ -98,9 +98,9 @@ static size_t strike_on(const input *in, uint8_t *book) {
 
 /* Strikes the book of an input, filled as it asks, with painted bytes behind. */
 static void strike_filled(const input *in) {
-    static uint8_t before[SEDDOLKI_LARGEST_BOOK + PAINTED_MOST];
+    static uint8_t before[SEDDOLKI_LARGEST_BOOK + SPACE_MOST];
     input next = *in;
-    size_t behind = (in->len - in->used) % PAINTED_MOST, trades;
+    size_t behind = (in->len - in->used) % SPACE_MOST, trades;
     uint64_t state = (uint64_t)in->filled << 32 | in->position;
     next.lent = before;
     next.used = fill(before, in);

@@ -10,8 +10,8 @@
  *
  * A book is for one day, its valuation day: the header has it, in days since
  * 1 January 2000. The days of curves and trades are counted from there, so it
- * is day 0. Margin, preview, append, strike and bootstrap are given the
- * current day as `day`, in days since 1 January 2000 too, and refuse a book
+ * is day 0. Margin, preview, append, strike, bootstrap and statement are given
+ * the current day as `day`, in days since 1 January 2000 too, and refuse a book
  * that is for another day. Edits keep the day that the book has.
  *
  * Every function returns; none allocates, keeps a pointer, reads or writes a
@@ -41,14 +41,14 @@ extern "C" {
  * has. The next version may change the parameters of a function, or leave them
  * and change which books are accepted and what they mean. A program that says
  *
- *     #if SEDDOLKI_VERSION != 5
- *     #error "this program is written for version 5 of seddolki.h"
+ *     #if SEDDOLKI_VERSION != 6
+ *     #error "this program is written for version 6 of seddolki.h"
  *     #endif
  *
  * does not compile with another. The archive has no number: it is to be the
  * one that was made with the header.
  */
-#define SEDDOLKI_VERSION 5
+#define SEDDOLKI_VERSION 6
 
 /* Bytes of a block, and of a report. */
 #define SEDDOLKI_BLOCK 512
@@ -61,6 +61,12 @@ extern "C" {
 
 /* Bytes of a coupon bond. */
 #define SEDDOLKI_BOND 20
+
+/* Bytes of a statement's line, the line feed included. */
+#define SEDDOLKI_LINE_SIZE 81
+
+/* Bytes of the longest page of a statement, that of a full book with one curve. */
+#define SEDDOLKI_PAGE_SIZE 92097
 
 /*
  * The answer of a call.
@@ -109,7 +115,7 @@ enum {
     SEDDOLKI_CURRENCY = 11,
     /* A cash flow of the trade exceeds 10^12. */
     SEDDOLKI_FLOW_LIMIT = 12,
-    /* The space for the report is under 512 bytes. */
+    /* The space for the report is under 512 bytes, or the page does not fit. */
     SEDDOLKI_REPORT_SPACE = 13,
     /* No trade has that position. */
     SEDDOLKI_POSITION = 14,
@@ -218,6 +224,43 @@ seddolki_answer seddolki_present_value(uint64_t amount, uint64_t rate, uint64_t 
 seddolki_answer seddolki_bootstrap(uint8_t *book, size_t len, size_t used, uint32_t day,
                                    size_t curve, const uint8_t bond[SEDDOLKI_BOND], uint64_t cash,
                                    int32_t first, int32_t second, int32_t third);
+
+/*
+ * The account statement: a page to file with the book, on which are its trades
+ * and the figures of its margin. For document 01's example:
+ *
+ *     account 7
+ *     0 1 1 365                                                                1000.00
+ *     1 2 TRY                       100.00                300.00                  0.01
+ *     TRY                           300.00                100.00               -200.00
+ *
+ * A line is 80 characters of ASCII, blanks where nothing else stands, and a line
+ * feed. From column 1 on, one blank apart, it says what it is of; amounts follow,
+ * the last in columns 59 to 80, and where there are three the others in 15 to 36
+ * and 37 to 58:
+ *
+ *                    from the left                             amounts
+ *   title            "account", the account's number           none
+ *   each trade       position from 0, kind, side and day       nominal
+ *   each curve       id, scenario, letters of the currency     base, worst_loss, tolerance
+ *   each currency    its letters                               initial, variation, total
+ *
+ * Kind and side are the numbers of the record, the day is that of the last
+ * payment; a trade without a security has value_day_2 there, and nominal 0.00.
+ * Trades stand in the order of their positions, curves in that of their ids, and
+ * of TRY, USD and EUR, in this order, those that a curve has. An amount ends in
+ * the last of its 22 columns, with a point before the hundredths and, where it is
+ * below 0, a minus directly before its first digit: 0.00, 0.05, -200.00. Every
+ * amount of every book fits.
+ *
+ * Done: value is the page's length, 81 for each line, and the first bytes of
+ * `page` are the page, with no byte 0 at its end. Bytes past it keep their
+ * values.
+ * Refused: 1 to 12, 19, then 13 where `page_len` is below the page's length.
+ * Nothing is written. The book is never written.
+ */
+seddolki_answer seddolki_statement(const uint8_t *book, size_t len, size_t used, uint32_t day,
+                                   uint8_t *page, size_t page_len);
 
 #ifdef __cplusplus
 }

@@ -7,8 +7,8 @@ mod whole;
 
 pub use repos::{paying_repo_book, repo_book};
 pub use timing::{
-    best_in_turns, best_time, best_turn, middle, processor_time, ratio, repeats, shown, time_on,
-    turn_time,
+    best_in_turns, best_time, best_turn, middle, processor_time, processor_times, ratio, repeats,
+    shown, time_on, turn_time,
 };
 pub use whole::{margin, sized_books, work, Work};
 

@@ -80,6 +80,20 @@ pub fn processor_time<T>(mut work: impl FnMut() -> T) -> Duration {
     (processor() - start) / repeats
 }
 
+/// The processor times of two pieces of work, the middle of several turns that
+/// they take one after the other.
+pub fn processor_times<S, T>(
+    mut first: impl FnMut() -> S,
+    mut second: impl FnMut() -> T,
+) -> [Duration; 2] {
+    let (mut firsts, mut seconds) = (vec![], vec![]);
+    for _ in 0..ROUNDS {
+        firsts.push(processor_time(&mut first));
+        seconds.push(processor_time(&mut second));
+    }
+    [firsts, seconds].map(middle)
+}
+
 /// What the thread has had of the processor so far.
 fn processor() -> Duration {
     const OF_THIS_THREAD: i32 = 3;

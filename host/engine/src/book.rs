@@ -4,6 +4,7 @@ use crate::doubles::{doubles, Double};
 use crate::ffi;
 use seddolki_format::block::{trades, valuation_day, BLOCK};
 use seddolki_format::layout::Layout;
+use seddolki_format::page::PAGE;
 use seddolki_format::record::RECORD;
 use seddolki_format::{Answer, Date, Quote, Record, Refusal, Report};
 
@@ -141,6 +142,39 @@ impl Book {
         reported(|report| ffi::preview(&self.bytes, self.used, day, &record, report))
     }
 
+    /// The account statement: a title with the account, a line for each trade,
+    /// each curve and each currency that a curve has, all of them 80 characters
+    /// and a line feed.
+    ///
+    /// ```
+    /// # use seddolki::Book;
+    /// # let bytes = include_bytes!("../../../examples/buyer.book");
+    /// let book = Book::from_bytes(bytes.to_vec());
+    /// let page = book.statement(book.valuation_day()?)?;
+    /// let lines = [
+    ///     "account 7                                                                       ",
+    ///     "0 1 1 365                                                                1000.00",
+    ///     "1 2 TRY                       100.00                300.00                  0.01",
+    ///     "TRY                           300.00                100.00               -200.00",
+    /// ];
+    /// assert_eq!(page, lines.join("\n") + "\n");
+    /// # Ok::<(), seddolki::Refusal>(())
+    /// ```
+    ///
+    /// A trade has its position, kind, side, last payment day (value day 2
+    /// where it has none) and nominal; a curve its id, scenario, currency, base
+    /// value, worst loss and tolerance; a currency its initial, variation and
+    /// total.
+    ///
+    /// # Errors
+    /// Grounds 1 to 12; 19 where the book is for another day.
+    pub fn statement(&self, day: Date) -> Result<String, Refusal> {
+        let mut page = vec![0; PAGE];
+        let answer = ffi::statement(&self.bytes, self.used, day, &mut page);
+        page.truncate(length_of(answer)?);
+        Ok(String::from_utf8(page).expect("a page is ASCII"))
+    }
+
     /// Adds a trade behind the last and gives its position.
     ///
     /// # Errors
@@ -149,7 +183,7 @@ impl Book {
     pub fn append(&mut self, day: Date, record: &Record) -> Result<usize, Refusal> {
         let record: [u8; RECORD] = (*record).into();
         let answer = ffi::append(&mut self.bytes, self.used, day, &record);
-        self.used = used_of(answer)?;
+        self.used = length_of(answer)?;
         self.make_room();
         Ok(trades(self.as_bytes()).count() - 1)
     }
@@ -161,7 +195,7 @@ impl Book {
     /// position.
     pub fn strike(&mut self, day: Date, position: usize) -> Result<(), Refusal> {
         let answer = ffi::strike(&mut self.bytes, self.used, day, position);
-        self.used = used_of(answer)?;
+        self.used = length_of(answer)?;
         Ok(())
     }
 
@@ -265,6 +299,6 @@ fn done(answer: Answer) -> Result<(), Refusal> {
     Result::from(answer).map(|_| ())
 }
 
-fn used_of(answer: Answer) -> Result<usize, Refusal> {
-    Result::from(answer).map(|used| used as usize)
+fn length_of(answer: Answer) -> Result<usize, Refusal> {
+    Result::from(answer).map(|length| length as usize)
 }

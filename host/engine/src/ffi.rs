@@ -65,6 +65,14 @@ mod archive {
             second: i32,
             third: i32,
         ) -> Answer;
+        pub unsafe fn seddolki_statement(
+            book: *const u8,
+            len: usize,
+            used: usize,
+            day: u32,
+            page: *mut u8,
+            page_len: usize,
+        ) -> Answer;
     }
 }
 
@@ -130,4 +138,12 @@ pub fn bootstrap(book: &mut [u8], used: usize, day: Date, quote: &Quote) -> Answ
             bytes, length, used, day, *curve, bond, *cash, first, second, third,
         )
     }
+}
+
+/// Writes the account statement to the first bytes of the page; the value is
+/// their number.
+pub fn statement(book: &[u8], used: usize, day: Date, page: &mut [u8]) -> Answer {
+    let (bytes, length) = (book.as_ptr(), book.len());
+    let (space, space_length) = (page.as_mut_ptr(), page.len());
+    unsafe { archive::seddolki_statement(bytes, length, used, day.days(), space, space_length) }
 }

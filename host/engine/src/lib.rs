@@ -2,15 +2,15 @@
 //!
 //! A [`Book`] owns the bytes of an account's curves and trades. It answers
 //! whether they keep every rule, gives and takes single trades, lengthens a
-//! curve by a bond's price, and works out the margin, also as it would be with
-//! one more trade. All of it is done by the proved engine; this crate lends it
-//! bytes and gives its answers names.
+//! curve by a bond's price, works out the margin, also as it would be with one
+//! more trade, and writes the account statement. All of it is done by the
+//! proved engine; this crate lends it bytes and gives its answers names.
 //!
 //! Money is in hundredths of the currency, rates and prices are in
 //! millionths. A book is for one day, its valuation day, and the days of its
-//! curves and trades are counted from there. Calls that work out a margin or
-//! change the book are given the current day, and refuse a book that is for
-//! another.
+//! curves and trades are counted from there. Calls that work out a margin,
+//! write a statement or change the book are given the current day, and refuse a
+//! book that is for another.
 //!
 //! ```no_run
 //! use seddolki::{Book, Date};
@@ -51,10 +51,13 @@ mod doubles;
 mod ffi;
 mod value;
 
-/// The eight calls as they are in C, over lent bytes. The caller lends the
+/// The nine calls as they are in C, over lent bytes. The caller lends the
 /// bytes, and says how many of them the book uses; `day` is the current day.
+/// Every statement fits in `PAGE` bytes.
 pub mod lent {
-    pub use crate::ffi::{append, bootstrap, check, margin, present_value, preview, read, strike};
+    pub use crate::ffi::{append, bootstrap, check, margin, present_value, preview, read};
+    pub use crate::ffi::{statement, strike};
+    pub use seddolki_format::page::PAGE;
 }
 
 pub use book::Book;

@@ -106,6 +106,7 @@ fn any_bytes_can_be_held() {
         assert!(book.valuation_day().is_err());
         assert!(book.margin(day).is_err());
         assert!(book.preview(day, &Record::default()).is_err());
+        assert!(book.statement(day).is_err());
         assert!(book.records().is_err());
         assert!(book.read(0).is_err());
         assert!(book.strike(day, 0).is_err());

@@ -1,8 +1,10 @@
 //! The engine called from C and C++.
 
 mod c;
+mod pages;
 
 use c::{compilers, Compiler, ROOT};
+use pages::{full_page, page, EXAMPLES};
 use seddolki::Date;
 use seddolki_format::block::{check_of, BLOCK};
 use std::fs::{create_dir, read, remove_dir_all, write, File};
@@ -164,12 +166,24 @@ fn payments_in_the_term_of_a_repo_are_margined_by_the_names_of_the_header() {
     assert_prints("coupons_in_term.c", "examples/repo.book", &expected);
 }
 
-/// Eight wrong calls, and the same without what is wrong, on six other days.
+/// Nine wrong calls, and the same without what is wrong, on six other days.
 #[test]
 fn a_book_for_another_day_is_refused_by_the_names_of_the_header() {
-    let line = |day| format!("day {day}: {} calls refused by 19\n", 8 * 2 * 6);
+    let line = |day| format!("day {day}: {} calls refused by 19\n", 9 * 2 * 6);
     let expected = [0, 9_816, 0x0102_0304, u32::MAX].map(line).concat();
     assert_prints("valuation_day.c", "examples/repo.book", &expected);
+}
+
+#[test]
+fn account_statements_are_written_by_the_names_of_the_header() {
+    let books = EXAMPLES.map(|(name, _)| format!("examples/{name}.book"));
+    let books = books.each_ref().map(String::as_str);
+    let pages: String = EXAMPLES.iter().map(|(_, lines)| page(lines)).collect();
+    let expected = pages + &full_page();
+    for compiler in compilers() {
+        let program = Program::build(compiler, "host/engine/tests/c/statement.c");
+        assert_eq!(program.prints(&books), expected);
+    }
 }
 
 /// A line for each date of a year, as the program prints it.

@@ -15,7 +15,7 @@ use layouts::layouts;
 use std::collections::BTreeSet;
 
 #[test]
-fn the_eight_functions_are_declared() {
+fn the_nine_functions_are_declared() {
     let functions = [
         "check",
         "margin",
@@ -25,6 +25,7 @@ fn the_eight_functions_are_declared() {
         "read",
         "present_value",
         "bootstrap",
+        "statement",
     ];
     assert_eq!(Header::read().functions(), functions);
 }

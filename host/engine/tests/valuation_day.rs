@@ -49,9 +49,10 @@ fn quote() -> Quote {
 /// A call that is given the current day.
 type Call = fn(&mut Book, Date) -> Result<(), Refusal>;
 
-/// Each of the five, as it is done.
-const RIGHT: [Call; 5] = [
+/// Each of the six, as it is done.
+const RIGHT: [Call; 6] = [
     |book, day| book.margin(day).map(drop),
+    |book, day| book.statement(day).map(drop),
     |book, day| book.preview(day, &book.read(0)?).map(drop),
     |book, day| book.append(day, &book.read(0)?).map(drop),
     |book, day| book.strike(day, 0),
@@ -135,10 +136,12 @@ fn the_blocks_are_looked_at_before_the_day() {
 }
 
 #[test]
-fn the_report_is_the_same_on_every_day() {
+fn report_and_statement_are_the_same_on_every_day() {
     let report = |day| book_for(day).margin(day).unwrap();
+    let page = |day| book_for(day).statement(day).unwrap();
     for day in DAYS.map(Date::from_days) {
         assert_eq!(report(day), report(Date::FIRST));
+        assert_eq!(page(day), page(Date::FIRST));
     }
 }
 

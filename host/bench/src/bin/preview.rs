@@ -3,11 +3,8 @@
 //! trade there; the rest is that margin.
 
 use seddolki::{Book, Refusal};
-use seddolki_bench::{middle, processor_time, ratio, shown, sized_books};
+use seddolki_bench::{processor_times, ratio, shown, sized_books};
 use seddolki_books::assemble;
-
-/// The middle of so many rounds is shown.
-const ROUNDS: usize = 9;
 
 fn main() -> Result<(), Refusal> {
     println!("book     trades  bytes      margin     preview  ratio");
@@ -25,12 +22,7 @@ fn time(name: &str, whole: Book) -> Result<(), Refusal> {
     let mut shorter = whole.clone();
     shorter.strike(day, trades - 1)?;
     assert_eq!(shorter.preview(day, &trade)?, whole.margin(day)?, "{name}");
-    let (mut margins, mut previews) = (vec![], vec![]);
-    for _ in 0..ROUNDS {
-        margins.push(processor_time(|| whole.margin(day)));
-        previews.push(processor_time(|| shorter.preview(day, &trade)));
-    }
-    let [margin, preview] = [margins, previews].map(middle);
+    let [margin, preview] = processor_times(|| whole.margin(day), || shorter.preview(day, &trade));
     println!(
         "{name:<7}  {trades:>6}  {:>5}  {:>10}  {:>10}  {:>5.3}",
         whole.as_bytes().len(),

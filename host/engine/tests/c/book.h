@@ -38,7 +38,7 @@ static void write_curve(seddolki_block *block, uint8_t id) {
 
 static void compare(const seddolki_block *book, size_t blocks, const char *name) {
     static seddolki_block file[SEDDOLKI_MAX_BLOCKS];
-    load(name, file, blocks);
+    expect(load(name, file, blocks) == blocks, "the file has the blocks");
     expect(!memcmp(book, file, blocks * sizeof *book), "the book is that of the file");
 }
 

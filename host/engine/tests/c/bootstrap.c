@@ -126,7 +126,7 @@ static void compare_bonds(void) {
 
 int main(int count, char **names) {
     expect(count == 2, "bootstrap BOOK");
-    load(names[1], book, BLOCKS);
+    expect(load(names[1], book, BLOCKS) == BLOCKS, "the file has the blocks");
     memcpy(before, book, sizeof book);
     print_refusals();
     lengthen();

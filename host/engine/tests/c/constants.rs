@@ -3,6 +3,7 @@
 use crate::declared::Numbers;
 use seddolki::Ground;
 use seddolki_format::block::{Node, BLOCK};
+use seddolki_format::page::{LINE, PAGE};
 use seddolki_format::quote::BOND;
 use seddolki_format::record::RECORD;
 use seddolki_format::report::CURRENCIES;
@@ -71,9 +72,11 @@ pub fn add_sizes(all: &mut Constants) {
         ("BLOCK", BLOCK),
         ("RECORD", RECORD),
         ("BOND", BOND),
+        ("LINE_SIZE", LINE),
+        ("PAGE_SIZE", PAGE),
         ("LARGEST_BOOK", largest),
         ("COMPONENTS", components),
-        ("VERSION", 5),
+        ("VERSION", 6),
     ];
     for (name, size) in sizes {
         all.add_number(name, size as i128);

@@ -5,12 +5,15 @@
 #include "expect.h"
 #include "seddolki.h"
 
-static void load(const char *name, seddolki_block *book, size_t blocks) {
+/* Gives how many blocks the book has, of `most` that there is room for. */
+static size_t load(const char *name, seddolki_block *book, size_t most) {
     FILE *file = fopen(name, "rb");
+    size_t blocks;
     expect(file != NULL, name);
-    expect(fread(book, sizeof *book, blocks, file) == blocks, "the file has the blocks");
+    blocks = fread(book, sizeof *book, most, file);
     expect(fgetc(file) == EOF, "the file has no more");
     fclose(file);
+    return blocks;
 }
 
 static uint32_t valuation_day(const seddolki_block *book) {

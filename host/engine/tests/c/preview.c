@@ -116,7 +116,7 @@ static void print_refusals(void) {
 
 int main(int count, char **names) {
     expect(count == 2, "preview BOOK");
-    load(names[1], book, BLOCKS);
+    expect(load(names[1], book, BLOCKS) == BLOCKS, "the file has the blocks");
     memset(&book[BLOCKS], PAINT, sizeof *book);
     memset(painted, PAINT, sizeof painted);
     print_refusals();

@@ -13,14 +13,16 @@ enum {
     LAST = BLOCKS - 1,
     USED = BLOCKS * SEDDOLKI_BLOCK,
     ROOM = USED + SEDDOLKI_BLOCK,
+    /* A title, the trades of a full block, two curves of one currency. */
+    PAGE = SEDDOLKI_LINE_SIZE * (1 + SEDDOLKI_FULL_BLOCK + 2 + 1),
     PAINT = 0xa5
 };
 
 /* The book, and behind it the place of one block more. */
 static seddolki_block book[BLOCKS + 1], before[BLOCKS + 1];
 
-/* The space for a report. */
-static seddolki_block space, painted;
+/* The space for a report or a page. */
+static uint8_t space[PAGE], painted[PAGE];
 
 /* Calls that ground 19 refused. */
 static int refused;
@@ -32,7 +34,7 @@ typedef struct {
     seddolki_record record;
     size_t position;
     size_t curve;
-    size_t report_len;
+    size_t space_len;
 } given;
 
 static given all_right(void) {
@@ -42,13 +44,18 @@ static given all_right(void) {
     asked.record = book[LAST].trades.places[0];
     asked.position = 0;
     asked.curve = 1;
-    asked.report_len = sizeof space;
+    asked.space_len = sizeof space;
     return asked;
 }
 
 static seddolki_answer margin(const given *asked) {
-    return seddolki_margin((const uint8_t *)book, asked->len, USED, asked->day, space.bytes,
-                           asked->report_len);
+    return seddolki_margin((const uint8_t *)book, asked->len, USED, asked->day, space,
+                           asked->space_len);
+}
+
+static seddolki_answer statement(const given *asked) {
+    return seddolki_statement((const uint8_t *)book, asked->len, USED, asked->day, space,
+                              asked->space_len);
 }
 
 static seddolki_answer append(const given *asked) {
@@ -58,7 +65,7 @@ static seddolki_answer append(const given *asked) {
 
 static seddolki_answer preview(const given *asked) {
     return seddolki_preview((const uint8_t *)book, asked->len, USED, asked->day,
-                            (const uint8_t *)&asked->record, space.bytes, asked->report_len);
+                            (const uint8_t *)&asked->record, space, asked->space_len);
 }
 
 static seddolki_answer strike(const given *asked) {
@@ -81,7 +88,9 @@ static void spoil_position(given *asked) { asked->position = SEDDOLKI_FULL_BLOCK
 
 static void spoil_curve(given *asked) { asked->curve = 0; }
 
-static void spoil_space(given *asked) { asked->report_len = sizeof space - 1; }
+static void spoil_report(given *asked) { asked->space_len = SEDDOLKI_BLOCK - 1; }
+
+static void spoil_page(given *asked) { asked->space_len = PAGE - 1; }
 
 /* A function, something wrong that it may be given, and how that is refused. */
 typedef struct {
@@ -92,12 +101,13 @@ typedef struct {
 } trial;
 
 static const trial trials[] = {
-    {"margin without space", margin, spoil_space, SEDDOLKI_REPORT_SPACE, 0},
+    {"margin without space", margin, spoil_report, SEDDOLKI_REPORT_SPACE, 0},
+    {"statement without space", statement, spoil_page, SEDDOLKI_REPORT_SPACE, 0},
     {"append of a wrong record", append, spoil_record, SEDDOLKI_FORM, BLOCKS},
     {"append without room", append, spoil_room, SEDDOLKI_BOOK_SPACE, 0},
     {"preview of a wrong record", preview, spoil_record, SEDDOLKI_FORM, BLOCKS},
     {"preview without room", preview, spoil_room, SEDDOLKI_BOOK_SPACE, 0},
-    {"preview without space", preview, spoil_space, SEDDOLKI_REPORT_SPACE, 0},
+    {"preview without space", preview, spoil_report, SEDDOLKI_REPORT_SPACE, 0},
     {"strike of no trade", strike, spoil_position, SEDDOLKI_POSITION, 0},
     {"bootstrap of no curve", bootstrap, spoil_curve, SEDDOLKI_FORM, 0},
 };
@@ -112,7 +122,7 @@ static void expect_refusal(const trial *tried, const given *asked, uint64_t numb
     answer = tried->call(asked);
     expect(answer.number == number && answer.value == block, tried->what);
     expect(!memcmp(book, before, sizeof book), "a refused call leaves the book");
-    expect(!memcmp(&space, &painted, sizeof space), "a refused call leaves the report");
+    expect(!memcmp(space, painted, sizeof space), "a refused call leaves the space");
 }
 
 /* Days that are not the book's: one byte differs, the next one, and the one before. */
@@ -159,7 +169,8 @@ static void keep_day(uint32_t day) {
     seddolki_answer answer;
     expect_kept(margin(&asked), 0, day);
     expect_kept(preview(&asked), 0, day);
-    memcpy(&space, &painted, sizeof space);
+    expect_kept(statement(&asked), PAGE, day);
+    memcpy(space, painted, sizeof space);
     expect_kept(append(&asked), ROOM, day);
     answer = seddolki_strike((uint8_t *)book, ROOM, ROOM, day, SEDDOLKI_FULL_BLOCK);
     expect_kept(answer, USED, day);
@@ -196,11 +207,11 @@ int main(int count, char **names) {
     uint32_t days[] = {0, 0, 0x01020304, UINT32_MAX};
     size_t i;
     expect(count == 2, "valuation_day BOOK");
-    load(names[1], book, BLOCKS);
+    expect(load(names[1], book, BLOCKS) == BLOCKS, "the file has the blocks");
     expect(seddolki_day_of(2026, 11, 16, &days[1]), "there is such a date");
     expect(valuation_day(book) == days[1], "the book is for that day");
-    memset(&painted, PAINT, sizeof painted);
-    memcpy(&space, &painted, sizeof space);
+    memset(painted, PAINT, sizeof painted);
+    memcpy(space, painted, sizeof space);
     fill_block();
     memcpy(whole, book, sizeof whole);
     for (i = 0; i < sizeof days / sizeof *days; i++) {
