@@ -61,6 +61,8 @@ pub enum Command {
     Show(Show),
     /// Show the margin by curve and by currency
     Margin(Margin),
+    /// Write the account statement, a page of text or a PDF
+    Statement(Statement),
     /// Show the net cash flows by day and curve
     Flows(Flows),
     /// Show the loss of every scenario, or of every trade
@@ -348,6 +350,23 @@ pub struct Margin {
     pub on: OnDay,
     #[command(flatten)]
     pub form: Form,
+}
+
+#[derive(Args, Debug)]
+#[command(after_help = crate::commands::statement::FORM)]
+pub struct Statement {
+    #[command(flatten)]
+    pub one: OneBook,
+    /// The file to write; - is standard output
+    #[arg(long, value_name = "FILE", default_value = "-")]
+    pub to: PathBuf,
+    /// Write the page as PDF
+    #[arg(long, requires = "to")]
+    pub pdf: bool,
+    #[command(flatten)]
+    pub on: OnDay,
+    #[command(flatten)]
+    pub output: Output,
 }
 
 #[derive(Args, Debug)]

@@ -11,10 +11,10 @@ use std::fmt::{self, Display, Formatter};
 pub const RULE: &str = "\
 A book is for one day, its valuation day, from which its curves and trades count
 their days. new writes it, and so does curves, which brings a book to another
-day. append, import, preview, amend, strike, bootstrap, margin and losses refuse
-a book that is not for today; with --day a book of that day is taken. The other
-commands take a book of any day. Today is the local date, as the time zone (TZ)
-has it.";
+day. append, import, preview, amend, strike, bootstrap, margin, statement and
+losses refuse a book that is not for today; with --day a book of that day is
+taken. The other commands take a book of any day. Today is the local date, as
+the time zone (TZ) has it.";
 
 /// The day that the engine is given.
 #[derive(Clone, Copy, Debug)]

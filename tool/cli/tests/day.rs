@@ -89,6 +89,13 @@ fn the_readme_shows_the_margin_with_its_trade() {
     assert_readme_shows(&run_readme(&desk, "seddolki preview desk.book"));
 }
 
+#[test]
+fn the_readme_shows_the_page_of_its_book() {
+    let desk = Desk::new();
+    margin_of_the_day(&desk, &commands(README));
+    assert_readme_shows(&run_readme(&desk, "seddolki statement desk.book"));
+}
+
 /// A folder with an example where the README looks for it.
 fn desk_with_example(name: &str) -> Desk {
     let desk = Desk::new();
@@ -154,7 +161,7 @@ fn every_command_has_help_a_place_in_the_manual_and_completions() {
         .take_while(|line| !line.is_empty())
         .filter_map(|line| line.split_whitespace().next())
         .collect();
-    assert_eq!(names.len(), 21, "{names:?}");
+    assert_eq!(names.len(), 22, "{names:?}");
     for name in names.iter().filter(|name| **name != "help") {
         assert!(desk
             .done(&[name, "--help"])

@@ -52,6 +52,7 @@ fn a_failed_write_leaves_the_book_and_nothing_else() {
             example("desk-curves.txt")
         ),
         "plot desk.book 1 curve.svg".to_owned(),
+        "statement --day $DAY desk.book --to page.txt".to_owned(),
         format!("{} --day $DAY", LENGTHEN.join(" ")),
         format!(
             "{} --day $DAY --dry-run --plot curve.svg",

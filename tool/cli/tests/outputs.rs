@@ -13,6 +13,7 @@ fn readers() -> Vec<Vec<&'static str>> {
         vec!["plot", "desk.book", "1"],
         vec!["export", "desk.book"],
         vec!["export", "--curves", "desk.book"],
+        vec!["statement", "desk.book", "--to"],
         [&LENGTHEN[..], &["--dry-run", "--plot"]].concat(),
     ]
 }
@@ -71,7 +72,11 @@ fn an_input_is_never_written_over_by_any_name() {
 
 #[test]
 fn what_is_no_file_is_written_through() {
-    for command in ["plot desk.book 1", "export desk.book"] {
+    for command in [
+        "plot desk.book 1",
+        "export desk.book",
+        "statement --day $DAY desk.book --to",
+    ] {
         let desk = Desk::with("desk.book");
         let run = desk.shell(&format!(
             "mkfifo pipe; timeout 20 cat pipe > got & \
@@ -123,6 +128,7 @@ fn what_is_printed_does_not_go_into_a_book_that_is_read() {
         ("check desk.book", "link"),
         ("margin --day $DAY link", "desk.book"),
         ("export desk.book", "desk.book"),
+        ("statement --day $DAY desk.book", "desk.book"),
         ("strike --day $DAY desk.book 0", "desk.book"),
         (&format!("{} --day $DAY", LENGTHEN.join(" ")), "desk.book"),
     ] {

@@ -43,7 +43,13 @@ fn a_curve_that_is_lengthened_is_so_though_its_table_cannot_be_printed() {
 #[test]
 fn what_was_asked_for_and_cannot_be_printed_is_a_failure() {
     let desk = Desk::with("desk.book");
-    for command in ["margin --day $DAY", "show", "flows", "export"] {
+    for command in [
+        "margin --day $DAY",
+        "statement --day $DAY",
+        "show",
+        "flows",
+        "export",
+    ] {
         let run = desk.shell(&format!("\"$0\" {command} desk.book > /dev/full"));
         assert_eq!(run.status, FAILED, "{command}");
         assert!(

@@ -141,15 +141,7 @@ fn split(command: &str) -> Vec<&str> {
 
 /// A desk with the book of the templates, and the repo that the help shows.
 fn newcomer() -> (Desk, String) {
-    let desk = Desk::new();
-    for command in [
-        "template curves curves.txt",
-        "template trades trades.csv",
-        "new desk.book curves.txt",
-        "import desk.book trades.csv",
-    ] {
-        desk.done(&split(command));
-    }
+    let desk = Desk::started();
     let mut examples = commands(&desk.done(&["append", "--help"])).into_iter();
     let repo = examples.find(|command| command.contains("kind=specified_repo"));
     (desk, repo.unwrap())

@@ -34,6 +34,8 @@ fn commands() -> Vec<Vec<String>> {
         lengthen.clone(),
         lengthen + " --dry-run",
         "margin desk.book".into(),
+        "statement desk.book".into(),
+        "statement desk.book --to page.txt".into(),
         "losses desk.book".into(),
         "losses --trades desk.book".into(),
     ]

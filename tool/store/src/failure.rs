@@ -23,7 +23,7 @@ impl Failure {
     }
 
     /// The system's error at a path.
-    pub(crate) fn of(path: &Path) -> impl Fn(io::Error) -> Failure + '_ {
+    pub fn of(path: &Path) -> impl Fn(io::Error) -> Failure + '_ {
         move |error| Failure::new(path, words(&error))
     }
 

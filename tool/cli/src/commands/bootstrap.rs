@@ -4,7 +4,7 @@ use crate::arguments::{Bootstrap, Output};
 use crate::current_day::CurrentDay;
 use crate::ended::{Ended, DONE};
 use crate::figures::lengthened::Lengthened;
-use crate::files::books::{accepted_on, edit_on, is_dash, name_of};
+use crate::files::books::{accepted_on, edit_on, name_of};
 use crate::files::outputs;
 use crate::printed::print;
 use crate::printed::table::Table;
@@ -13,7 +13,6 @@ use seddolki::{bond_of, Quote};
 use seddolki_store::shown;
 use seddolki_text::trade::purchase_of;
 use seddolki_text::{bond_columns, numbers, Decimals, Fault, Quantity};
-use std::path::Path;
 
 pub const FORM: &str = "\
 Every column has to be given: a 0 that is meant is written. The new node stands
@@ -63,12 +62,13 @@ fn look(arguments: &Bootstrap, day: CurrentDay, quote: &Quote) -> Result<u8, End
     let mut book = file.book.clone();
     let lengthened = Lengthened::by(quote, day.date, &file.name, &mut book, &file.parts)?;
     if let Some(path) = &arguments.plot {
-        refuse_standard_output(path)?;
+        // the tables go there
+        outputs::refuse_standard_output(path, "--plot")?;
         let output = Output {
             force: arguments.force,
             waiting: arguments.waiting,
         };
-        outputs::write(path, &lengthened.picture(), &output, &[&file.input])?;
+        outputs::write(path, lengthened.picture(), &output, &[&file.input])?;
     }
     let words = lengthened.in_words("would be");
     let head = format!("{}: {words}; nothing is changed", file.name);
@@ -77,15 +77,6 @@ fn look(arguments: &Bootstrap, day: CurrentDay, quote: &Quote) -> Result<u8, End
         .form
         .print(&tables, |tables| text(&head, tables))?;
     Ok(DONE)
-}
-
-/// The tables go there.
-fn refuse_standard_output(picture: &Path) -> Result<(), Ended> {
-    if is_dash(picture) {
-        let reason = "--plot takes a file, and not standard output";
-        return Err(Ended::Misused(reason.into()));
-    }
-    Ok(())
 }
 
 fn text(head: &str, [nodes, values]: &[Table; 2]) -> String {

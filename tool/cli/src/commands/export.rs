@@ -2,11 +2,9 @@
 
 use crate::arguments::Export;
 use crate::ended::{Ended, DONE};
-use crate::files::books::{accepted, is_dash};
+use crate::files::books::accepted;
 use crate::files::outputs;
-use crate::printed::print;
 use seddolki_format::text::count;
-use seddolki_store::shown;
 use seddolki_text::{curve_file, trades_file, Separator};
 
 pub fn run(arguments: &Export) -> Result<u8, Ended> {
@@ -24,9 +22,7 @@ pub fn run(arguments: &Export) -> Result<u8, Ended> {
         let text = trades_file::write(&parts.trades, separator);
         (text, count(parts.trades.len(), "trade"))
     };
-    outputs::write(&arguments.file, &text, &arguments.output, &[&file.input])?;
-    if !is_dash(&arguments.file) {
-        print::notice(&format!("{}: {holds}", shown(&arguments.file)));
-    }
+    let (path, output) = (&arguments.file, &arguments.output);
+    outputs::write_told(path, text, output, &[&file.input], &holds)?;
     Ok(DONE)
 }

@@ -18,6 +18,7 @@ mod new;
 mod plot;
 pub mod preview;
 pub mod show;
+pub mod statement;
 mod strike;
 mod template;
 
@@ -38,6 +39,7 @@ pub fn run(command: Command) -> Result<u8, Ended> {
         Command::Check(arguments) => check::run(&arguments),
         Command::Show(arguments) => show::run(&arguments),
         Command::Margin(arguments) => margin::run(&arguments),
+        Command::Statement(arguments) => statement::run(&arguments),
         Command::Flows(arguments) => flows::run(&arguments),
         Command::Losses(arguments) => losses::run(&arguments),
         Command::Diff(arguments) => diff::run(&arguments),

@@ -5,9 +5,8 @@ use crate::ended::{Ended, DONE};
 use crate::figures::chosen::curve;
 use crate::figures::drawn::{day_flows, nodes};
 use crate::figures::valued::{valued, Valued};
-use crate::files::books::{accepted, is_dash, BookFile};
+use crate::files::books::{accepted, BookFile};
 use crate::files::outputs;
-use crate::printed::print;
 use seddolki::CurveFigures;
 use seddolki_chart::{Heading, Losses, Node, Rates};
 use seddolki_format::block::Curve;
@@ -15,7 +14,6 @@ use seddolki_format::report::currency_name;
 use seddolki_format::text::count;
 use seddolki_model::accept::Book;
 use seddolki_model::scenario::{scenarios, stressed_nodes, Scenario};
-use seddolki_store::shown;
 use seddolki_text::decimal::{format as decimal, format_signed, COEFFICIENT, MONEY};
 
 pub fn run(arguments: &Plot) -> Result<u8, Ended> {
@@ -26,12 +24,10 @@ pub fn run(arguments: &Plot) -> Result<u8, Ended> {
     } else {
         rates(&file, curve)?
     };
-    outputs::write(&arguments.file, &picture, &arguments.output, &[&file.input])?;
-    if !is_dash(&arguments.file) {
-        let scenarios = count(scenarios(curve).len(), "scenario");
-        let (name, id) = (shown(&arguments.file), curve.id);
-        print::notice(&format!("{name}: curve {id}, {scenarios}"));
-    }
+    let scenarios = count(scenarios(curve).len(), "scenario");
+    let holds = format!("curve {}, {scenarios}", curve.id);
+    let (path, output) = (&arguments.file, &arguments.output);
+    outputs::write_told(path, picture, output, &[&file.input], &holds)?;
     Ok(DONE)
 }
 

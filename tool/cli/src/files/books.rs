@@ -6,7 +6,7 @@ use crate::ended::Ended;
 use crate::printed::account::account_on;
 use crate::printed::print;
 use crate::trades::refusal::book_refused;
-use seddolki::{Book, Date, Report};
+use seddolki::{Book, Date, Refusal, Report};
 use seddolki_format::block::BLOCK;
 use seddolki_format::limits::MAX_BLOCKS;
 use seddolki_model::accept::{self, accept};
@@ -46,8 +46,17 @@ impl BookFile {
 
     /// The margin of the book.
     pub fn margin(&self) -> Result<Report, Ended> {
-        let refused = |refusal| Ended::refused(format!("{}: {refusal}", self.name));
-        self.book.margin(self.day).map_err(refused)
+        self.answered(self.book.margin(self.day))
+    }
+
+    /// The page of the book.
+    pub fn statement(&self) -> Result<String, Ended> {
+        self.answered(self.book.statement(self.day))
+    }
+
+    /// What the engine answers, or its refusal with the book's name.
+    fn answered<T>(&self, answer: Result<T, Refusal>) -> Result<T, Ended> {
+        answer.map_err(|refusal| Ended::refused(format!("{}: {refusal}", self.name)))
     }
 
     /// Whose it is and for which day, in words.

@@ -2,14 +2,44 @@
 
 use crate::arguments::Output;
 use crate::ended::Ended;
-use crate::files::books::{patience, with_warning_told};
-use seddolki_store::{self as store, Input};
+use crate::files::books::{is_dash, patience, with_warning_told};
+use crate::printed::print;
+use seddolki_store::{self as store, shown, Input};
 use std::path::Path;
 
 /// Writes a file, and never over one of the inputs.
-pub fn write(path: &Path, text: &str, output: &Output, inputs: &[&Input]) -> Result<(), Ended> {
+pub fn write(
+    path: &Path,
+    bytes: impl AsRef<[u8]>,
+    output: &Output,
+    inputs: &[&Input],
+) -> Result<(), Ended> {
     let patience = patience(output.waiting);
-    let written = store::write_output(path, text.as_bytes(), output.force, inputs, &patience)?;
+    let written = store::write_output(path, bytes.as_ref(), output.force, inputs, &patience)?;
     with_warning_told(written);
+    Ok(())
+}
+
+/// The same, and what the file holds is told, unless it is standard output.
+pub fn write_told(
+    path: &Path,
+    bytes: impl AsRef<[u8]>,
+    output: &Output,
+    inputs: &[&Input],
+    holds: &str,
+) -> Result<(), Ended> {
+    write(path, bytes, output, inputs)?;
+    if !is_dash(path) {
+        print::notice(&format!("{}: {holds}", shown(path)));
+    }
+    Ok(())
+}
+
+/// Where an option takes a file alone.
+pub fn refuse_standard_output(path: &Path, option: &str) -> Result<(), Ended> {
+    if is_dash(path) {
+        let reason = format!("{option} takes a file, and not standard output");
+        return Err(Ended::Misused(reason));
+    }
     Ok(())
 }

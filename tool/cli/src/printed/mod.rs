@@ -2,6 +2,7 @@
 
 pub mod account;
 pub mod form;
+pub mod pdf;
 pub mod print;
 pub mod progress;
 pub mod question;

@@ -28,7 +28,7 @@ pub const DAY: &str = "2026-11-16";
 pub const DAY_IN_WORDS: &str = "16 November 2026";
 
 /// The commands that work on a day.
-pub const ON_DAY: [&str; 10] = [
+pub const ON_DAY: [&str; 11] = [
     "new",
     "append",
     "import",
@@ -38,6 +38,7 @@ pub const ON_DAY: [&str; 10] = [
     "curves",
     "bootstrap",
     "margin",
+    "statement",
     "losses",
 ];
 
@@ -165,6 +166,20 @@ impl Desk {
     pub fn with(name: &str) -> Self {
         let desk = Desk::new();
         desk.copy(name, name);
+        desk
+    }
+
+    /// With desk.book, of the files to start from.
+    pub fn started() -> Self {
+        let desk = Desk::new();
+        for command in [
+            "template curves curves.txt",
+            "template trades trades.csv",
+            "new desk.book curves.txt",
+            "import desk.book trades.csv",
+        ] {
+            desk.done(&command.split_whitespace().collect::<Vec<_>>());
+        }
         desk
     }
 
