@@ -10,7 +10,8 @@ use Rattle.laws.specs.Walk.{table}
 use Rattle.laws.proofs.All.{all-table}
 use Rattle.laws.proofs.Tables.{table-add, table-step, table-end}
 use Rattle.ground.specs.Limits.{lastDay}
-use Rattle.decimal.specs.Product.{unit, product}
+use Rattle.decimal.specs.Product.{unit}
+use Rattle.decimal.specs.HalfUp.{discounted}
 use Rattle.discount.specs.declared.Flow.{Flow}
 use Rattle.discount.specs.Discount.{million, factor, presentValue}
 use Rattle.discount.specs.Flows.{sum, flowValue}
@@ -62,7 +63,7 @@ module _ (nodes : List Node) (l : Leg) where
       ∙ rw (table-add (flowOf l) 0 k (l .count - k), zero-add) (sum-append v (table (flowOf l) 0 k) (table (flowOf l) k (l .count - k)))
 
 -- a payment's value, as the code takes it
-pub factor-value : (nodes : List Node) (f : Flow) {rate x v : ℕ} → rate ≡ rateAt nodes (f .day) → x ≡ factor rate (f .day) → v ≡ product (f .amount) x
+pub factor-value : (nodes : List Node) (f : Flow) {rate x v : ℕ} → rate ≡ rateAt nodes (f .day) → x ≡ factor rate (f .day) → v ≡ discounted (f .amount) x
     → v ≡ flowValue (rateAt nodes) f
 unfolding presentValue
 factor-value nodes f r e h = h ∙ rw (e, r)

@@ -1,7 +1,7 @@
 // The present value of a bond's payments on a curve.
 use curve::Curve;
 use curve::Node;
-use decimal::product::multiply;
+use decimal::round::discounted;
 use discount::Flow;
 use discount::pair::factors;
 use discount::value::present_value;
@@ -67,7 +67,7 @@ fn value_of_two(c: Curve, f: Flow, g: Flow) -> u64
     let both = factors(c.rate_at(f.day), f.day, c.rate_at(g.day), g.day);
     let first = both.first;
     let second = both.second;
-    multiply(f.amount, first.0) + multiply(g.amount, second.0)
+    discounted(f.amount, first.0) + discounted(g.amount, second.0)
 }
 
 // The value of the payments from one up to, not including, another: two at a time, and the last alone where one is left.

@@ -1,4 +1,4 @@
--- Laws of the product, and how it is taken in parts: one number cut by 2 ^ 12 and the other by 5 ^ 12.
+-- Laws of the product, and how a product over 10 ^ 12 is taken in parts: one number cut by 2 ^ 12 and the other by 5 ^ 12.
 use mathlib.Core.Path.{_≡_, ap, sym, _∙_}
 use Prim.Native.Nat.{ℕ, _+_, _*_, _/_, _%_, _≤_, _<_}
 use native.Mathlib.Nat.{mul-le-mul, mul-le-mul-left, le-trans, add-comm, add-mul-div-right, div-div-eq-div-mul, div-add-mod', div-mul-le-self, lt-div-mul-add, div-le-of-le-mul, le-div-iff-mul-le}
@@ -29,11 +29,11 @@ product-parts a b ha hb =
 
 -- with a₁, a₀ and b₁, b₀ for the parts of a and b
 module _ (a₁ a₀ b₁ b₀ : ℕ) where
-  -- the product over 2 ^ 12
-  first : (b : ℕ) → (a₁ * twoPower + a₀) * b / twoPower ≡ a₀ * b / twoPower + a₁ * b
-  first b =
-      let e : (a₁ * twoPower + a₀) * b ≡ a₀ * b + a₁ * b * twoPower = omega arith in
-      ap (λ (n : ℕ). n / twoPower) e ∙ add-mul-div-right (a₀ * b) (a₁ * b) (lit< tt)
+  -- the product and m more over 2 ^ 12
+  first : (b m : ℕ) → ((a₁ * twoPower + a₀) * b + m) / twoPower ≡ (a₀ * b + m) / twoPower + a₁ * b
+  first b m =
+      let e : (a₁ * twoPower + a₀) * b + m ≡ a₀ * b + m + a₁ * b * twoPower = omega arith in
+      ap (λ (n : ℕ). n / twoPower) e ∙ add-mul-div-right (a₀ * b + m) (a₁ * b) (lit< tt)
 
   -- and that over 5 ^ 12
   second : (u : ℕ) → (u + a₁ * (b₁ * fivePower + b₀)) / fivePower ≡ a₁ * b₁ + (a₁ * b₀ + u) / fivePower
@@ -41,14 +41,15 @@ module _ (a₁ a₀ b₁ b₀ : ℕ) where
       let e : u + a₁ * (b₁ * fivePower + b₀) ≡ a₁ * b₀ + u + a₁ * b₁ * fivePower = omega arith in
       ap (λ (n : ℕ). n / fivePower) e ∙ add-mul-div-right (a₁ * b₀ + u) (a₁ * b₁) (lit< tt) ∙ add-comm ((a₁ * b₀ + u) / fivePower) (a₁ * b₁)
 
-pub product-by-parts : (a b : ℕ) → (a / twoPower) * (b / fivePower) + ((a / twoPower) * (b % fivePower) + (a % twoPower) * b / twoPower) / fivePower ≡ product a b
-unfolding unit product
-product-by-parts a b =
-    sym (second (a / twoPower) (a % twoPower) (b / fivePower) (b % fivePower) ((a % twoPower) * b / twoPower))
-    ∙ ap (λ (n : ℕ). ((a % twoPower) * b / twoPower + (a / twoPower) * n) / fivePower) (div-add-mod' b fivePower)
-    ∙ ap (λ (n : ℕ). n / fivePower) (sym (first (a / twoPower) (a % twoPower) (b / fivePower) (b % fivePower) b))
-    ∙ ap (λ (n : ℕ). n * b / twoPower / fivePower) (div-add-mod' a twoPower)
-    ∙ div-div-eq-div-mul (a * b) twoPower fivePower
+pub over-by-parts : (a b m : ℕ)
+    → (a / twoPower) * (b / fivePower) + ((a / twoPower) * (b % fivePower) + ((a % twoPower) * b + m) / twoPower) / fivePower ≡ (a * b + m) / unit
+unfolding unit
+over-by-parts a b m =
+    sym (second (a / twoPower) (a % twoPower) (b / fivePower) (b % fivePower) (((a % twoPower) * b + m) / twoPower))
+    ∙ ap (λ (n : ℕ). (((a % twoPower) * b + m) / twoPower + (a / twoPower) * n) / fivePower) (div-add-mod' b fivePower)
+    ∙ ap (λ (n : ℕ). n / fivePower) (sym (first (a / twoPower) (a % twoPower) (b / fivePower) (b % fivePower) b m))
+    ∙ ap (λ (n : ℕ). (n * b + m) / twoPower / fivePower) (div-add-mod' a twoPower)
+    ∙ div-div-eq-div-mul (a * b + m) twoPower fivePower
 
 -- ---- a product lies within one below the quotient, is at most its first factor, and grows with both
 

@@ -1,4 +1,4 @@
--- Quotients rounded to the nearest, halves up, once (document 01, "Flows").
+-- Quotients rounded to the nearest, halves up, once (document 01, "Flows"; document 02, wish 7).
 use mathlib.Core.Bool.{cond}
 use Prim.Native.Nat.{ℕ, _+_, _*_, _/_}
 use lib.Dec.{leb}
@@ -25,6 +25,10 @@ withholdingOn interest = halfUp (interest * 15) 100
 -- "× settlement index / issue index"
 unfoldable pub indexedBy : ℕ → ℕ → ℕ → ℕ
 indexedBy settlement issue payment = halfUp (payment * settlement) issue
+
+-- "amount × factor / S", "half-up on the amount"
+unfoldable pub discounted : ℕ → ℕ → ℕ
+discounted amount factor = halfUp (amount * factor) unit
 
 -- an amount where it is at most the largest
 unfoldable pub scaledTo : ℕ → Scaled

@@ -3,13 +3,17 @@
 ghost use mathlib.Core.Path.{_≡_};
 ghost use Prim.Native.Nat.{_*_, _^_, _≤_, _<_};
 ghost use Rattle.decimal.specs.Product.{unit};
-ghost use Rattle.decimal.specs.HalfUp.{halfUp, millionthsOf, interestOn, withholdingOn, indexedBy, scaledTo};
+ghost use Rattle.decimal.specs.HalfUp.{halfUp, millionthsOf, interestOn, withholdingOn, indexedBy, discounted, scaledTo};
+use super::product::over_unit;
 
 // The largest amount.
 const LARGEST: u64 = 1_000_000_000_000;
 
 // Days of a year times a million: what cash times rate times days is divided by.
 const RATE_YEAR: u64 = 365_000_000;
+
+// Half of 10^12: what is added before a division by 10^12, so that it rounds half up.
+const HALF_UNIT: u64 = 500_000_000_000;
 
 // n / d, rounded half up.
 pub fn half_up(n: u64, d: u64) -> u64
@@ -47,6 +51,14 @@ pub fn withholding_on(interest: u64) -> u64
     ensures { λ r. ⌜ r ≡ withholdingOn interest ⌝ }
 {
     half_up(interest * 15, 100)
+}
+
+// An amount at a discount factor.
+pub fn discounted(amount: u64, factor: u64) -> u64
+    requires { ⌜ (amount ≤ unit) × (factor ≤ unit) ⌝ }
+    ensures { λ r. ⌜ r ≡ discounted amount factor ⌝ }
+{
+    over_unit(amount, factor, HALF_UNIT)
 }
 
 // An amount, or that it is above the largest.

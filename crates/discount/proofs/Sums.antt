@@ -2,10 +2,9 @@
 use mathlib.Core.Path.{_≡_, refl}
 use mathlib.Core.List.{List, [], _∷_, _++_}
 use Prim.Native.Nat.{ℕ, _+_, _≤_}
-use native.Mathlib.Nat.{le-refl}
 use native.Mathlib.Omega.{arith}
 use Rattle.laws.specs.All.{All}
-use Rattle.decimal.proofs.Products.{product-mono}
+use Rattle.decimal.proofs.HalfUp.{discounted-mono}
 use Rattle.discount.specs.declared.Flow.{Flow}
 use Rattle.discount.specs.Discount.{presentValue}
 use Rattle.discount.specs.Flows.{sum, flowValue}
@@ -31,7 +30,7 @@ module _ (v w : Flow → ℕ) where
 
 pub present-value-falls : (amount : ℕ) {r s : ℕ} (days : ℕ) → r ≤ s → presentValue amount s days ≤ presentValue amount r days
 unfolding presentValue
-present-value-falls amount days h = product-mono (le-refl amount) (factor-falls days h)
+present-value-falls amount days h = discounted-mono amount (factor-falls days h)
 
 pub sum-falls : (r s : ℕ → ℕ) → ((day : ℕ) → r day ≤ s day) → (fs : List Flow) → sum (flowValue s) fs ≤ sum (flowValue r) fs
 sum-falls r s h = sum-mono (flowValue s) (flowValue r) (λ f. present-value-falls (f .amount) (f .day) (h (f .day)))

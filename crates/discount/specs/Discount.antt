@@ -1,10 +1,11 @@
--- Discount factors and present values (document 01, "Present value"). Every definition stays shut: proofs use the laws of proofs/, so that
--- nothing here is computed at 10^12 but where an example says so.
+-- Discount factors and present values (document 01, "Present value"; document 02, wish 7). Every definition stays shut: proofs use the laws of
+-- proofs/, so that nothing here is computed at 10^12 but where an example says so.
 use Prim.Native.Nat.{ℕ, zero, suc, _+_, _-_, _*_, _/_, _%_}
 use mathlib.Core.Bool.{Bool}
 use lib.Dec.{leb}
 use Rattle.laws.specs.Greatest.{greatest}
 use Rattle.decimal.specs.Product.{unit, product}
+use Rattle.decimal.specs.HalfUp.{discounted}
 
 -- one, in a rate: rates are in millionths
 unfoldable pub million : ℕ
@@ -41,9 +42,9 @@ daily rate = root (yearly rate)
 unfoldable pub factor : ℕ → ℕ → ℕ
 factor rate days = compound (power (daily rate) (days % year)) (yearly rate) (days / year)
 
--- "Present value: amount × factor / S rounded down"
+-- "Present value: amount × factor / S", which "becomes half-up on the amount, before the sign"
 unfoldable pub presentValue : ℕ → ℕ → ℕ → ℕ
-presentValue amount rate days = product amount (factor rate days)
+presentValue amount rate days = discounted amount (factor rate days)
 
 -- "The tolerance, which is shown too, is the sum over the curve's flows of amount × 2(k + n) / 10^12, each rounded up, where days = 365n + k
 -- and k is below 365": first the k + n, how many products a factor takes,

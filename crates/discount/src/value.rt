@@ -6,7 +6,7 @@ ghost use Rattle.decimal.specs.Product.{unit};
 ghost use Rattle.discount.specs.Discount.{million, factor, presentValue, tolerance};
 use super::daily::day_power;
 use super::factor::Factor;
-use decimal::product::multiply;
+use decimal::round::discounted;
 
 // The days of a year.
 const YEAR: u64 = 365;
@@ -24,12 +24,12 @@ pub fn factor(rate: u64, days: u64) -> Factor
     power.compound(yearly, days / YEAR)
 }
 
-// What an amount on a day is worth today.
+// What an amount on a day is worth today, to the nearest.
 pub fn present_value(amount: u64, rate: u64, days: u64) -> u64
     requires { ⌜ (amount ≤ unit) × (rate ≤ million) ⌝ }
     ensures { λ r. ⌜ r ≡ presentValue amount rate days ⌝ }
 {
-    multiply(amount, factor(rate, days).0)
+    discounted(amount, factor(rate, days).0)
 }
 
 // How far that may be off.

@@ -15,7 +15,8 @@ use lib.ListN.{length, getD, set, replicate, length-set, length-replicate, getD-
 use lib.Seq.{getD-set-same, getD-set-other}
 use Rattle.laws.proofs.Tables.{table-by}
 use Rattle.laws.proofs.Walk.{length-table, getD-table}
-use Rattle.decimal.specs.Product.{unit, product}
+use Rattle.decimal.specs.Product.{unit}
+use Rattle.decimal.specs.HalfUp.{discounted}
 use Rattle.discount.specs.Discount.{factor, presentValue}
 use Rattle.discount.proofs.Factors.{factor-le}
 use Rattle.discount.specs.declared.Flow.{Flow}
@@ -95,13 +96,13 @@ module _ (nodes : List Node) (marks : List ℕ) where
 
     -- at each flow's day stands its factor, and so the flow's value is the present value
     same-values : (fs : List Flow) → AllFlowLimits fs → AllMarked marks fs
-        → total (λ f. product (f .amount) (factorIn (factorsOn nodes marks) (f .day))) fs ≡ total (flowValue (rateAt nodes)) fs
+        → total (λ f. discounted (f .amount) (factorIn (factorsOn nodes marks) (f .day))) fs ≡ total (flowValue (rateAt nodes)) fs
     unfolding total presentValue
     same-values [] h m = refl
     same-values (f ∷ fs) h m =
         let e : factorIn (factorsOn nodes marks) (f .day) ≡ factor (rateAt nodes (f .day)) (f .day) =
         factor-at (f .day) (omega (arith, h .0 .day)) ∙ entry-marked (f .day) (λ z. omega (arith, m .0)) in
-        rw e (ap (λ (z : ℤ). signed (f .received) (product (f .amount) (factor (rateAt nodes (f .day)) (f .day))) +ℤ z) (same-values fs (h .1) (m .1)))
+        rw e (ap (λ (z : ℤ). signed (f .received) (discounted (f .amount) (factor (rateAt nodes (f .day)) (f .day))) +ℤ z) (same-values fs (h .1) (m .1)))
 
     pub total-is : (fs : List Flow) → AllFlowLimits fs → AllMarked marks fs
         → plusFlows (factorIn (factorsOn nodes marks)) noFlows fs ≡ totalOn nodes fs

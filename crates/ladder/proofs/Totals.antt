@@ -8,8 +8,9 @@ use lib.IntN.{ℤ, pos, natAbs, _+ℤ_, _-ℤ_, +ℤ-assoc, +ℤ-idl, +ℤ-idr}
 use mir.Syntax.{w64}
 use mir.Val.{SFits}
 use Rattle.laws.proofs.Signed.{fits, cast, read, cast-is, read-is, abs-add, abs-sub}
-use Rattle.decimal.specs.Product.{unit, product}
-use Rattle.decimal.proofs.Products.{product-le}
+use Rattle.decimal.specs.Product.{unit}
+use Rattle.decimal.specs.HalfUp.{discounted}
+use Rattle.decimal.proofs.HalfUp.{discounted-le}
 use Rattle.discount.specs.Discount.{year, products, tolerance}
 use Rattle.discount.specs.declared.Flow.{Flow}
 use Rattle.discount.specs.Flows.{signed, total, sum, flowTolerance}
@@ -35,8 +36,8 @@ tolerance-size a days h k = omega (arith, scaled-size a days h k)
 pub off-fits : (off a days : ℕ) → RoomFor 1000 1 off → a ≤ unit → days ≤ 10950 → off + tolerance a days < 2 ^ 64
 off-fits off a days h s k = omega (arith, tolerance-size a days s k)
 
-pub flow-size : (f : Flow) (factor : ℕ) → FlowLimits f → factor ≤ unit → product (f .amount) factor ≤ unit
-flow-size f factor h k = le-trans (product-le (f .amount) factor k) (h .amount)
+pub flow-size : (f : Flow) (factor : ℕ) → FlowLimits f → factor ≤ unit → discounted (f .amount) factor ≤ unit
+flow-size f factor h k = le-trans (discounted-le (f .amount) factor k) (h .amount)
 
 -- z is a sum with room for one flow more, v what the flow adds or takes
 module _ (z : ℤ) (v : ℕ) (room : RoomFor unit 1 (natAbs z)) (most : v ≤ unit) where
@@ -77,7 +78,7 @@ module _ (z : ℤ) (v : ℕ) (room : RoomFor unit 1 (natAbs z)) (most : v ≤ un
 module _ (g : ℕ → ℕ) where
   -- the fold is the sum
   plusFlows-is : (t : Total) (fs : List Flow)
-      → plusFlows g t fs ≡ record { sum = t .sum +ℤ total (λ f. product (f .amount) (g (f .day))) fs; tolerance = t .tolerance + sum flowTolerance fs }
+      → plusFlows g t fs ≡ record { sum = t .sum +ℤ total (λ f. discounted (f .amount) (g (f .day))) fs; tolerance = t .tolerance + sum flowTolerance fs }
   unfolding plusFlow total sum
   plusFlows-is t [] =
       let e : t .tolerance + 0 ≡ t .tolerance = omega arith in
@@ -85,13 +86,13 @@ module _ (g : ℕ → ℕ) where
   plusFlows-is t (f ∷ fs) =
       let e : t .tolerance + flowTolerance f + sum flowTolerance fs ≡ t .tolerance + (flowTolerance f + sum flowTolerance fs) = omega arith in
       plusFlows-is (plusFlow t f (g (f .day))) fs
-      ∙ rw (+ℤ-assoc (t .sum) (signed (f .received) (product (f .amount) (g (f .day)))) (total (λ f. product (f .amount) (g (f .day))) fs), e) refl
+      ∙ rw (+ℤ-assoc (t .sum) (signed (f .received) (discounted (f .amount) (g (f .day)))) (total (λ f. discounted (f .amount) (g (f .day))) fs), e) refl
 
   pub plusFlows-none : (fs : List Flow)
-      → plusFlows g noFlows fs ≡ record { sum = total (λ f. product (f .amount) (g (f .day))) fs; tolerance = sum flowTolerance fs }
+      → plusFlows g noFlows fs ≡ record { sum = total (λ f. discounted (f .amount) (g (f .day))) fs; tolerance = sum flowTolerance fs }
   plusFlows-none fs =
       let e : 0 + sum flowTolerance fs ≡ sum flowTolerance fs = omega arith in
-      plusFlows-is noFlows fs ∙ rw (+ℤ-idl (total (λ f. product (f .amount) (g (f .day))) fs), e) refl
+      plusFlows-is noFlows fs ∙ rw (+ℤ-idl (total (λ f. discounted (f .amount) (g (f .day))) fs), e) refl
 
 -- room in the total for more
 
@@ -105,6 +106,6 @@ pub total-next : (factor : ℕ) → factor ≤ unit → {n : ℕ} (t : Total) (f
 unfolding plusFlow
 total-next factor le t f s h =
     record {
-      value = room-next (signed-more (t .sum) (f .received) (product (f .amount) factor)) (flow-size f factor s le) (h .value);
+      value = room-next (signed-more (t .sum) (f .received) (discounted (f .amount) factor)) (flow-size f factor s le) (h .value);
       off = room-next (omega arith) (tolerance-size (f .amount) (f .day) (s .amount) (s .day)) (h .off);
     }

@@ -4,18 +4,19 @@ use Prim.Native.Nat.{ℕ, _+_, _*_, _≤_}
 use lib.IntN.{pos, natAbs, _+ℤ_}
 use Rattle.laws.specs.All.{All}
 use Rattle.ground.specs.Limits.{lastDay}
-use Rattle.decimal.specs.Product.{unit, product}
+use Rattle.decimal.specs.Product.{unit}
+use Rattle.decimal.specs.HalfUp.{discounted}
 use Rattle.discount.specs.declared.Flow.{Flow}
 use Rattle.discount.specs.Flows.{signed, total, sum, flowValue, flowTolerance}
 use Rattle.curve.specs.declared.Node.{Node}
 use Rattle.curve.specs.Rates.{rateAt}
 use Rattle.ladder.specs.declared.total.Total.{Total}
 
--- the total with one flow more: its amount times the factor of its day, signed
+-- the total with one flow more: its amount at the factor of its day, rounded "before the sign"
 unfoldable pub plusFlow : Total → Flow → ℕ → Total
 plusFlow t f factor =
     record {
-      sum = t .sum +ℤ signed (f .received) (product (f .amount) factor);
+      sum = t .sum +ℤ signed (f .received) (discounted (f .amount) factor);
       tolerance = t .tolerance + flowTolerance f;
     }
 

@@ -7,7 +7,7 @@ ghost use Rattle.ladder.specs.Ladder.{ladderFlows, LadderLimits};
 ghost use Rattle.ladder.specs.Totals.{plusFlow, FlowLimits, TotalRoom, plusFlows, noFlows};
 use super::payments::Rung;
 use super::payments::payment;
-use decimal::product::multiply;
+use decimal::round::discounted;
 use discount::Flow;
 use discount::value::tolerance;
 
@@ -23,7 +23,7 @@ impl Total {
         requires { ⌜ TotalRoom 1 self × FlowLimits f × (factor ≤ unit) ⌝ }
         ensures { λ r. ⌜ r ≡ plusFlow self f factor ⌝ }
     {
-        let value = multiply(f.amount, factor) as i64;
+        let value = discounted(f.amount, factor) as i64;
         let off = self.tolerance + tolerance(f.amount, f.day);
         if f.received {
             return Total {

@@ -24,8 +24,8 @@ exactLoss e s = lossAt flowExact e s
 abbrev pub exactWorst : Exposure → ℤ
 exactWorst e = worstLoss flowExact e
 
--- "This holds for every accepted book and each of its curves", here for one of them. "Exact means amount × (1 + rate) to the power −days/365, rounded
--- down to the kuruş and then signed, at document 01's rates."
+-- "This holds for every accepted book and each of its curves", here for one of them. "Exact means amount × (1 + rate) to the power −days/365", "rounded
+-- to the nearest too, halves up and before the sign" (document 02, wish 7), "at document 01's rates."
 pub record CurveBounded (e : Exposure) (m : CurveMargin) : Type 0 where
   -- "The tolerance, which is shown too, is the sum over the curve's flows of amount × 2(k + n) / 10^12, each rounded up, where days = 365n + k and k is
   -- below 365."

@@ -14,7 +14,7 @@ use Rattle.laws.specs.All.{All}
 use Rattle.laws.specs.Distance.{Within}
 use Rattle.laws.proofs.Integer.{int, plus}
 use Rattle.netting.specs.Netting.{netOn, listedFrom, listed, worth, netValue, netSize}
-use Rattle.netting.proofs.Cuts.{none-worth}
+use Rattle.netting.proofs.Worths.{none-worth}
 
 -- ---- the listed days of the net amounts from day i on
 

@@ -1,5 +1,5 @@
-pub mod Signs
-pub mod Cuts
+pub mod Lifted
+pub mod Worths
 pub mod DaySums
 pub mod Sizes
 pub mod NettedValue

@@ -1,24 +1,26 @@
 -- The value of netted flows at cheap factors is within the flows' reach of their present values.
-use mathlib.Core.Bool.{Bool, true, false}
+use mathlib.Core.Bool.{Bool}
 use mathlib.Core.List.{List, [], _∷_}
-use Prim.Native.Nat.{ℕ, _+_, _*_, _/_, _≤_, _<_}
-use native.Mathlib.Nat.{mul-le-mul-left, mul-le-mul-right, lt-of-mul-lt-mul-right, div-mul-le-self, lt-div-mul-add, zero-add}
+use Prim.Native.Nat.{ℕ, _+_, _*_, _≤_, _<_}
+use native.Mathlib.Nat.{mul-le-mul-left, mul-le-mul-right, le-of-mul-le-mul-right, lt-div-mul-add, zero-add}
 use native.Mathlib.Omega.{arith}
 use lib.Dec.{lit<}
-use lib.IntN.{ℤ, pos, negℤ, _+ℤ_, +ℤ-idl}
+use lib.IntN.{ℤ, pos, _+ℤ_, +ℤ-idl}
 use lib.ListN.{length, length-set, length-replicate}
 use Rattle.laws.specs.Distance.{Within}
-use Rattle.laws.proofs.Integer.{int, plus, up-pos, down-pos, up-neg, down-neg}
+use Rattle.laws.proofs.Integer.{int, plus, up-pos, down-pos}
 use Rattle.decimal.specs.Product.{unit}
-use Rattle.decimal.proofs.Products.{unit-pos, product-low, product-high}
+use Rattle.decimal.specs.HalfUp.{discounted}
+use Rattle.decimal.proofs.Products.{unit-pos}
+use Rattle.decimal.proofs.HalfUp.{discounted-low, discounted-high}
 use Rattle.discount.specs.Discount.{factor, presentValue}
 use Rattle.discount.specs.declared.Flow.{Flow}
 use Rattle.discount.specs.Flows.{signed, total, sum, flowValue}
 use Rattle.sieve.specs.Cheap.{whole, cheapFactor, distance}
 use Rattle.sieve.proofs.Rows.{whole-pos}
 use Rattle.sieve.proofs.Bound.{cheap-near}
-use Rattle.netting.specs.Netting.{noNets, netOn, netWith, netted, listed, worth, netValue, cheapOn, distanceUp, reach, flowReach, OnDays}
-use Rattle.netting.proofs.Cuts.{worth-more}
+use Rattle.netting.specs.Netting.{noNets, netOn, netWith, netted, listed, worth, netValue, cheapOn, distanceUp, moved, reach, flowReach, OnDays}
+use Rattle.netting.proofs.Worths.{worth-more}
 use Rattle.netting.proofs.DaySums.{daysWorth, listed-worth, none-days, days-changed}
 
 -- ---- one flow
@@ -27,54 +29,42 @@ pub distance-up : (days : ℕ) → distance days ≤ distanceUp days * unit
 unfolding unit whole distance distanceUp
 distance-up days = omega arith
 
--- v and w are a * f / s and a * c / z, rounded down; f / s and c / z are t / (z * s) apart; q is a * t / (z * s), rounded down
-close : (a f s c z t v w q : ℕ) → a * f < v * s + s → w * z ≤ a * c → c * s ≤ f * z + t → a * t < q * (z * s) + z * s → w ≤ v + (q + 1)
-close a f s c z t v w q h k n m =
-    let first : a * f ≤ v * s + s = omega arith in
-    let strict : w * (z * s) < (v + q + 2) * (z * s) =
-    omega (arith, mul-le-mul-right s k, mul-le-mul-left a n, mul-le-mul-right z first) in
-    omega (arith, lt-of-mul-lt-mul-right (z * s) strict)
+-- a flow's part in its day's value: p is its present value, a * f / u to the nearest; f / u and c / z are at most d / z apart
+module _ (a f u c z d p : ℕ) (some : 0 < u) where
+  not-over : p * (u * 2) ≤ a * f * 2 + u → f * z ≤ c * u + d * u → p * (z * 2) ≤ a * c * 2 + a * d * 2 + z
+  not-over h k =
+      let scaled : p * (z * 2) * u ≤ (a * c * 2 + a * d * 2 + z) * u = omega (arith, mul-le-mul-right z h, mul-le-mul-left a k) in
+      le-of-mul-le-mul-right scaled some
 
--- a and b with v more are a kuruş apart, and v and p at most q + 1
-joined : (a b : ℤ) (s : Bool) (v p q t : ℕ) → Within a (b +ℤ signed s v) 1 → v ≤ p + (q + 1) → p ≤ v + (q + 1) → q + 2 ≤ t → Within a (b +ℤ signed s p) t
-joined a b true v p q t w h k l = omega (int, plus b (pos v), plus b (pos p), up-pos v, down-pos v, up-pos p, down-pos p)
-joined a b false v p q t w h k l =
-    let x = negℤ (pos v) in
-    let y = negℤ (pos p) in
-    omega (int, plus b x, plus b y, up-neg (pos v), down-neg (pos v), up-neg (pos p), down-neg (pos p), up-pos v, down-pos v, up-pos p, down-pos p)
+  not-under : a * f * 2 < p * (u * 2) + u → c * u ≤ f * z + d * u → a * c * 2 ≤ p * (z * 2) + a * d * 2 + z
+  not-under h k =
+      let first : a * f * 2 ≤ p * (u * 2) + u = omega arith in
+      let scaled : a * c * 2 * u ≤ (p * (z * 2) + a * d * 2 + z) * u = omega (arith, mul-le-mul-right z first, mul-le-mul-left a k) in
+      le-of-mul-le-mul-right scaled some
 
--- a flow's part in its day's value
 module _ (a r days : ℕ) (l : r ≤ 1000000) (k : days ≤ 10950) where
-  off : ℕ
-  off = a * distanceUp days / whole
+  -- what was found is no more than what `moved` says
+  covered : a * distanceUp days * 2 + 3 * whole ≤ moved a days
+  unfolding moved
+  covered = omega arith
 
-  moved : a * (distanceUp days * unit) < off * (whole * unit) + whole * unit
-  unfolding off
-  moved =
-      let next : a * distanceUp days + 1 ≤ off * whole + whole = omega (arith, lt-div-mul-add {a = a * distanceUp days} whole-pos) in
-      omega (arith, mul-le-mul-right unit next, unit-pos)
+  room : a * distanceUp days * 2 + 3 * whole < (reach a days + 1) * (whole * 2)
+  unfolding reach
+  room = omega (arith, covered, lt-div-mul-add {a = moved a days} {b = 2 * whole} (omega (arith, whole-pos)))
 
-  not-over : a * cheapFactor r days / whole ≤ presentValue a r days + (off + 1)
-  unfolding presentValue
-  not-over =
-      close a (factor r days) unit (cheapFactor r days) whole (distanceUp days * unit) _ _ _ (product-high a (factor r days)) (div-mul-le-self _ whole)
-      (omega (arith, cheap-near r days l k .below, distance-up days))
-      moved
-
-  not-under : presentValue a r days ≤ a * cheapFactor r days / whole + (off + 1)
-  unfolding presentValue
-  not-under =
-      close a (cheapFactor r days) whole (factor r days) unit (distanceUp days * unit) _ _ off (lt-div-mul-add whole-pos) (product-low a (factor r days))
-      (omega (arith, cheap-near r days l k .above, distance-up days))
-      (omega (arith, moved))
-
-  -- with the cut of the net amount
   pub flow-within : (x : ℤ) (s : Bool)
       → Within (worth (cheapFactor r days) (x +ℤ signed s a)) (worth (cheapFactor r days) x +ℤ signed s (presentValue a r days)) (reach a days)
-  unfolding off reach
+  unfolding presentValue
   flow-within x s =
+      let f = factor r days in
       let c = cheapFactor r days in
-      joined (worth c (x +ℤ signed s a)) (worth c x) s (a * c / whole) (presentValue a r days) off (reach a days) (worth-more c x s a) not-over not-under (omega arith)
+      let d = distanceUp days in
+      let p = discounted a f in
+      let close = cheap-near r days l k in
+      worth-more c a p (a * d * 2) (reach a days)
+      (not-over a f unit c whole d p unit-pos (discounted-low a f) (omega (arith, close .above, distance-up days)))
+      (not-under a f unit c whole d p unit-pos (discounted-high a f) (omega (arith, close .below, distance-up days)))
+      room x s
 
 -- ---- all flows
 

@@ -1,12 +1,11 @@
 -- How large netted flows can be: no larger than all amounts together; and the size of a reach.
 use mathlib.Core.Path.{_≡_, refl, _∙_}
-use mathlib.Core.Bool.{Bool, true, false, cond}
+use mathlib.Core.Bool.{Bool, true, false}
 use mathlib.Core.List.{List, [], _∷_}
-use Prim.Native.Nat.{ℕ, zero, suc, _+_, _*_, _/_, _≤_}
-use native.Mathlib.Nat.{mul-le-mul, mul-le-mul-left, div-le-of-le-mul}
+use Prim.Native.Nat.{ℕ, zero, suc, _+_, _*_, _/_, _≤_, _<_}
+use native.Mathlib.Nat.{mul-le-mul, mul-le-mul-left, div-le-of-le-mul, div-lt-iff-lt-mul}
 use native.Mathlib.Omega.{arith}
-use lib.IntN.{ℤ, pos, negℤ, natAbs, _+ℤ_}
-use lib.Signed.{ltZ}
+use lib.IntN.{ℤ, pos, negsuc, natAbs, _+ℤ_}
 use lib.ListN.{length, length-set}
 use Rattle.laws.proofs.Signed.{abs-neg, abs-add}
 use Rattle.decimal.specs.Product.{unit}
@@ -14,7 +13,7 @@ use Rattle.discount.specs.Discount.{year, products}
 use Rattle.discount.specs.declared.Flow.{Flow}
 use Rattle.discount.specs.Flows.{signed, sum}
 use Rattle.sieve.specs.Cheap.{whole}
-use Rattle.netting.specs.Netting.{noNets, netOn, netWith, netted, listed, worth, netValue, netSize, distanceUp, reach}
+use Rattle.netting.specs.Netting.{noNets, netOn, netWith, netted, listed, worth, netValue, netSize, distanceUp, moved, reach}
 use Rattle.netting.proofs.DaySums.{daysSize, listed-size, none-size, size-changed}
 
 -- ---- the net amounts
@@ -54,17 +53,13 @@ net-size-on fs d = omega (arith, day-size (netted fs noNets) d, days-size fs noN
 
 -- ---- what they are worth, at factors of at most one: no more
 
-pub scaled-le : (n c : ℕ) → c ≤ 2147483648 → n * c / whole ≤ n
-unfolding whole
-scaled-le n c h = div-le-of-le-mul 2147483648 (omega (arith, mul-le-mul-left n h))
-
 pub worth-size : (c : ℕ) (x : ℤ) → c ≤ 2147483648 → natAbs (worth c x) ≤ natAbs x
-unfolding worth
-worth-size c x h = go (ltZ x (pos 0)) (natAbs x * c / whole) (scaled-le (natAbs x) c h)
-  where
-    go : (t : Bool) (v : ℕ) → v ≤ natAbs x → natAbs (cond t (negℤ (pos v)) (pos v)) ≤ natAbs x
-    go true v l = omega (arith, abs-neg (pos v))
-    go false v l = l
+unfolding whole worth
+worth-size c (pos n) h = div-le-of-le-mul 2147483648 (omega (arith, mul-le-mul-left n h))
+worth-size c (negsuc n) h =
+    let v : ℕ = (suc n * c + 2147483647) / 2147483648 in
+    let less : v < suc n + 1 = div-lt-iff-lt-mul {k = 2147483648} {x = suc n * c + 2147483647} {y = suc n + 1} (omega arith) .1 (omega (arith, mul-le-mul-left (suc n) h)) in
+    omega (arith, abs-neg (pos v), less)
 
 pub net-value-size : (c : ℕ → ℕ) → ((d : ℕ) → c d ≤ 2147483648) → (nets : List ℤ) (ds : List ℕ) → natAbs (netValue c nets ds) ≤ netSize nets ds
 unfolding netValue netSize
@@ -80,5 +75,5 @@ unfolding year products distanceUp
 distance-size days h = omega arith
 
 pub reach-size : (amount days : ℕ) → amount ≤ unit → days ≤ 10950 → reach amount days ≤ 200000
-unfolding unit whole reach
+unfolding unit whole moved reach
 reach-size amount days h k = omega (arith, mul-le-mul h (distance-size days k))

@@ -1,11 +1,10 @@
 -- Flows netted by day, and what the net amounts are worth at a cheap factor for each day.
 use mathlib.Core.Bool.{cond}
 use mathlib.Core.List.{List, [], _∷_, foldl}
-use Prim.Native.Nat.{ℕ, suc, _+_, _*_, _/_, _≤_}
+use Prim.Native.Nat.{ℕ, suc, _+_, _-_, _*_, _/_, _≤_}
 use lib.Dec.{eqb}
-use lib.IntN.{ℤ, pos, negℤ, natAbs, _+ℤ_}
+use lib.IntN.{ℤ, pos, negsuc, negℤ, natAbs, _+ℤ_}
 use lib.ListN.{getD, set, replicate}
-use lib.Signed.{ltZ}
 use Rattle.laws.specs.All.{All}
 use Rattle.ground.specs.Limits.{lastDay, dayCount}
 use Rattle.discount.specs.declared.Flow.{Flow}
@@ -37,9 +36,10 @@ listedFrom i (x ∷ xs) = cond (eqb (natAbs x) 0) (listedFrom (suc i) xs) (i ∷
 abbrev pub listed : List ℤ → List ℕ
 listed nets = listedFrom 0 nets
 
--- what a net amount is worth at a cheap factor, cut towards zero
+-- what a net amount is worth at a cheap factor, rounded down, whatever its sign
 unfoldable pub worth : ℕ → ℤ → ℤ
-worth c net = cond (ltZ net (pos 0)) (negℤ (pos (natAbs net * c / whole))) (pos (natAbs net * c / whole))
+worth c (pos n) = pos (n * c / whole)
+worth c (negsuc n) = negℤ (pos ((suc n * c + (whole - 1)) / whole))
 
 -- what the net amounts of some days are worth, given the cheap factor of each day
 unfoldable pub netValue : (ℕ → ℕ) → List ℤ → List ℕ → ℤ
@@ -61,9 +61,14 @@ cheapOn rate day = cheapFactor (rate day) day
 unfoldable pub distanceUp : ℕ → ℕ
 distanceUp days = 26 + (50000 * days / 365 + 2) / 4096 + products days * 44 / 10000
 
--- of a flow: what the factor, the two cuts and the netting move
+-- of a flow, in parts of 2 * whole: what the factor moves, a half for the rounding of the flow's value, and one for the net value of its day, which is
+-- rounded down without the flow and with it
+unfoldable pub moved : ℕ → ℕ → ℕ
+moved amount days = 2 * amount * distanceUp days + 3 * whole
+
+-- in whole kuruş
 unfoldable pub reach : ℕ → ℕ → ℕ
-reach amount days = amount * distanceUp days / whole + 2
+reach amount days = moved amount days / (2 * whole)
 
 abbrev pub flowReach : Flow → ℕ
 flowReach f = reach (f .amount) (f .day)

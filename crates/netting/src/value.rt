@@ -11,35 +11,27 @@ const WHOLE: u64 = 2_147_483_648;
 
 const TWICE: u64 = 4_294_967_296;
 
-// A net amount without its sign.
-fn size(net: i64) -> u64
-    requires { ⌜ natAbs net ≤ 140_000_000_000_000_000 ⌝ }
-    ensures { λ r. ⌜ r ≡ natAbs net ⌝ }
-{
-    if net < 0 {
-        return (-net) as u64;
-    }
-    net as u64
-}
+// 2^58, more than any net amount: with so much added, an amount below 0 is cut as one above it is.
+const LIFT: i64 = 288_230_376_151_711_744;
+
+// And how often WHOLE goes into it.
+const LIFTED: u64 = 134_217_728;
 
 // amount * factor / WHOLE, rounded down. The whole product does not fit a u64, so it is taken in parts.
 fn scaled(amount: u64, factor: u64) -> u64
-    requires { ⌜ (amount ≤ 140_000_000_000_000_000) × (factor ≤ 2_147_483_648) ⌝ }
+    requires { ⌜ (amount ≤ 500_000_000_000_000_000) × (factor ≤ 2_147_483_648) ⌝ }
     ensures { λ r. ⌜ r ≡ amount * factor / whole ⌝ }
 {
     2 * (amount / TWICE) * factor + amount % TWICE * factor / WHOLE
 }
 
-// What a net amount is worth at a cheap factor, cut towards zero.
+// What a net amount is worth at a cheap factor, rounded down.
 pub fn worth(net: i64, factor: u64) -> i64
     requires { ⌜ (natAbs net ≤ 140_000_000_000_000_000) × (factor ≤ 2_147_483_648) ⌝ }
     ensures { λ r. ⌜ r ≡ worth factor net ⌝ }
 {
-    let value = scaled(size(net), factor) as i64;
-    if net < 0 {
-        return -value;
-    }
-    value
+    let lifted = scaled((net + LIFT) as u64, factor);
+    lifted as i64 - (LIFTED * factor) as i64
 }
 
 // How far a flow's part in the value of netted flows may be from its present value.
@@ -49,5 +41,5 @@ pub fn reach(amount: u64, day: u64) -> u64
 {
     let products = day % 365 + day / 365;
     let distance = 26 + (50_000 * day / 365 + 2) / 4096 + products * 44 / 10_000;
-    amount * distance / WHOLE + 2
+    (2 * amount * distance + 3 * WHOLE) / TWICE
 }

@@ -1,4 +1,4 @@
--- A book that document 01 alone accepts is accepted, and its report is byte for byte what it was.
+-- A book that document 01 alone accepts is accepted, and its report is byte for byte that of the flows which it had.
 use mathlib.Core.Path.{_≡_, refl, ap, _∙_}
 use mathlib.Core.Bool.{Bool, true, false}
 use mathlib.Core.List.{List, _++_}
@@ -27,7 +27,7 @@ use Rattle.acceptance.specs.declared.Today.the-variants.{Given}
 use Rattle.acceptance.specs.Verdict.{breaksValuationDay, bookVerdict}
 use Rattle.acceptance.proofs.Laws.{accepted-book}
 use Rattle.report.specs.Entry.{marginIn, marginVerdict, marginBytes}
-use Rattle.report.specs.Earlier.{EarlierBook, earlierFlowsIn, earlierReport}
+use Rattle.report.specs.Earlier.{EarlierBook, earlierFlowsIn, earlierFlowsReport}
 
 module _ (s : List ℕ) (used : ℕ) (h : EarlierBook s used) where
   abbrev blocks : ℕ
@@ -79,6 +79,6 @@ module _ (s : List ℕ) (used : ℕ) (h : EarlierBook s used) where
   unfolding exposures exposureAt
   exposures-of-then = ap (λ (fs : List Flow). table (exposureTo fs s) 1 (curveCount s)) flows-of-then
 
-  pub earlier-book-reported : (out : List ℕ) → 512 ≤ length out → marginBytes s used 0 out ≡ earlierReport s ++ drop 512 out
-  unfolding marginBytes marginVerdict breaksSpace marginIn earlierReport
+  pub earlier-book-reported : (out : List ℕ) → 512 ≤ length out → marginBytes s used 0 out ≡ earlierFlowsReport s ++ drop 512 out
+  unfolding marginBytes marginVerdict breaksSpace marginIn earlierFlowsReport
   earlier-book-reported out space = rw (earlier-book-accepted, le-ltb (length out) 512 space, exposures-of-then)

@@ -1,5 +1,5 @@
--- A book that document 01 alone accepts, before wishes 3 and 4 of document 02, and its report of that time. Of the rules of a book only those
--- of a record have moved, and rule 4, which wanted the bytes of the valuation day to be 0.
+-- A book that document 01 alone accepts, before wishes 3 and 4 of document 02, and the report of the flows that it had. Of the rules of a book only
+-- those of a record have moved, and rule 4, which wanted the bytes of the valuation day to be 0.
 use mathlib.Core.Path.{_≡_}
 use mathlib.Core.Bool.{false}
 use mathlib.Core.List.{List, flatMap}
@@ -35,6 +35,6 @@ pub record EarlierBook (s : List ℕ) (used : ℕ) : Type 0 where
 abbrev pub earlierFlowsIn : List ℕ → List Flow
 earlierFlowsIn s = flatMap earlierFlows (table (tradeAt s) 0 (tradeCount s))
 
--- and the report of them
-unfoldable pub earlierReport : List ℕ → List ℕ
-earlierReport s = reportBytes (marginOf (headerOf s .account) (table (exposureTo (earlierFlowsIn s) s) 1 (curveCount s)))
+-- and the report of them, each valued to the nearest, as wish 7 has it
+unfoldable pub earlierFlowsReport : List ℕ → List ℕ
+earlierFlowsReport s = reportBytes (marginOf (headerOf s .account) (table (exposureTo (earlierFlowsIn s) s) 1 (curveCount s)))

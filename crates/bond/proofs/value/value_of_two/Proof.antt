@@ -15,18 +15,18 @@ factors-requires c κs =
     let proper = c .before .before .pre .0 in
     (rw (c .before .rate-at .ensures) (rate-most _ _ proper), rw (c .rate-at2 .ensures) (rate-most _ _ proper))
 
-module _ (c : tie.After-multiply2) where
+module _ (c : tie.After-discounted2) where
   abbrev at : tie.After-factors
   at = let after-second = c .before .before in after-second .before .before
 
   abbrev start : tie.Start
   start = at .before .before .before
 
-  first : c .before .multiply .result ≡ flowValue (rateAt (nodesOf (start .args .c))) (start .args .f)
-  first = factor-value _ (start .args .f) (at .before .before .rate-at .ensures) (at .factors .ensures .0) (c .before .multiply .ensures)
+  first : c .before .discounted .result ≡ flowValue (rateAt (nodesOf (start .args .c))) (start .args .f)
+  first = factor-value _ (start .args .f) (at .before .before .rate-at .ensures) (at .factors .ensures .0) (c .before .discounted .ensures)
 
-  second : c .multiply2 .result ≡ flowValue (rateAt (nodesOf (start .args .c))) (start .args .g)
-  second = factor-value _ (start .args .g) (at .before .rate-at2 .ensures) (at .factors .ensures .2) (c .multiply2 .ensures)
+  second : c .discounted2 .result ≡ flowValue (rateAt (nodesOf (start .args .c))) (start .args .g)
+  second = factor-value _ (start .args .g) (at .before .rate-at2 .ensures) (at .factors .ensures .2) (c .discounted2 .ensures)
 
 add-result : tie.Need-add-result
 unfolding unit

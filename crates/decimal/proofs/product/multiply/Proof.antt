@@ -1,29 +1,17 @@
--- `decimal::product::multiply` meets its contract (`Products.antt`).
-use native.Mathlib.Omega.{arith}
-use Rattle.decimal.proofs.Products.{ProductParts, product-parts, product-by-parts}
+-- `decimal::product::multiply` meets its contract, by that of `over_unit`.
+use mathlib.Core.Path.{ap, _∙_}
+use Prim.Native.Nat.{ℕ, _*_, _/_}
+use native.Mathlib.Nat.{add-zero}
+use borrow.Author.Needs.{needs}
+use Rattle.decimal.specs.Product.{unit, product}
 use Rattle.decimal.proofs.product.multiply.Statement.{statement}
 use Rattle.decimal.proofs.product.multiply.Tie as tie
 
-bounds : (c : tie.Start) → ProductParts (c .args .a) (c .args .b)
-bounds c = product-parts (c .args .a) (c .args .b) (c .pre .0) (c .pre .1)
-
-mul-result : tie.Need-mul-result
-mul-result c = omega (arith, bounds c)
-
-mul-result-2 : tie.Need-mul-result-2
-mul-result-2 c = omega (arith, bounds c)
-
-mul-result-3 : tie.Need-mul-result-3
-mul-result-3 c = omega (arith, bounds c)
-
-add-result : tie.Need-add-result
-add-result c = omega (arith, bounds c)
-
-add-result-2 : tie.Need-add-result-2
-add-result-2 c = omega (arith, bounds c)
-
 returns : tie.Need-returns
-returns c = product-by-parts (c .args .a) (c .args .b)
+unfolding product
+returns c =
+    let a = c .before .args in
+    c .over-unit .ensures ∙ ap (λ (n : ℕ). n / unit) (add-zero (a .a * a .b))
 
 pub multiply-spec : {M : Type 1} → statement M
-multiply-spec = tie.close (tie.spec mul-result mul-result-2 mul-result-3 add-result add-result-2 returns)
+multiply-spec = tie.close (tie.spec (λ c κs. search needs) returns)

@@ -6,7 +6,7 @@ use native.Mathlib.Nat.{mul-le-mul}
 use native.Mathlib.Omega.{arith}
 use Rattle.discount.specs.Discount.{year, products}
 use Rattle.sieve.specs.Cheap.{whole}
-use Rattle.netting.specs.Netting.{distanceUp, reach}
+use Rattle.netting.specs.Netting.{distanceUp, moved, reach}
 use Rattle.netting.proofs.Sizes.{distance-size}
 use Rattle.netting.proofs.value.reach.Statement.{statement}
 use Rattle.netting.proofs.value.reach.Tie as tie
@@ -14,16 +14,16 @@ use Rattle.netting.proofs.value.reach.Tie as tie
 bound : (s : tie.Start) → s .args .amount * distanceUp (s .args .day) ≤ 1000000000000 * 393
 bound s = mul-le-mul (s .pre .0) (distance-size (s .args .day) (s .pre .1))
 
-mul-result : tie.Need-mul-result
+mul-result-2 : tie.Need-mul-result-2
 unfolding year products distanceUp
-mul-result c = omega (arith, bound c)
+mul-result-2 c = omega (arith, bound c)
 
 add-result : tie.Need-add-result
 unfolding year products distanceUp
 add-result c = omega (arith, bound c)
 
 returns : tie.Need-returns
-unfolding year products whole distanceUp reach
+unfolding year products whole distanceUp moved reach
 returns c = refl
 
 pub reach-spec : {M : Type 1} → statement M
@@ -36,6 +36,8 @@ reach-spec =
     (λ c. search needs)
     (λ c. search needs)
     (λ c. search needs)
-    mul-result
+    (λ c. omega arith)
+    mul-result-2
+    (λ c. omega arith)
     add-result
     returns)

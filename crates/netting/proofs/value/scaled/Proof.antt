@@ -20,13 +20,13 @@ worth-exact n c =
 
 -- what the products are at most
 record Small (n c : ℕ) : Type 0 where
-  upper : 2 * (n / 4294967296) * c ≤ 65192580 * 2147483648
+  upper : 2 * (n / 4294967296) * c ≤ 232830644 * 2147483648
   lower : n % 4294967296 * c ≤ 4294967295 * 2147483648
 
 small : (s : tie.Start) → Small (s .args .amount) (s .args .factor)
 small s =
     let n = s .args .amount in
-    let few : 2 * (n / 4294967296) ≤ 65192580 = omega (arith, s .pre .0) in
+    let few : 2 * (n / 4294967296) ≤ 232830644 = omega (arith, s .pre .0) in
     let less : n % 4294967296 ≤ 4294967295 = omega arith in
     record { upper = mul-le-mul few (s .pre .1); lower = mul-le-mul less (s .pre .1) }
 

@@ -8,10 +8,10 @@ use Rattle.ladder.proofs.total.Total.with_flow.Statement.{statement}
 use Rattle.ladder.proofs.total.Total.with_flow.Tie as tie
 
 -- the flow's value is in its limits
-most : (c : tie.After-multiply) → c .multiply .result ≤ unit
+most : (c : tie.After-discounted) → c .discounted .result ≤ unit
 most c =
     let s = c .before in
-    rw (c .multiply .ensures) (flow-size (s .args .f) (s .args .factor) (s .pre .1) (s .pre .2))
+    rw (c .discounted .ensures) (flow-size (s .args .f) (s .args .factor) (s .pre .1) (s .pre .2))
 
 cast-value : tie.Need-cast-value
 cast-value c = cast-fits (c .before .args .self .sum) _ (c .before .pre .0 .value) (most c)
@@ -33,7 +33,7 @@ returns c =
     let after-struct-known = c .before .before .before in
     let off = after-struct-known .before in
     let at = off .before in
-    rw (read-more (at .before .args .self .sum) _ (at .before .pre .0 .value) (most at), at .multiply .ensures, off .tolerance .ensures, c .before .before .if1 .taken)
+    rw (read-more (at .before .args .self .sum) _ (at .before .pre .0 .value) (most at), at .discounted .ensures, off .tolerance .ensures, c .before .before .if1 .taken)
 
 sub-sum : tie.Need-sub-t9
 sub-sum c =
@@ -47,7 +47,7 @@ returns-2 c =
     let after-struct-known = c .before .before .before in
     let off = after-struct-known .before in
     let at = off .before in
-    rw (read-less (at .before .args .self .sum) _ (at .before .pre .0 .value) (most at), at .multiply .ensures, off .tolerance .ensures, c .before .before .if1 .left)
+    rw (read-less (at .before .args .self .sum) _ (at .before .pre .0 .value) (most at), at .discounted .ensures, off .tolerance .ensures, c .before .before .if1 .left)
 
 pub with-flow-spec : {M : Type 1} → statement M
 with-flow-spec =
