@@ -2,6 +2,7 @@
 
 use crate::book::{draw_book, hold_to_work};
 use crate::draw::Draw;
+use crate::halves::{draw_half_payment, HALVING_RATES, MOST_SMALL};
 use crate::record::bring_within_limit;
 use seddolki_model::accept::Book;
 use seddolki_model::block::{Curve, Node};
@@ -25,10 +26,13 @@ pub enum NearTies {
     LastNode,
     /// Rates at an end of their range, where stresses stop.
     EndRates,
+    /// Payments of whole kuruş and a half, of which the least rise of a rate
+    /// takes a kuruş each.
+    Halves,
 }
 
 impl NearTies {
-    pub const ALL: [NearTies; 7] = [
+    pub const ALL: [NearTies; 8] = [
         NearTies::SmallAmounts,
         NearTies::Opposites,
         NearTies::ZeroComponents,
@@ -36,6 +40,7 @@ impl NearTies {
         NearTies::SmallComponents,
         NearTies::LastNode,
         NearTies::EndRates,
+        NearTies::Halves,
     ];
 }
 
@@ -54,7 +59,13 @@ pub fn draw_near_ties(draw: &mut Draw, ties: NearTies, work: usize) -> Book {
     }
     for curve in &mut book.curves {
         curve.steps = [MAX_STEPS; 3];
-        bring_near(draw, ties, curve);
+        match ties {
+            NearTies::Halves => bring_to_halves(draw, curve),
+            _ => bring_near(draw, ties, curve),
+        }
+    }
+    if ties == NearTies::Halves {
+        pay_halves(draw, &mut book);
     }
     hold_to_work(&mut book, work);
     book
@@ -63,7 +74,7 @@ pub fn draw_near_ties(draw: &mut Draw, ties: NearTies, work: usize) -> Book {
 fn make_amounts_small(draw: &mut Draw, trades: &mut [Record]) {
     for trade in trades {
         for amount in [&mut trade.nominal, &mut trade.repo_cash] {
-            *amount = (*amount).min(draw.within(1..=2_000));
+            *amount = (*amount).min(draw.within(1..=MOST_SMALL));
         }
     }
 }
@@ -83,6 +94,13 @@ fn add_opposites(draw: &mut Draw, book: &mut Book) {
     }
 }
 
+fn pay_halves(draw: &mut Draw, book: &mut Book) {
+    for trade in &mut book.trades {
+        let curve = draw.pick(&book.curves);
+        *trade = draw_half_payment(draw, &curve);
+    }
+}
+
 fn bring_near(draw: &mut Draw, ties: NearTies, curve: &mut Curve) {
     let whole = draw.once_in(3);
     let (one, other) = (draw.place(3), draw.place(3));
@@ -91,7 +109,7 @@ fn bring_near(draw: &mut Draw, ties: NearTies, curve: &mut Curve) {
     let last = curve.nodes().len() - 1;
     for (place, node) in curve.places[..=last].iter_mut().enumerate() {
         match ties {
-            NearTies::SmallAmounts | NearTies::Opposites => {}
+            NearTies::SmallAmounts | NearTies::Opposites | NearTies::Halves => {}
             NearTies::ZeroComponents if whole => node.components = [0; 3],
             NearTies::ZeroComponents => node.components[one] = 0,
             NearTies::AlikeComponents => node.components[one] = sign * node.components[other],
@@ -103,6 +121,24 @@ fn bring_near(draw: &mut Draw, ties: NearTies, curve: &mut Curve) {
     }
     if ties == NearTies::AlikeComponents {
         curve.ranges[one] = curve.ranges[other];
+    }
+}
+
+/// Every node has one rate at which there are halves. Components are small, or
+/// the first alone moves it to another such rate.
+fn bring_to_halves(draw: &mut Draw, curve: &mut Curve) {
+    let mut rates = HALVING_RATES;
+    rates.rotate_left(draw.place(HALVING_RATES.len()));
+    let [rate, others @ ..] = rates;
+    let (other, moves_far) = (draw.pick(&others), draw.once_in(2));
+    curve.ranges = [100; 3];
+    let count = curve.nodes().len();
+    for node in &mut curve.places[..count] {
+        node.rate = rate as u32;
+        make_components_small(draw, node);
+        if moves_far {
+            node.components = [other - rate, 0, 0];
+        }
     }
 }
 

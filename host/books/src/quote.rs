@@ -2,10 +2,13 @@
 
 use crate::curve::draw_components;
 use crate::draw::Draw;
+use crate::halves::Rest;
 use crate::record::{bring_within_limit, draw_security};
-use seddolki_model::block::Curve;
+use seddolki_model::block::{Curve, Node};
 use seddolki_model::bootstrap::bond_value;
-use seddolki_model::limits::{MAX_AMOUNT, MAX_DAY, MAX_RATE, NODES, PAYMENTS};
+use seddolki_model::curve::rate_on;
+use seddolki_model::discount::discount_factor;
+use seddolki_model::limits::{AMOUNTS, MAX_AMOUNT, MAX_COUPON, MAX_DAY, MAX_RATE, NODES, PAYMENTS};
 use seddolki_model::quote::{bond_of, Quote};
 use seddolki_model::record::{Record, COUPONS, FIRST_SIDE, OUTRIGHT};
 
@@ -75,4 +78,39 @@ fn draw_cash(draw: &mut Draw, curve: &Curve, quote: &Quote) -> u64 {
     let near = draw.within(0..=3);
     let cash = draw.pick(&[cash, cash, cash + near, cash.saturating_sub(near)]);
     cash.clamp(least, most)
+}
+
+/// A drawn quote, changed so that some payment is worth whole kuruş and a half
+/// with the new node at some rate; the cash is what the bond is worth then, or
+/// a kuruş less. None where that is no cash or no payment can be a half.
+pub fn draw_half_quote(draw: &mut Draw, curves: &[Curve]) -> Option<Quote> {
+    let quote = draw_quote(draw, curves);
+    let curve = &curves[quote.curve - 1];
+    let mut bond = quote.purchase();
+    let rate = draw.within(0..=MAX_RATE);
+    let node = Node {
+        day: bond.last_payment_day() as u16,
+        rate: rate as u32,
+        ..Node::default()
+    };
+    let nodes = [curve.nodes(), &[node]].concat();
+    let place = draw.place(bond.payments.into()) as u16;
+    let day = u64::from(bond.first_payment_day + place * bond.period);
+    let factor = discount_factor(rate_on(&nodes, day), day);
+    // the payment is the nominal: the last without a coupon, or a coupon of as much
+    let is_last = place + 1 == bond.payments;
+    let (coupon, most) = match is_last {
+        true => (0, MAX_AMOUNT),
+        false => (MAX_COUPON, MAX_AMOUNT / 2),
+    };
+    bond.coupon = coupon;
+    bond.nominal = Rest::Half.draw_amount(draw, factor, most)?;
+    let bond = bond_of(&bond);
+    let worth = bond_value(curve, &Quote { bond, ..quote }, rate);
+    let cash = worth.saturating_sub(draw.within(0..=1));
+    AMOUNTS.contains(&cash).then_some(Quote {
+        bond,
+        cash,
+        ..quote
+    })
 }

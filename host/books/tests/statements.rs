@@ -25,7 +25,7 @@ fn with_page(case: &Case) -> Case {
 #[test]
 fn drawn_statements_reach_every_ending_and_write_the_page_alone() {
     let mut reached = Endings::default();
-    for seed in 0..4_000 {
+    for seed in 0..6_000 {
         let case = draw_statement_case(&mut Draw::new(seed), WORK);
         let outcome = case.run(&Model);
         let ending = StatementEnding::of(&case).expect("the call is a statement");

@@ -1,7 +1,10 @@
-//! Calls on a book that uses all that is lent, on its own day.
+//! Calls on a book that uses all that is lent, on its own day, and what they
+//! report.
 
-use seddolki_books::{Call, Case, Draw};
+use seddolki_books::{Call, Case, Draw, Outcome};
 use seddolki_model::block::{valuation_day, BLOCK};
+use seddolki_model::layout::Layout;
+use seddolki_model::report::Report;
 
 /// A call on a book's bytes.
 pub fn whole_case(bytes: Vec<u8>, call: Call) -> Case {
@@ -18,4 +21,13 @@ pub fn margin_case(draw: &mut Draw, bytes: Vec<u8>) -> Case {
     let behind = draw.place(9);
     let report = draw.bytes(BLOCK + behind);
     whole_case(bytes, Call::Margin { report })
+}
+
+/// What a margin or a preview shows, which is done.
+pub fn report_of(outcome: &Outcome) -> Report {
+    assert_eq!(outcome.answer.number, 0);
+    match &outcome.after.call {
+        Call::Margin { report } | Call::Preview { report, .. } => Report::decode(report),
+        call => panic!("{} has no report", call.name()),
+    }
 }

@@ -14,7 +14,7 @@ mod proved;
 mod settings;
 mod unlike;
 
-pub use cases::{margin_case, whole_case};
+pub use cases::{margin_case, report_of, whole_case};
 pub use followed::Followed;
 pub use page::{read_page, Line};
 pub use proved::Proved;

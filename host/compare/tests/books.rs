@@ -2,16 +2,18 @@
 
 use seddolki_books::{
     assemble, assert_demand_3, book_grounds, damage_book, draw_book, draw_day, form_of, forms,
-    near_tie_book, small_book, typical_book, zero_component_book, Call, Case, Draw,
+    near_tie_book, small_book, typical_book, undiscounted_book, zero_component_book, Call, Case,
+    Draw,
 };
-use seddolki_compare::{assert_alike, books, is_whole, margin_case, whole_case, Proved, Seeds};
+use seddolki_compare::{
+    assert_alike, books, is_whole, margin_case, report_of, whole_case, Proved, Seeds,
+};
 use seddolki_model::accept::{accept_on, Book};
 use seddolki_model::block::{Node, BLOCK};
+use seddolki_model::exact::exact_valuation;
 use seddolki_model::flows::{cash_flows, signs_of};
-use seddolki_model::layout::Layout;
 use seddolki_model::limits::{MAX_AMOUNT, MAX_BLOCKS, MAX_DAY, MAX_RATE, MAX_STEPS, NODES};
 use seddolki_model::record::Record;
-use seddolki_model::report::Report;
 use seddolki_model::{Date, Ground};
 use std::collections::{BTreeMap, BTreeSet};
 
@@ -159,10 +161,7 @@ fn assert_shown(case: &Case) -> bool {
     let outcome = case.run(&Proved);
     match accept_on(&case.lent, case.used, case.day) {
         Ok(book) => {
-            let Call::Margin { report } = &outcome.after.call else {
-                unreachable!("a margin was asked for");
-            };
-            assert_demand_3(&book, &Report::decode(report));
+            assert_demand_3(&book, &report_of(&outcome));
             true
         }
         Err(refusal) => {
@@ -187,4 +186,28 @@ fn reports_keep_demand_3_on_the_day_that_margin_was_given() {
     }
     println!("{shown} reports");
     assert!(!is_whole() || (books() / 40..books() / 20).contains(&shown));
+}
+
+/// Payments of half a kuruş each, in thirteen years at 100%. The factor is cut
+/// to 122,070,312 from 10^12 / 2^13, which leaves less than the half; a
+/// tolerance is 2 × 4,096 × 13 / 10^12, rounded up.
+#[test]
+fn a_report_may_be_as_far_from_the_exact_figures_as_its_tolerance() {
+    let mut book = undiscounted_book();
+    for node in &mut book.curves[0].places[..2] {
+        node.rate = MAX_RATE as u32;
+    }
+    let payment = Record {
+        first_payment_day: 13 * 365,
+        nominal: 4_096,
+        price_or_rate: 1_000_000,
+        ..book.trades[0]
+    };
+    book.trades = vec![payment; 100];
+    let case = margin_case(&mut Draw::new(1), assemble(&book));
+    let report = report_of(&assert_alike(&case, 0));
+    assert_demand_3(&book, &report);
+    let (shown, exact) = (report.curves[0], exact_valuation(&book, &book.curves[0]));
+    assert_eq!((shown.base, shown.tolerance), (100 * -4_096, 100));
+    assert_eq!(exact.base, 100 * (1 - 4_096));
 }

@@ -1,12 +1,16 @@
-//! Bootstraps alone: every ending of one, and curves that grow node by node.
+//! Bootstraps alone: every ending of one, curves that grow node by node, and
+//! bonds that pay halves.
 
 use seddolki_books::{
-    added_node, assemble, draw_book, draw_bootstrap_case, draw_quote, BootstrapEnding, Call, Case,
-    Draw, Endings, Outcome,
+    added_node, assemble, draw_book, draw_bootstrap_case, draw_half_quote, draw_quote, is_half,
+    BootstrapEnding, Call, Case, Draw, Endings, Outcome,
 };
 use seddolki_compare::{assert_alike, calls, is_whole, margin_case, whole_case, Seeds};
 use seddolki_model::accept::accept;
+use seddolki_model::block::{Curve, Node};
 use seddolki_model::bootstrap::bond_value;
+use seddolki_model::flows::payments;
+use seddolki_model::Quote;
 
 /// Bounds the time of a margin.
 const WORK: usize = 300;
@@ -77,4 +81,45 @@ fn curves_grow_alike_until_they_have_no_room() {
         .sum();
     println!("{books} books, {added} nodes added");
     assert!(added as u64 >= 5 * books);
+}
+
+/// A payment of whole kuruş and a half: whether at the rate that was found or at
+/// the one below it, and whether it is the bond's last.
+type HalfPaid = (bool, bool);
+
+fn halves(curve: &Curve, quote: &Quote, found: Node) -> Vec<HalfPaid> {
+    let below = found.rate.checked_sub(1);
+    let below = below.map(|rate| Node { rate, ..found });
+    let paid = payments(&quote.purchase());
+    let mut halves = vec![];
+    for node in [Some(found), below].into_iter().flatten() {
+        let nodes = [curve.nodes(), &[node]].concat();
+        let half = paid.iter().filter(|paid| is_half(&nodes, paid.0, paid.1));
+        let case = |day| (node == found, day == u64::from(node.day));
+        halves.extend(half.map(|paid| case(paid.0)));
+    }
+    halves
+}
+
+#[test]
+fn bonds_that_pay_halves_lengthen_curves_alike() {
+    let seeds = Seeds::of_this_run();
+    let mut reached = Endings::default();
+    for number in 0..calls() / 40 {
+        let mut draw = seeds.draw(number);
+        let book = draw_book(&mut draw, WORK);
+        let Some(quote) = draw_half_quote(&mut draw, &book.curves) else {
+            continue;
+        };
+        let case = whole_case(assemble(&book), Call::Bootstrap { quote });
+        let outcome = assert_alike(&case, number);
+        if outcome.answer.number == 0 {
+            assert_smallest(&case, &outcome);
+            let found = added_node(&outcome, &quote);
+            let halves = halves(&book.curves[quote.curve - 1], &quote, found);
+            halves.into_iter().for_each(|half| reached.add(half));
+        }
+    }
+    let all = [(false, false), (false, true), (true, false), (true, true)];
+    reached.assert_all(all, 10 * u64::from(is_whole()));
 }

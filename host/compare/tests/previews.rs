@@ -2,12 +2,13 @@
 //! equals, its edges, and figures worked out by hand.
 
 use seddolki_books::{
-    append_then_margin, assemble, draw_preview_case, undiscounted_book, Call, Case, Endings, Model,
-    Outcome, PreviewEnding,
+    append_then_margin, assemble, draw_half_payment, draw_near_ties, draw_preview_case,
+    undiscounted_book, Call, Case, Endings, HalfCase, Model, NearTies, Outcome, PreviewEnding,
 };
-use seddolki_compare::{assert_alike, calls, is_whole, whole_case, Proved, Seeds};
+use seddolki_compare::{assert_alike, calls, is_whole, report_of, whole_case, Proved, Seeds};
 use seddolki_model::accept::Book;
 use seddolki_model::block::BLOCK;
+use seddolki_model::flows::cash_flows;
 use seddolki_model::layout::Layout;
 use seddolki_model::limits::{FULL_BLOCK, MAX_BLOCKS};
 use seddolki_model::record::{Record, SECOND_SIDE};
@@ -225,4 +226,22 @@ fn the_report_has_the_trade_that_the_book_lacks() {
         assert_eq!(outcome.answer, done());
         assert_eq!(figures(space_of(&outcome)), with, "{record:?}");
     }
+}
+
+#[test]
+fn halves_that_the_book_lacks_are_previewed_alike_received_and_paid() {
+    let seeds = Seeds::of_this_run();
+    let mut reached = Endings::default();
+    for number in 0..calls() / 100 {
+        let mut draw = seeds.draw(number);
+        let book = draw_near_ties(&mut draw, NearTies::Halves, WORK / 3);
+        let curve = draw.pick(&book.curves);
+        let record = draw_half_payment(&mut draw, &curve);
+        let outcome = preview(&book, &record, BLOCK, BLOCK);
+        let shown = report_of(&outcome).curves[usize::from(curve.id) - 1];
+        let cases = HalfCase::of(&curve, &shown, &cash_flows(&record));
+        cases.into_iter().for_each(|case| reached.add(case));
+    }
+    let all = HalfCase::all().filter(HalfCase::is_of_one_sign);
+    reached.assert_all(all, is_whole().into());
 }

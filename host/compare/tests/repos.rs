@@ -5,12 +5,13 @@ use seddolki_books::{
     assemble, assert_demand_3, draw_repo, draw_repo_book, undiscounted_book, Call, Case, Draw,
     Endings, RepoCase,
 };
-use seddolki_compare::{assert_alike, calls, is_whole, margin_case, whole_case, Proved, Seeds};
+use seddolki_compare::{
+    assert_alike, calls, is_whole, margin_case, report_of, whole_case, Proved, Seeds,
+};
 use seddolki_model::accept::Book;
 use seddolki_model::block::BLOCK;
 use seddolki_model::layout::Layout;
 use seddolki_model::record::{Record, COUPONS, FIRST_SIDE, POOL, SECOND_SIDE, SPECIFIED};
-use seddolki_model::report::Report;
 use seddolki_model::Ground;
 
 /// Bounds the time of a margin.
@@ -80,11 +81,7 @@ fn reports_of_books_of_repos_keep_demand_3_and_reach_every_case() {
         let mut draw = seeds.draw(number);
         let book = draw_repo_book(&mut draw, WORK);
         let outcome = margin_case(&mut draw, assemble(&book)).run(&Proved);
-        let Call::Margin { report } = outcome.after.call else {
-            unreachable!("a margin was asked for");
-        };
-        assert_eq!(outcome.answer.number, 0);
-        assert_demand_3(&book, &Report::decode(&report));
+        assert_demand_3(&book, &report_of(&outcome));
         let cases = book.trades.iter().flat_map(RepoCase::of);
         cases.for_each(|case| reached.add(case));
     }
@@ -122,12 +119,7 @@ fn figures(trade: Record) -> (i64, i64, u32, u64) {
         ..undiscounted_book()
     };
     let case = margin_case(&mut Draw::new(1), assemble(&book));
-    let outcome = assert_alike(&case, 0);
-    assert_eq!(outcome.answer.number, 0, "{trade:?}");
-    let Call::Margin { report } = outcome.after.call else {
-        unreachable!("a margin was asked for");
-    };
-    let curve = Report::decode(&report).curves[0];
+    let curve = report_of(&assert_alike(&case, 0)).curves[0];
     (
         curve.base,
         curve.worst_loss,
@@ -143,8 +135,8 @@ fn figures_of_repos_are_those_worked_out_by_hand() {
         (3, 1, (-200, 0, 0, 3), (200, 200 + 3_675, 2, 3)),
         // the nominal falls on day 730: stressed 5,000 - 1,250 - 50 - 275
         (2, 1, (-1_200, 0, 0, 3), (1_200, 1_200 + 3_425, 2, 3)),
-        // 5,000 out, 1,100 in on day 1,095; stressed 1,250 and 137
-        (3, 2, (-3_900, 0, 0, 2), (3_900, 3_900 - 1_113, 2, 2)),
+        // 5,000 out, 1,100 in on day 1,095; stressed 1,250 and 137.5, so 138
+        (3, 2, (-3_900, 0, 0, 2), (3_900, 3_900 - 1_112, 2, 2)),
         // nothing is paid after day 730
         (2, 2, (-5_000, 0, 0, 1), (5_000, 5_000 - 1_250, 2, 1)),
     ] {

@@ -1,6 +1,7 @@
 //! Discount factors and present values.
 
 use crate::limits::MAX_RATE;
+use crate::rounding::half_up;
 use crate::search::largest;
 use crate::units::{ONE, UNIT, YEAR};
 use std::collections::HashMap;
@@ -66,9 +67,10 @@ impl Factors {
     }
 }
 
-/// The present value of an amount: amount × factor / S rounded down.
+/// The present value of an amount without its sign: amount × factor / S
+/// half-up.
 pub fn present_value(amount: u128, factor: u64) -> u64 {
-    (amount * u128::from(factor) / u128::from(UNIT)) as u64
+    half_up(amount * u128::from(factor), UNIT.into()) as u64
 }
 
 /// How far a present value may be from the exact one, rounded up.

@@ -1,4 +1,5 @@
-//! The exact values of demand 3, by the power inequality alone.
+//! The exact values of demand 3 to the nearest kuruş, by the power inequality
+//! alone.
 
 use crate::accept::Book;
 use crate::big::Big;
@@ -10,16 +11,18 @@ use crate::units::{ONE, YEAR};
 use crate::valuation::Valuation;
 use std::cell::OnceCell;
 
-/// V^year × up^days ≤ amount^year × down^days, asked of V.
+/// n^year × up^days ≤ halves^year × down^days, asked of n: whether n halves of
+/// a kuruş are at most what the amount is worth.
 struct Inequality {
-    amount: u64,
+    /// The amount in halves of a kuruş.
+    halves: u64,
     year: u64,
     days: u64,
     up: u64,
     down: u64,
 }
 
-/// The parts of the inequality that V leaves alone.
+/// The parts of the inequality that n leaves alone.
 struct Sides<N> {
     year: u64,
     growth: N,
@@ -33,7 +36,7 @@ impl Inequality {
         let root = common_divisor(YEAR, days);
         let part = common_divisor(ONE + rate, ONE);
         Inequality {
-            amount,
+            halves: 2 * amount,
             year: YEAR / root,
             days: days / root,
             up: (ONE + rate) / part,
@@ -42,18 +45,18 @@ impl Inequality {
     }
 
     fn sides<N: Number>(&self) -> Sides<N> {
-        let amount = N::from(self.amount).power(self.year);
+        let halves = N::from(self.halves).power(self.year);
         Sides {
             year: self.year,
             growth: N::from(self.up).power(self.days),
-            right: amount.times(&N::from(self.down).power(self.days)),
+            right: halves.times(&N::from(self.down).power(self.days)),
         }
     }
 }
 
 impl<N: Number> Sides<N> {
-    fn left(&self, value: u64) -> N {
-        N::from(value).power(self.year).times(&self.growth)
+    fn left(&self, halves: u64) -> N {
+        N::from(halves).power(self.year).times(&self.growth)
     }
 }
 
@@ -65,7 +68,9 @@ fn common_divisor(a: u64, b: u64) -> u64 {
     }
 }
 
-/// The largest V with V^365 × (10^6 + rate)^days ≤ amount^365 × (10^6)^days.
+/// The exact value of an amount without its sign, halves up: the largest V that
+/// is 0 or keeps
+/// (2V - 1)^365 × (10^6 + rate)^days ≤ (2 × amount)^365 × (10^6)^days.
 /// The bounds decide where they can, whole numbers where they cannot.
 pub fn exact_value(amount: u64, rate: u64, days: u64) -> u64 {
     if amount == 0 || rate == 0 || days == 0 {
@@ -76,11 +81,15 @@ pub fn exact_value(amount: u64, rate: u64, days: u64) -> u64 {
     let slow: OnceCell<Sides<Big>> = OnceCell::new();
     let yearly = 1.0 + rate as f64 / ONE as f64;
     let guess = amount as f64 / yearly.powf(days as f64 / YEAR as f64);
-    largest(amount, guess as u64, |value| {
-        quick.left(value).at_most(&quick.right).unwrap_or_else(|| {
+    let at_most = |halves: u64| {
+        let told = quick.left(halves).at_most(&quick.right);
+        told.unwrap_or_else(|| {
             let slow = slow.get_or_init(|| inequality.sides());
-            slow.left(value) <= slow.right
+            slow.left(halves) <= slow.right
         })
+    };
+    largest(amount, guess.round() as u64, |value| {
+        value == 0 || at_most(2 * value - 1)
     })
 }
 

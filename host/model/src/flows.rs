@@ -4,6 +4,7 @@ use crate::record::{
     Record, COUPONS, FIRST_SIDE, INDEXED_COUPONS, OUTRIGHT, POOL, SECOND_SIDE, SINGLE_PAYMENT,
     SPECIFIED,
 };
+use crate::rounding::half_up;
 use crate::units::{ONE, YEAR};
 
 const WITHHOLDING_PERCENT: u128 = 15;
@@ -62,11 +63,6 @@ pub fn signs_of(record: &Record) -> Option<Signs> {
         .iter()
         .find(|line| (line.0, line.1, line.2) == (record.kind, record.phase, record.side))
         .map(|line| line.3)
-}
-
-/// Nearest whole number, halves up.
-pub fn half_up(numerator: u128, denominator: u128) -> u128 {
-    (2 * numerator + denominator) / (2 * denominator)
 }
 
 /// A quoted price, without what has accrued.

@@ -24,6 +24,7 @@ pub mod margin;
 pub mod number;
 mod reasons;
 mod require;
+pub mod rounding;
 pub mod rules;
 pub mod scenario;
 pub mod search;

@@ -1,6 +1,10 @@
 //! Curves lengthened by what a bond costs, worked by hand.
 
-use seddolki_model::block::{assemble, Curve, Node, BLOCK, CURVE};
+#[path = "samples/flat_curve.rs"]
+mod flat_curve;
+
+use flat_curve::flat_curve;
+use seddolki_model::block::{assemble, Curve, Node, BLOCK};
 use seddolki_model::bootstrap::{bond_value, new_node};
 use seddolki_model::quote::{bond_of, BOND};
 use seddolki_model::record::Record;
@@ -14,25 +18,11 @@ const MOST: u64 = 1_000_000_000_000;
 
 const COMPONENTS: [i32; 3] = [250_000, -3, 0];
 
-/// Nodes a year and two years ahead, both at a rate.
 fn flat(rate: u32) -> Curve {
-    let node = |day| Node {
-        day,
-        rate,
-        components: [250_000, 0, 0],
-    };
-    let mut curve = Curve {
-        kind: CURVE,
-        number: 1,
-        id: 1,
-        currency: 1,
-        node_count: 2,
-        steps: [1, 0, 0],
+    Curve {
         ranges: [300, 0, 0],
-        ..Curve::default()
-    };
-    curve.places[..2].copy_from_slice(&[node(365), node(730)]);
-    curve
+        ..flat_curve(1, rate, 250_000)
+    }
 }
 
 /// A bond that pays yearly.
@@ -112,17 +102,39 @@ fn one_payment_in_three_years() {
 
 #[test]
 fn the_smallest_of_many_rates_that_fit() {
-    // a kuruş is worth 1 at rate 0 alone; 8 are worth 1 from a rate at which
-    // the cube of 1 and the rate passes 4, and 1 still at 1,000,000
+    // a kuruş is worth 1 at most; 8 are worth less than 1.5, so 1, from a rate
+    // at which the cube of 1 and the rate passes 16/3, and 11 from 22/3; at
+    // 1,000,000 both are still worth 1
     let curve = flat(250_000);
     gives(&curve, bond(1_095, 1, 0, 1), &[(1, 0)]);
-    gives(&curve, bond(1_095, 1, 0, 8), &[(1, 587_402), (8, 0)]);
+    gives(&curve, bond(1_095, 1, 0, 8), &[(1, 747_161), (8, 0)]);
+    gives(&curve, bond(1_095, 1, 0, 11), &[(1, 942_826), (11, 0)]);
+}
+
+#[test]
+fn payments_are_rounded_one_by_one() {
+    // 3 in one year and in two: 1.5 and 0.75, so 2 and 1; behind them 33 in
+    // three, less than 32.5 from a rate at which the cube of 1 and the rate
+    // passes 66/65, and less than 4.5 from 22/3
+    gives(
+        &flat(1_000_000),
+        bond(365, 3, 100_000, 30),
+        &[(36, 0), (35, 5_103), (7, 942_826)],
+    );
 }
 
 #[test]
 fn no_rate_fits() {
     let curve = flat(250_000);
-    for (nominal, cash) in [(MOST, 124_999_999_999), (MOST - 1, MOST), (77, 78), (16, 1)] {
+    let bonds = [
+        (MOST, 124_999_999_999),
+        (MOST - 1, MOST),
+        (77, 78),
+        (16, 1),
+        // an eighth is 1.5, so 2
+        (12, 1),
+    ];
+    for (nominal, cash) in bonds {
         let quote = quote(bond(1_095, 1, 0, nominal), cash);
         let whole = assemble(7, DAY, &[curve], &[]);
         assert_eq!(run(&curve, &quote), (refused(Ground::RateRange), whole));
@@ -173,12 +185,13 @@ fn payments_behind_the_last_node_are_on_the_line_to_the_new_one() {
 
 #[test]
 fn a_falling_rate_is_cut_towards_zero() {
-    // half way from 250,000 to 249,999 is 250,000 and to 249,998 is 249,999
+    // half way from 250,000 to 249,999 is 250,000 and to 249,998 is 249,999;
+    // at 249,998 the later payment is worth 81,920,524,289.8
     let bond = bond(1_095, 2, 1_000_000, 100_000_000_000);
     for (rate, value) in [
         (250_000, 51_200_000_000 + 81_920_000_000),
         (249_999, 51_200_000_000 + 81_920_262_144),
-        (249_998, 51_200_122_880 + 81_920_524_289),
+        (249_998, 51_200_122_880 + 81_920_524_290),
     ] {
         assert_eq!(bond_value(&flat(250_000), &quote(bond, 1), rate), value);
     }

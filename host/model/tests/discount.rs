@@ -21,20 +21,22 @@ fn daily_factor_is_the_largest() {
     assert_eq!(daily(0), UNIT);
 }
 
-/// The definition word for word, by halving and in whole numbers.
+/// The definition word for word, by halving and in whole numbers: document
+/// 01's value, rounded down, and one more if what is left is a half at least.
 fn defined_value(amount: u64, rate: u64, days: u64) -> u64 {
     let growth = Big::from(ONE + rate).power(days);
-    let right = Big::from(amount)
-        .power(YEAR)
-        .times(&Big::from(ONE).power(days));
-    largest(amount, amount / 2, |value| {
-        Big::from(value).power(YEAR).times(&growth) <= right
-    })
+    let scale = Big::from(ONE).power(days);
+    let left = |value: u64| Big::from(value).power(YEAR).times(&growth);
+    let right = |amount: u64| Big::from(amount).power(YEAR).times(&scale);
+    let whole = right(amount);
+    let down = largest(amount, amount / 2, |value| left(value) <= whole);
+    let half_is_left = left(2 * down + 1) <= right(2 * amount);
+    down + u64::from(half_is_left)
 }
 
 #[test]
 fn exact_value_is_as_defined() {
-    let amounts = [0, 1, 77, 999_999_999_999];
+    let amounts = [0, 1, 2, 3, 77, 999_999_999_999];
     let rates = [0, 1, 610_510, 1_000_000];
     for amount in amounts {
         for rate in rates {
@@ -71,10 +73,18 @@ fn exact_value_at_equality() {
     assert_eq!(exact_value(110_000_000_000, 610_510, 73), 100_000_000_000);
     assert_eq!(exact_value(109_999_999_999, 610_510, 73), 99_999_999_999);
     assert_eq!(exact_value(1 << 39, 1_000_000, 365 * 30), 1 << 9);
-    assert_eq!(
-        exact_value((1 << 39) - 1, 1_000_000, 365 * 30),
-        (1 << 9) - 1
-    );
+    assert_eq!(exact_value((1 << 39) - 1, 1_000_000, 365 * 30), 1 << 9);
+}
+
+/// A whole number and a half of 2^30, and one less, thirty years ahead.
+#[test]
+fn exact_value_at_a_half() {
+    let half = 1 << 29;
+    for whole in [0, 1, 2, 511, 512, 930] {
+        let amount = (whole << 30) + half;
+        assert_eq!(exact_value(amount, 1_000_000, 365 * 30), whole + 1);
+        assert_eq!(exact_value(amount - 1, 1_000_000, 365 * 30), whole);
+    }
 }
 
 /// One product by two ways: the bounds may leave it open which is larger.

@@ -1,6 +1,6 @@
 //! Flows of each kind of trade, worked by hand.
 
-use seddolki_model::flows::{cash_flows, half_up, CashFlow};
+use seddolki_model::flows::{cash_flows, CashFlow};
 use seddolki_model::record::{
     Record, COUPONS, FIRST_SIDE, INDEXED_COUPONS, OUTRIGHT, POOL, SECOND_SIDE, SINGLE_PAYMENT,
     SPECIFIED,
@@ -122,13 +122,4 @@ fn a_repo_settled_has_its_second_leg_and_payments() {
         [cash(1, 1_000_307_397), payment(10, -1_000)]
     );
     assert_eq!(cash_flows(&repo(POOL, 3, SECOND_SIDE)), []);
-}
-
-#[test]
-fn halves_go_up() {
-    assert_eq!(half_up(5, 10), 1);
-    assert_eq!(half_up(4, 10), 0);
-    assert_eq!(half_up(1, 3), 0);
-    assert_eq!(half_up(2, 3), 1);
-    assert_eq!(half_up(15, 10), 2);
 }

@@ -1,8 +1,12 @@
 //! Margins of repos with payments inside the term, worked by hand: base,
 //! loss, tolerance and the exact figures.
 
+#[path = "samples/flat_curve.rs"]
+mod flat_curve;
+
+use flat_curve::flat_curve;
 use seddolki_model::accept::{accept, Book};
-use seddolki_model::block::{assemble, Curve, Node, BLOCK, CURVE};
+use seddolki_model::block::{assemble, BLOCK};
 use seddolki_model::exact::exact_valuation;
 use seddolki_model::layout::Layout;
 use seddolki_model::record::{Record, COUPONS, FIRST_SIDE, SECOND_SIDE, SPECIFIED};
@@ -12,32 +16,10 @@ use seddolki_model::{margin, Date};
 /// The day that the books are for.
 const DAY: Date = Date::from_days(9_815);
 
-/// Three scenarios. The component moves the nodes by its double, so that the
-/// last scenario takes a rate of 100% to 0.
-fn curve(id: u8, rate: u32, component: i32) -> Curve {
-    let node = |day| Node {
-        day,
-        rate,
-        components: [component, 0, 0],
-    };
-    let mut curve = Curve {
-        kind: CURVE,
-        number: id.into(),
-        id,
-        currency: 1,
-        node_count: 2,
-        steps: [1, 0, 0],
-        ranges: [100, 0, 0],
-        ..Curve::default()
-    };
-    curve.places[..2].copy_from_slice(&[node(365), node(730)]);
-    curve
-}
-
 /// Cash at rate 0 in every scenario; the security's payments at 100%, in
 /// scenario 2 at 0.
 fn book_of(trade: Record) -> Book {
-    let curves = [curve(1, 0, 0), curve(2, 1_000_000, -1_000_000)];
+    let curves = [flat_curve(1, 0, 0), flat_curve(2, 1_000_000, -1_000_000)];
     let bytes = assemble(7, DAY, &curves, &[trade]);
     accept(&bytes, bytes.len()).expect("the trade keeps the rules")
 }
@@ -153,7 +135,7 @@ fn a_nominal_inside_the_term_is_in_base_loss_and_tolerance() {
 }
 
 /// Of the three payments only 1,100 on day 1,095 is behind the term: an
-/// eighth is 137.5, rounded down, and 1,100 at rate 0. The tolerance is
+/// eighth is 137.5, so 138, and 1,100 at rate 0. The tolerance is
 /// ⌈1,100 × 2 × 3 / 10^12⌉; the second leg alone is left of the cash.
 #[test]
 fn payments_behind_the_term_are_in_base_loss_and_tolerance_of_a_settled_repo() {
@@ -162,19 +144,19 @@ fn payments_behind_the_term_are_in_base_loss_and_tolerance_of_a_settled_repo() {
         ..repo(side)
     };
     let member = Due {
-        base: 137,
+        base: 138,
         worst_loss: 0,
         scenario: 0,
         tolerance: 1,
-        exact_losses: [0, 0, -963],
+        exact_losses: [0, 0, -962],
     };
     assert_figures(settled(FIRST_SIDE), -5_000, member);
     let other = Due {
-        base: -137,
-        worst_loss: 963,
+        base: -138,
+        worst_loss: 962,
         scenario: 2,
         tolerance: 1,
-        exact_losses: [0, 0, 963],
+        exact_losses: [0, 0, 962],
     };
     assert_figures(settled(SECOND_SIDE), 5_000, other);
 }

@@ -1,10 +1,13 @@
 //! The account statement: pages written out by hand, and the order of its
 //! grounds.
 
+#[path = "samples/flat_curve.rs"]
+mod flat_curve;
 mod samples;
 
+use flat_curve::flat_curve;
 use samples::single_payment;
-use seddolki_model::block::{assemble, Curve, Node, BLOCK, CURVE};
+use seddolki_model::block::{assemble, Curve, BLOCK};
 use seddolki_model::page::{LINE, PAGE};
 use seddolki_model::record::{Record, COUPONS, INDEXED_COUPONS, OUTRIGHT, POOL, SPECIFIED};
 use seddolki_model::{statement, Answer, Date, Ground, Refusal};
@@ -18,24 +21,11 @@ const EUR: u8 = 3;
 /// Nodes at a rate, which in scenario 2 is higher by 25% for each 100 of the
 /// range, and in scenario 0 as much lower.
 fn curve(id: u8, currency: u8, rate: u32, range: u16) -> Curve {
-    let mut curve = Curve {
-        kind: CURVE,
-        number: id.into(),
-        id,
+    Curve {
         currency,
-        node_count: 2,
-        steps: [1, 0, 0],
         ranges: [range, 0, 0],
-        ..Curve::default()
-    };
-    for (place, day) in curve.places.iter_mut().zip([365, 730]) {
-        *place = Node {
-            day,
-            rate,
-            components: [250_000, 0, 0],
-        };
+        ..flat_curve(id, rate, 250_000)
     }
-    curve
 }
 
 /// The curve of document 01's example.
@@ -151,8 +141,8 @@ fn book_of_each_kind(side: u8) -> Vec<u8> {
 }
 
 /// In TRY 29,500 of the bond and 59,500 of the repo, and five flows that do
-/// not fall today. In EUR 5; at 100% a day of a year halves 50,005 to 25,002,
-/// which leaves -24,998.
+/// not fall today. In EUR 5; at 100% a day of a year halves 50,005 to 25,003,
+/// half a kuruş up, which leaves -24,997.
 #[test]
 fn a_trade_of_each_kind_in_two_currencies() {
     let lines = [
@@ -160,15 +150,15 @@ fn a_trade_of_each_kind_in_two_currencies() {
         "0 1 1 282                                                                1000.00",
         "1 2 2 8                                                                     0.00",
         "2 3 1 365                                                                 500.05",
-        "1 2 EUR                         0.05                250.03                  0.01",
+        "1 2 EUR                         0.05                250.02                  0.01",
         "2 0 TRY                       890.00                  0.00                  0.06",
         "TRY                             0.00                890.00                890.00",
-        "EUR                           250.03                  0.05               -249.98",
+        "EUR                           250.02                  0.05               -249.97",
     ];
     shows(&book_of_each_kind(1), &lines);
 }
 
-/// In EUR -5, and 24,998 at 100%, which is no loss.
+/// In EUR -5, and 24,997 at 100%, which is no loss.
 #[test]
 fn an_amount_below_zero_by_less_than_one() {
     let lines = [

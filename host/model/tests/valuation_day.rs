@@ -1,9 +1,12 @@
 //! The day that a book is for: where it stands, who tests it, and when.
 
+#[path = "samples/flat_curve.rs"]
+mod flat_curve;
 mod samples;
 
+use flat_curve::flat_curve;
 use samples::single_payment;
-use seddolki_model::block::{assemble, seal, Curve, Node, BLOCK, CURVE};
+use seddolki_model::block::{assemble, seal, Curve, BLOCK};
 use seddolki_model::layout::Layout;
 use seddolki_model::page::LINE;
 use seddolki_model::quote::bond_of;
@@ -15,22 +18,7 @@ use seddolki_model::{Answer, Date, Ground, Quote};
 const DAYS: [u32; 8] = [0, 1, 255, 9_815, 65_536, 1 << 24, 0x0102_0304, u32::MAX];
 
 fn curve() -> Curve {
-    let mut curve = Curve {
-        kind: CURVE,
-        number: 1,
-        id: 1,
-        currency: 1,
-        node_count: 2,
-        ..Curve::default()
-    };
-    for (place, day) in curve.places.iter_mut().zip([365, 730]) {
-        *place = Node {
-            day,
-            rate: 250_000,
-            components: [250_000, 0, 0],
-        };
-    }
-    curve
+    flat_curve(1, 250_000, 250_000)
 }
 
 /// Lengthens the curve by a payment in three years.

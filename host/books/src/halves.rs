@@ -1,0 +1,160 @@
+//! Amounts that are worth whole kuruş and a half, or next to it, and where
+//! flows of a half are in a report.
+
+use crate::draw::Draw;
+use seddolki_model::block::{Curve, Node};
+use seddolki_model::curve::rate_on;
+use seddolki_model::discount::discount_factor;
+use seddolki_model::flows::CashFlow;
+use seddolki_model::record::{Record, FIRST_SIDE, OUTRIGHT, SECOND_SIDE, SINGLE_PAYMENT};
+use seddolki_model::report::CurveFigures;
+use seddolki_model::scenario::{scenarios, stressed_nodes};
+use seddolki_model::units::{ONE, UNIT, YEAR};
+use std::cmp::Ordering;
+
+/// Half a kuruş in amount × factor, of which S are a kuruş.
+const HALF: u64 = UNIT / 2;
+
+/// What differs from a half by a millionth of a kuruş at most is near it.
+const NEAR: u64 = UNIT / 1_000_000;
+
+/// What an amount is worth behind its whole kuruş.
+#[derive(Clone, Copy, Debug, PartialEq, Eq, PartialOrd, Ord)]
+pub enum Rest {
+    JustBelow,
+    Half,
+    JustAbove,
+}
+
+impl Rest {
+    pub const ALL: [Rest; 3] = [Rest::JustBelow, Rest::Half, Rest::JustAbove];
+
+    /// That of an amount at a discount factor, if it is a half or near it.
+    pub fn of(amount: u64, factor: u64) -> Option<Self> {
+        let worth = u128::from(amount) * u128::from(factor);
+        let rest = (worth % u128::from(UNIT)) as u64;
+        let found = match rest.cmp(&HALF) {
+            Ordering::Less => Rest::JustBelow,
+            Ordering::Equal => Rest::Half,
+            Ordering::Greater => Rest::JustAbove,
+        };
+        (rest.abs_diff(HALF) <= NEAR).then_some(found)
+    }
+
+    /// An amount up to `most` with this rest at a discount factor, if there is
+    /// one, often as near to the half as can be.
+    pub fn draw_amount(self, draw: &mut Draw, factor: u64, most: u64) -> Option<u64> {
+        let (divisor, multiplier) = divisor_of(factor);
+        let furthest = NEAR / divisor;
+        if !HALF.is_multiple_of(divisor) || (self != Rest::Half && furthest == 0) {
+            return None;
+        }
+        let away = divisor * draw.edge(1..=furthest.max(1));
+        let rest = match self {
+            Rest::JustBelow => HALF - away,
+            Rest::Half => HALF,
+            Rest::JustAbove => HALF + away,
+        };
+        // amounts of one rest are a period apart
+        let period = UNIT / divisor;
+        let least = u128::from(rest / divisor) * u128::from(multiplier) % u128::from(period);
+        let more = most.checked_sub(least as u64)? / period;
+        Some(least as u64 + period * draw.edge(0..=more))
+    }
+}
+
+/// The greatest common divisor of a factor and S, and what the factor is
+/// multiplied by to leave it as its rest.
+fn divisor_of(factor: u64) -> (u64, u64) {
+    let unit = UNIT as i64;
+    let (mut last, mut next) = ((unit, 0), (factor as i64, 1));
+    while next.0 != 0 {
+        let times = last.0 / next.0;
+        (last, next) = (next, (last.0 - times * next.0, last.1 - times * next.1));
+    }
+    (last.0 as u64, last.1.rem_euclid(unit) as u64)
+}
+
+/// Rates at which small amounts are worth whole kuruş and a half in whole
+/// years: what is left after one is 1/2, 5/8 or 25/32.
+pub(crate) const HALVING_RATES: [i32; 3] = [1_000_000, 600_000, 280_000];
+
+/// Rates move the value of as much by a few kuruş.
+pub(crate) const MOST_SMALL: u64 = 2_000;
+
+/// A small payment in a year or two, bought or sold for as much today: worth
+/// whole kuruş and a half, if that can be, by the curve's own rates or by those
+/// that the first component moves them to.
+pub fn draw_half_payment(draw: &mut Draw, curve: &Curve) -> Record {
+    let day = YEAR * draw.within(1..=2);
+    let coefficient = draw.pick(&[0, 100]);
+    let nodes = stressed_nodes(curve.nodes(), &[coefficient, 0, 0]);
+    let factor = discount_factor(rate_on(&nodes, day), day);
+    let any = draw.within(1..=MOST_SMALL);
+    let half = Rest::Half.draw_amount(draw, factor, MOST_SMALL);
+    Record {
+        kind: OUTRIGHT,
+        side: draw.pick(&[FIRST_SIDE, SECOND_SIDE]),
+        security: SINGLE_PAYMENT,
+        security_curve: curve.id,
+        cash_curve: curve.id,
+        first_payment_day: day as u16,
+        nominal: half.unwrap_or(any),
+        price_or_rate: ONE as u32,
+        ..Record::default()
+    }
+}
+
+/// Whether an amount is worth whole kuruş and a half by these nodes.
+pub fn is_half(nodes: &[Node], day: u64, amount: u128) -> bool {
+    let factor = discount_factor(rate_on(nodes, day), day);
+    Rest::of(amount as u64, factor) == Some(Rest::Half)
+}
+
+/// Which flows of whole kuruş and a half are behind what a report shows of a
+/// curve.
+#[derive(Clone, Copy, Debug, PartialEq, Eq, PartialOrd, Ord)]
+pub struct HalfCase {
+    /// At the rates of a worst loss that is not 0, or at the curve's own.
+    of_worst_loss: bool,
+    received: bool,
+    paid: bool,
+}
+
+impl HalfCase {
+    /// All that there are, the flows of one sign or of both.
+    pub fn all() -> impl Iterator<Item = Self> {
+        let signs = [(true, false), (false, true), (true, true)];
+        let cases = signs.map(|signs| [(false, signs), (true, signs)]);
+        let case = |(of_worst_loss, (received, paid))| HalfCase {
+            of_worst_loss,
+            received,
+            paid,
+        };
+        cases.into_iter().flatten().map(case)
+    }
+
+    pub fn is_of_one_sign(&self) -> bool {
+        self.received != self.paid
+    }
+
+    /// Those of some flows on a curve, of which this is shown.
+    pub fn of(curve: &Curve, shown: &CurveFigures, flows: &[CashFlow]) -> Vec<Self> {
+        let case = |of_worst_loss, nodes: &[Node]| {
+            let mut halves = flows.to_vec();
+            halves.retain(|flow| is_half(nodes, flow.day, flow.amount));
+            HalfCase {
+                of_worst_loss,
+                received: halves.iter().any(|flow| flow.sign > 0),
+                paid: halves.iter().any(|flow| flow.sign < 0),
+            }
+        };
+        let mut cases = vec![case(false, curve.nodes())];
+        if shown.worst_loss > 0 {
+            let scenario = scenarios(curve)[shown.scenario as usize];
+            cases.push(case(true, &stressed_nodes(curve.nodes(), &scenario)));
+        }
+        cases.retain(|case| case.received || case.paid);
+        cases
+    }
+}
