@@ -5,8 +5,8 @@
 #include <stdio.h>
 #include <stdlib.h>
 
-#if SEDDOLKI_VERSION != 6
-#error "this program is written for version 6 of seddolki.h"
+#if SEDDOLKI_VERSION != 7
+#error "this program is written for version 7 of seddolki.h"
 #endif
 
 /* A file that is longer than the largest book is refused by its length. */

@@ -1,5 +1,7 @@
 #include "bond.h"
 
+#include "half_up.h"
+
 enum { ONE = 1000000 };
 
 uint64_t last_payment_day(const seddolki_bond *bond) {
@@ -34,7 +36,7 @@ uint64_t rate_on(const seddolki_curve *curve, uint64_t day) {
 
 uint64_t value_of(const seddolki_bond *bond, const seddolki_curve *curve) {
     uint64_t nominal = seddolki_get_u64(&bond->nominal), sum = 0, tolerance;
-    uint64_t coupon = (nominal * seddolki_get_u32(&bond->coupon) + ONE / 2) / ONE;
+    uint64_t coupon = half_up((wide)nominal * seddolki_get_u32(&bond->coupon), ONE);
     uint64_t last = last_payment_day(bond), day = seddolki_get_u16(&bond->first_payment_day);
     for (; day <= last; day += seddolki_get_u16(&bond->period)) {
         uint64_t amount = day == last ? coupon + nominal : coupon;

@@ -85,16 +85,6 @@ static void try_append(const input *in, seddolki_answer due) {
     expect(!memcmp(book, in->lent, in->used), "append and strike cancel");
 }
 
-static void try_present_value(const input *in, seddolki_answer due) {
-    (void)due;
-    uint64_t amount = seddolki_get_u64(&in->head->amount), rate = seddolki_get_u64(&in->head->rate);
-    uint64_t day = seddolki_get_u64(&in->head->day), tolerance = 7;
-    seddolki_answer answer =
-        seen(PRESENT_VALUE, seddolki_present_value(amount, rate, day, &tolerance));
-    expect(!answer.number || tolerance == 0, "a refused present value has tolerance 0");
-    expect(answer.number || answer.value <= amount, "a present value is at most the amount");
-}
-
 static input parse(const uint8_t *data, size_t size) {
     const input_head *head = (const input_head *)data;
     input in = {.head = head, .lent = data + HEAD, .len = size - HEAD};

@@ -1,14 +1,9 @@
 #include "flows.h"
 
 #include "bond.h"
+#include "half_up.h"
 
 enum { ONE = 1000000, YEAR = 365, WITHHELD_PERCENT = 15 };
-
-typedef unsigned __int128 wide;
-
-static uint64_t half_up(wide number, wide divisor) {
-    return (uint64_t)((2 * number + divisor) / (2 * divisor));
-}
 
 /* Of cash or of a payment: 1 in, -1 out, 0 none. */
 typedef struct {

@@ -2,8 +2,9 @@
  * Changes inputs so that many get past the length, the checks and the rules
  * of a book: one time in ten any bytes change, otherwise a field in its
  * place, a whole record, the days of its payments, the bond and its cash, the
- * day that the book is for or the current day, the position, or the lengths
- * that are lent. At times a book is to be filled with trades.
+ * day that the book is for or the current day, the position, the amount, rate
+ * and day of a present value, or the lengths that are lent. At times a book is
+ * to be filled with trades.
  * The current day is that of the book most times. The length of the book, the
  * places of its blocks and their checks are then mended.
  */
@@ -158,6 +159,18 @@ static void move_position(uint8_t *data, size_t blocks, uint64_t *state) {
     seddolki_set_u32(&head_of(data)->position, (uint32_t)draw(state, trades + 1));
 }
 
+/* Asks for the present value of a small amount or any, at times in whole years or at 100%. */
+static void ask_value(input_head *head, uint64_t *state) {
+    enum { MILLION = 1000000, YEAR = 365, YEARS = SEDDOLKI_MAX_DAY / YEAR };
+    uint64_t amount = draw(state, MILLION);
+    if (draw(state, 2)) amount += MILLION * (uint64_t)draw(state, MILLION);
+    size_t rate = draw(state, 4) ? draw(state, SEDDOLKI_MAX_RATE + 1) : SEDDOLKI_MAX_RATE;
+    size_t day = draw(state, 4) ? draw(state, SEDDOLKI_MAX_DAY + 1) : YEAR * draw(state, YEARS + 1);
+    seddolki_set_u64(&head->amount, amount);
+    seddolki_set_u64(&head->rate, rate);
+    seddolki_set_u64(&head->day, day);
+}
+
 /*
  * With the strike alone, and at times otherwise, asks for a filled book: about
  * a full one, one with a few trades, or any. What is above a full one is full.
@@ -211,7 +224,7 @@ static size_t mend(uint8_t *data, size_t size, uint64_t *state) {
 
 size_t LLVMFuzzerCustomMutator(uint8_t *data, size_t size, size_t most, unsigned seed) {
     uint64_t state = seed;
-    size_t way = size < HEAD ? 0 : draw(&state, 11);
+    size_t way = size < HEAD ? 0 : draw(&state, 12);
     size_t blocks = size < HEAD ? 0 : used_of(data, size) / SEDDOLKI_BLOCK;
     if (size >= HEAD && draw(&state, 8)) seddolki_set_u32(&head_of(data)->days_apart, 0);
     if (size >= HEAD) fill_at_times(data, &state);
@@ -224,6 +237,7 @@ size_t LLVMFuzzerCustomMutator(uint8_t *data, size_t size, size_t most, unsigned
     case 5: move_some_payments(data, blocks, &state); break;
     case 6: change_day(data, blocks, &state); break;
     case 7: move_position(data, blocks, &state); break;
+    case 8: ask_value(head_of(data), &state); break;
     default: change_some_field(data, blocks, &state);
     }
     return size < HEAD ? size : mend(data, size, &state);

@@ -39,16 +39,17 @@ extern "C" {
 /*
  * The number of the last request of document 02 that the engine of this header
  * has. The next version may change the parameters of a function, or leave them
- * and change which books are accepted and what they mean. A program that says
+ * and change which books are accepted, what they mean and the figures that they
+ * give. A program that says
  *
- *     #if SEDDOLKI_VERSION != 6
- *     #error "this program is written for version 6 of seddolki.h"
+ *     #if SEDDOLKI_VERSION != 7
+ *     #error "this program is written for version 7 of seddolki.h"
  *     #endif
  *
  * does not compile with another. The archive has no number: it is to be the
  * one that was made with the header.
  */
-#define SEDDOLKI_VERSION 6
+#define SEDDOLKI_VERSION 7
 
 /* Bytes of a block, and of a report. */
 #define SEDDOLKI_BLOCK 512
@@ -200,8 +201,10 @@ seddolki_answer seddolki_read(const uint8_t *book, size_t len, size_t used, size
 /*
  * What an amount on a day is worth on day 0, at a yearly rate compounded yearly.
  *
- * Done: value is the present value, rounded down, and `*tolerance` is how far
- * from it the exact value may be.
+ * Done: value is the present value, rounded to the nearest, a half up, and
+ * `*tolerance` is how far from it the exact value, so rounded, may be. Margin,
+ * preview, bootstrap and statement value each flow so, before its sign: a flow
+ * paid is worth minus what the same flow received is.
  * Refused: 16; `*tolerance` is then 0.
  */
 seddolki_answer seddolki_present_value(uint64_t amount, uint64_t rate, uint64_t day,

@@ -7,10 +7,13 @@
 //! proved engine; this crate lends it bytes and gives its answers names.
 //!
 //! Money is in hundredths of the currency, rates and prices are in
-//! millionths. A book is for one day, its valuation day, and the days of its
-//! curves and trades are counted from there. Calls that work out a margin,
-//! write a statement or change the book are given the current day, and refuse a
-//! book that is for another.
+//! millionths. What a cash flow is worth today is rounded to the nearest
+//! hundredth, a half up, before its sign; sums are not rounded again.
+//!
+//! A book is for one day, its valuation day, and the days of its curves and
+//! trades are counted from there. Calls that work out a margin, write a
+//! statement or change the book are given the current day, and refuse a book
+//! that is for another.
 //!
 //! ```no_run
 //! use seddolki::{Book, Date};

@@ -3,10 +3,10 @@
 use crate::ffi;
 use seddolki_format::Refusal;
 
-/// A present value, and how far from it the exact one may be.
+/// A present value, and how far from it the exact one, rounded alike, may be.
 #[derive(Clone, Copy, Debug, PartialEq, Eq)]
 pub struct PresentValue {
-    /// In hundredths, rounded down.
+    /// In hundredths, rounded to the nearest, a half up.
     pub value: u64,
     /// In hundredths.
     pub tolerance: u64,
@@ -20,6 +20,9 @@ pub struct PresentValue {
 ///
 /// let half = present_value(1_000, 1_000_000, 365)?;
 /// assert_eq!(half.value, 500);
+///
+/// let half = present_value(1_001, 1_000_000, 365)?;
+/// assert_eq!(half.value, 501);
 ///
 /// let refusal = present_value(1_000, 1_000_000, 10_951).unwrap_err();
 /// assert_eq!(refusal.ground, Ground::ValueRange);

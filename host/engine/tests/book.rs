@@ -138,6 +138,22 @@ fn document_01_present_values() {
     }
 }
 
+/// At 100% a year halves and two quarter: 0.5, 1.5, 500.5, 0.25, 0.5 and 0.75.
+#[test]
+fn present_values_are_to_the_nearest_and_halves_go_up() {
+    let figures = [
+        (1, 365, 1),
+        (3, 365, 2),
+        (1_001, 365, 501),
+        (1, 730, 0),
+        (2, 730, 1),
+        (3, 730, 1),
+    ];
+    for (amount, day, value) in figures {
+        assert_eq!(present_value(amount, 1_000_000, day).unwrap().value, value);
+    }
+}
+
 #[test]
 fn grounds_are_numbered_named_and_said() {
     for (number, ground) in (1..).zip(Ground::ALL) {

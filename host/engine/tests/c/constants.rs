@@ -76,7 +76,7 @@ pub fn add_sizes(all: &mut Constants) {
         ("PAGE_SIZE", PAGE),
         ("LARGEST_BOOK", largest),
         ("COMPONENTS", components),
-        ("VERSION", 6),
+        ("VERSION", 7),
     ];
     for (name, size) in sizes {
         all.add_number(name, size as i128);
