@@ -63,7 +63,7 @@ pub enum Command {
     Margin(Margin),
     /// Write the account statement, a page of text or a PDF
     Statement(Statement),
-    /// Show the net cash flows by day and curve
+    /// Show the net cash flows by day, or the value of each flow
     Flows(Flows),
     /// Show the loss of every scenario, or of every trade
     Losses(Losses),
@@ -377,6 +377,9 @@ pub struct Flows {
     /// Only the curve with this id
     #[arg(long, value_name = "ID", value_parser = curve_id)]
     pub curve: Option<u8>,
+    /// Each flow with its present value, in place of sums by day
+    #[arg(long)]
+    pub values: bool,
     #[command(flatten)]
     pub form: Form,
 }

@@ -39,8 +39,8 @@ fn the_handbook_s_curve_is_lengthened_by_its_bond() {
          350  11.9510      +1.0000  0.0000  0.0000\n\
          \n\
          \x20  rate       value        cash  difference\n\
-         11.9510  989,999.81  990,000.00       -0.19\n\
-         11.9509  990,000.62  990,000.00       +0.62\n"
+         11.9510  989,999.82  990,000.00       -0.18\n\
+         11.9509  990,000.63  990,000.00       +0.63\n"
     );
     let after = desk.read("handbook.book");
     let node = Node {

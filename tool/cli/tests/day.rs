@@ -96,6 +96,13 @@ fn the_readme_shows_the_page_of_its_book() {
     assert_readme_shows(&run_readme(&desk, "seddolki statement desk.book"));
 }
 
+#[test]
+fn the_readme_shows_the_flows_of_a_curve_one_by_one() {
+    let desk = Desk::new();
+    margin_of_the_day(&desk, &commands(README));
+    assert_readme_shows(&run_readme(&desk, "seddolki flows --values desk.book"));
+}
+
 /// A folder with an example where the README looks for it.
 fn desk_with_example(name: &str) -> Desk {
     let desk = Desk::new();

@@ -488,7 +488,7 @@ fn tens_of_millions_fit_sixty_columns() {
     desk.write("trades.csv", head + &repo);
     desk.run(&["import", "desk.book", "trades.csv"]);
     let run = desk.run(&["preview", "desk.book", "--trades", "trades.csv"]);
-    let line = "\nbase          -31,825,362.89  -63,310,896.83  -31,485,533.94\n";
+    let line = "\nbase          -31,825,362.90  -63,310,896.84  -31,485,533.94\n";
     assert!(run.out.contains(line), "{}", run.out);
     assert!(width(&run.out) <= 60, "{}", run.out);
 }

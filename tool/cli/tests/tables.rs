@@ -44,6 +44,7 @@ fn commands() -> Vec<(&'static str, Vec<&'static str>)> {
         ("show", vec!["show", "desk.book"]),
         ("margin", vec!["margin", "desk.book", "buyer.book"]),
         ("flows", vec!["flows", "desk.book"]),
+        ("flows --values", vec!["flows", "--values", "desk.book"]),
         ("losses", vec!["losses", "desk.book"]),
         ("losses --trades", vec!["losses", "--trades", "desk.book"]),
         ("diff", vec!["diff", "desk.book", "buyer.book"]),

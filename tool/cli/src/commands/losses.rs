@@ -3,12 +3,11 @@
 use crate::arguments::Losses;
 use crate::current_day::CurrentDay;
 use crate::ended::{Ended, DONE};
-use crate::figures::chosen::chosen_curves;
+use crate::figures::chosen::{chosen_curves, curve_cells};
 use crate::figures::valued::{valued, Valued};
 use crate::files::books::{accepted_on, BookFile};
 use crate::printed::table::{Table, Value};
 use crate::trades::words;
-use seddolki_format::report::currency_name;
 
 pub fn run(arguments: &Losses) -> Result<u8, Ended> {
     let day = CurrentDay::of(arguments.on)?;
@@ -34,14 +33,6 @@ fn text(file: &BookFile, tables: &[Table]) -> String {
     format!("{}\n\n{}", file.in_words(), tables.join("\n"))
 }
 
-fn curve_cells(file: &BookFile, valued: &Valued) -> Vec<Value> {
-    vec![
-        Value::date(file.parts.valuation_day),
-        Value::Id(valued.curve.id.into()),
-        Value::text(currency_name(valued.figures.currency)),
-    ]
-}
-
 fn by_scenario(file: &BookFile, valued: &[Valued]) -> Table {
     let mut table = Table::new(
         "losses",
@@ -59,7 +50,7 @@ fn by_scenario(file: &BookFile, valued: &[Valued]) -> Table {
     );
     for one in valued {
         for (scenario, (coefficients, loss)) in one.scenarios.iter().zip(&one.losses).enumerate() {
-            let mut row = curve_cells(file, one);
+            let mut row = curve_cells(file, one.curve);
             row.push(Value::count(scenario));
             row.extend(coefficients.map(Value::coefficient));
             row.push(Value::money(*loss));
@@ -85,7 +76,7 @@ fn by_trade(file: &BookFile, valued: &[Valued]) -> Table {
     let mut table = Table::new("trades", &columns);
     for one in valued {
         for share in one.shares(file) {
-            let mut row = curve_cells(file, one);
+            let mut row = curve_cells(file, one.curve);
             row.push(Value::Whole(one.figures.scenario.into()));
             row.push(Value::count(share.position));
             row.extend([share.base, share.loss].map(Value::money));
@@ -110,7 +101,7 @@ fn sums(file: &BookFile, valued: &[Valued]) -> Table {
     ];
     let mut table = Table::new("curves", &columns);
     for one in valued {
-        let mut row = curve_cells(file, one);
+        let mut row = curve_cells(file, one.curve);
         row.push(Value::Whole(one.figures.scenario.into()));
         row.extend([one.figures.base, one.figures.worst_loss].map(Value::money));
         table.push(row);

@@ -7,7 +7,7 @@ use crate::files::books::accepted;
 use crate::printed::account::account_on;
 use crate::printed::table::{Table, Value};
 use crate::trades::by_term::ByTerm;
-use crate::trades::flow_kind::flows_of;
+use crate::trades::flow_kind::{flows_of, signed};
 use crate::trades::keyed::cells;
 use crate::trades::words;
 use seddolki::Record;
@@ -15,7 +15,6 @@ use seddolki_format::block::Curve;
 use seddolki_format::report::currency_name;
 use seddolki_format::text::count;
 use seddolki_model::accept::Book;
-use seddolki_model::flows::CashFlow;
 use seddolki_model::scenario::scenarios;
 use seddolki_text::decimal::{format as decimal, COEFFICIENT, MONEY};
 use seddolki_text::COLUMNS;
@@ -178,8 +177,4 @@ fn push_flows(table: &mut Table, position: usize, record: &Record) {
             Value::text(kind.in_words()),
         ]);
     }
-}
-
-fn signed(flow: &CashFlow) -> i128 {
-    i128::from(flow.sign) * flow.amount as i128
 }

@@ -2,7 +2,9 @@
 
 use crate::ended::Ended;
 use crate::files::books::BookFile;
+use crate::printed::table::Value;
 use seddolki_format::block::Curve;
+use seddolki_format::report::currency_name;
 
 /// All curves of a book, or the one with an id.
 pub fn chosen_curves(file: &BookFile, id: Option<u8>) -> Result<Vec<&Curve>, Ended> {
@@ -22,4 +24,13 @@ pub fn curve(file: &BookFile, id: u8) -> Result<&Curve, Ended> {
             "{name}: there is no curve {id}: its curves are 1 to {last}"
         ))
     })
+}
+
+/// The cells of the columns valuation_day, curve and currency.
+pub fn curve_cells(file: &BookFile, curve: &Curve) -> Vec<Value> {
+    vec![
+        Value::date(file.parts.valuation_day),
+        Value::Id(curve.id.into()),
+        Value::text(currency_name(curve.currency.into())),
+    ]
 }

@@ -2,6 +2,7 @@
 
 pub mod chosen;
 pub mod drawn;
+pub mod flow_values;
 pub mod ladder;
 pub mod lengthened;
 pub mod node_table;

@@ -49,7 +49,8 @@ pub fn valued<'a>(file: &BookFile, curves: &[&'a Curve]) -> Result<Vec<Valued<'a
     on_all_cores(curves, one).into_iter().collect()
 }
 
-fn unlike(file: &BookFile, curve: &Curve) -> Ended {
+/// Where the two implementations do not agree.
+pub fn unlike(file: &BookFile, curve: &Curve) -> Ended {
     Ended::Failed(format!(
         "{}: curve {}: the second implementation has other figures than the engine",
         file.name, curve.id

@@ -55,7 +55,7 @@ impl BookFile {
     }
 
     /// What the engine answers, or its refusal with the book's name.
-    fn answered<T>(&self, answer: Result<T, Refusal>) -> Result<T, Ended> {
+    pub fn answered<T>(&self, answer: Result<T, Refusal>) -> Result<T, Ended> {
         answer.map_err(|refusal| Ended::refused(format!("{}: {refusal}", self.name)))
     }
 

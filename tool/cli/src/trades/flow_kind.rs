@@ -55,3 +55,8 @@ pub fn flows_of(record: &Record) -> Vec<(FlowKind, CashFlow)> {
     flows.sort_by_key(|(_, flow)| flow.day);
     flows
 }
+
+/// A flow's amount by its sign.
+pub fn signed(flow: &CashFlow) -> i128 {
+    i128::from(flow.sign) * flow.amount as i128
+}
