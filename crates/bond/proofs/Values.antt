@@ -70,11 +70,15 @@ factor-value nodes f r e h = h ∙ rw (e, r)
 
 -- ---- how much it can be
 
+pub two-most : (nodes : List Node) (f g : Flow) → f .amount ≤ unit → g .amount ≤ unit → flowValue (rateAt nodes) f + flowValue (rateAt nodes) g ≤ 2 * unit
+two-most nodes f g h k =
+    omega (arith, value-le (f .amount) (rateAt nodes (f .day)) (f .day), value-le (g .amount) (rateAt nodes (g .day)) (g .day))
+
 module _ (l : Leg) (h : PaymentLimits l) where
   pub payment-day-most : (k : ℕ) → k < l .count → flowOf l k .day ≤ lastDay
   payment-day-most k g = span l k (record { few = h .few; reach = h .reach }) g
 
-  pub payment-most : (k : ℕ) → flowOf l k .amount ≤ unit
+  payment-most : (k : ℕ) → flowOf l k .amount ≤ unit
   payment-most k = go (eqb (k + 1) (l .count))
     where
       go : (t : Bool) → cond t (l .last) (l .each) ≤ unit
@@ -87,6 +91,10 @@ module _ (l : Leg) (h : PaymentLimits l) where
   value-most nodes k (suc n) =
       let f = flowOf l k in
       omega (arith, value-le (f .amount) (rateAt nodes (f .day)) (f .day), payment-most k, value-most nodes (suc k) n, suc-mul n unit)
+
+-- as the code holds it
+pub payment-kept : {l : Leg} {f : Flow} {k : ℕ} → PaymentLimits l → f ≡ flowOf l k → k < l .count → (f .amount ≤ unit) × (f .day ≤ lastDay)
+payment-kept h e g = rw e (payment-most _ h _, payment-day-most _ h _ g)
 
 -- ---- on a curve
 

@@ -5,12 +5,17 @@ use decimal::round::discounted;
 use discount::Flow;
 use discount::pair::factors;
 use discount::value::present_value;
+use fine::settle::Settled;
+use fine::settle::settled_value;
 use legs::Leg;
 ghost use mathlib.Core.Path.{_≡_};
+ghost use mathlib.Core.Bool.{true};
 ghost use Prim.Native.Nat.{_+_, _-_, _≤_, _<_};
 ghost use Rattle.laws.specs.Walk.{table};
+ghost use Rattle.ground.specs.Limits.{lastDay};
 ghost use Rattle.decimal.specs.Product.{unit};
 ghost use Rattle.discount.specs.Flows.{flowValue};
+ghost use Rattle.logarithm.specs.Logarithms.{Tables};
 ghost use Rattle.curve.specs.Limits.{highestRate, Proper};
 ghost use Rattle.curve.specs.Rates.{nodesOf, rateAt};
 ghost use Rattle.legs.specs.Runs.{flowOf, legFlows};
@@ -51,16 +56,28 @@ fn payments_up_to(l: Leg, day: u64) -> u64
     k
 }
 
+// The value of a payment where the tables settle it.
+fn settled_payment(c: Curve, f: Flow, tables: &[u64]) -> Settled
+    requires { ⌜ Proper c × (f .amount ≤ unit) × (f .day ≤ lastDay) × Tables (now tables) ⌝ }
+    ensures { λ r. ⌜ (r .known ≡ true → r .value ≡ flowValue (rateAt (nodesOf c)) f) ⌝ }
+{
+    settled_value(tables, f.amount, c.rate_at(f.day), f.day)
+}
+
 // The value of a payment.
-fn value_of(c: Curve, f: Flow) -> u64
-    requires { ⌜ Proper c × (f .amount ≤ unit) ⌝ }
+fn value_of(c: Curve, f: Flow, tables: &[u64]) -> u64
+    requires { ⌜ Proper c × (f .amount ≤ unit) × (f .day ≤ lastDay) × Tables (now tables) ⌝ }
     ensures { λ r. ⌜ r ≡ flowValue (rateAt (nodesOf c)) f ⌝ }
 {
+    let settled = settled_payment(c, f, tables);
+    if settled.known {
+        return settled.value;
+    }
     present_value(f.amount, c.rate_at(f.day), f.day)
 }
 
-// The value of two payments. Their factors are found side by side, which takes little longer than one.
-fn value_of_two(c: Curve, f: Flow, g: Flow) -> u64
+// The value of two payments by their factors, which are found side by side: that takes little longer than one.
+fn value_by_factors(c: Curve, f: Flow, g: Flow) -> u64
     requires { ⌜ Proper c × (f .amount ≤ unit) × (g .amount ≤ unit) ⌝ }
     ensures { λ r. ⌜ r ≡ flowValue (rateAt (nodesOf c)) f + flowValue (rateAt (nodesOf c)) g ⌝ }
 {
@@ -70,9 +87,22 @@ fn value_of_two(c: Curve, f: Flow, g: Flow) -> u64
     discounted(f.amount, first.0) + discounted(g.amount, second.0)
 }
 
+// The value of two payments.
+fn value_of_two(c: Curve, f: Flow, g: Flow, tables: &[u64]) -> u64
+    requires { ⌜ Proper c × (f .amount ≤ unit) × (g .amount ≤ unit) × (f .day ≤ lastDay) × (g .day ≤ lastDay) × Tables (now tables) ⌝ }
+    ensures { λ r. ⌜ r ≡ flowValue (rateAt (nodesOf c)) f + flowValue (rateAt (nodesOf c)) g ⌝ }
+{
+    let first = settled_payment(c, f, tables);
+    let second = settled_payment(c, g, tables);
+    if first.known & second.known {
+        return first.value + second.value;
+    }
+    value_by_factors(c, f, g)
+}
+
 // The value of the payments from one up to, not including, another: two at a time, and the last alone where one is left.
-fn value_between(c: Curve, l: Leg, from: u64, to: u64) -> u64
-    requires { ⌜ Proper c × PaymentLimits l × (from ≤ to) × (to ≤ l .count) ⌝ }
+fn value_between(c: Curve, l: Leg, from: u64, to: u64, tables: &[u64]) -> u64
+    requires { ⌜ Proper c × PaymentLimits l × (from ≤ to) × (to ≤ l .count) × Tables (now tables) ⌝ }
     ensures { λ r. ⌜ r ≡ bondValue (nodesOf c) (table (flowOf l) from (to - from)) ⌝ }
 {
     let mut sum: u64 = 0;
@@ -80,12 +110,12 @@ fn value_between(c: Curve, l: Leg, from: u64, to: u64) -> u64
     while k + 1 < to {
         let f = payment(l, k);
         let g = payment(l, k + 1);
-        sum += value_of_two(c, f, g);
+        sum += value_of_two(c, f, g, tables);
         k += 2;
     }
     if k < to {
         let f = payment(l, k);
-        return sum + value_of(c, f);
+        return sum + value_of(c, f, tables);
     }
     sum
 }
@@ -101,12 +131,12 @@ pub struct Extension {
 }
 
 impl Extension {
-    pub fn new(c: Curve, n: Node, l: Leg) -> Extension
-        requires { ⌜ Extends c n l ⌝ }
+    pub fn new(c: Curve, n: Node, l: Leg, tables: &[u64]) -> Extension
+        requires { ⌜ Extends c n l × Tables (now tables) ⌝ }
         ensures { λ r. ⌜ (r .curve ≡ c) × (r .node ≡ n) × (r .payments ≡ l) × Prepared r ⌝ }
     {
         let within = payments_up_to(l, c.end_day());
-        let known = value_between(c, l, 0, within);
+        let known = value_between(c, l, 0, within, tables);
         Extension {
             curve: c,
             node: n,
@@ -117,14 +147,14 @@ impl Extension {
     }
 
     // What the bond is worth with the new node at a rate.
-    pub fn value_at(self, rate: u64) -> u64
-        requires { ⌜ Prepared self × (rate ≤ highestRate) ⌝ }
+    pub fn value_at(self, rate: u64, tables: &[u64]) -> u64
+        requires { ⌜ Prepared self × (rate ≤ highestRate) × Tables (now tables) ⌝ }
         ensures { λ r. ⌜ r ≡ bondValueAt (nodesOf (self .curve)) (self .node) (legFlows (self .payments)) rate ⌝ }
     {
         let c = self.curve;
         let n = self.node;
         let l = self.payments;
         let longer = c.lengthened(n.at_rate(rate));
-        self.known + value_between(longer, l, self.within, l.count)
+        self.known + value_between(longer, l, self.within, l.count, tables)
     }
 }

@@ -15,10 +15,19 @@ use curve_block::curve_of;
 use ground::Ground;
 use ground::Verdict;
 use legs::Leg;
+use logarithm::tables::fill;
 ghost use mathlib.Core.Path.{_≡_};
+ghost use Rattle.ground.specs.declared.Ground.the-variants.{RateRange};
 ghost use Rattle.ground.specs.declared.Verdict.the-variants.{Accepted};
+ghost use Rattle.ground.specs.Verdicts.{unless};
+ghost use Rattle.logarithm.specs.Logarithms.{Tables};
+ghost use Rattle.curve.specs.Lengthen.{atRate};
 ghost use Rattle.curve.specs.Limits.{Proper};
+ghost use Rattle.curve.specs.Rates.{nodesOf};
+ghost use Rattle.legs.specs.Runs.{legFlows};
 ghost use Rattle.book.specs.Verdict.{verdict};
+ghost use Rattle.bond.specs.Limits.{Extends};
+ghost use Rattle.bond.specs.Value.{breaksRateRange, rateFor};
 ghost use Rattle.bootstrap.specs.Bought.{bondPayments};
 ghost use Rattle.bootstrap.specs.Refusals.{openNode, extensionVerdict, curveAt, inBookVerdict, bootstrapVerdict};
 ghost use Rattle.bootstrap.specs.Limits.{QuoteLimits};
@@ -44,6 +53,18 @@ fn open_node(q: Quote, l: Leg) -> Node
     }
 }
 
+// Of a bond on a curve where 17 does not apply: ground 18, or the node at the smallest rate.
+fn priced(c: Curve, n: Node, l: Leg, cash: u64, tables: &[u64]) -> Decision
+    requires { ⌜ Extends c n l × Tables (now tables) ⌝ }
+    ensures { λ r. ⌜ r ≡ decisionOf (unless (breaksRateRange (nodesOf c) n (legFlows l) cash) RateRange 0 Accepted) (atRate n (rateFor (nodesOf c) n (legFlows l) cash)) ⌝ }
+{
+    let e = Extension::new(c, n, l, tables);
+    if breaks_rate_range(e, cash, tables) {
+        return Decision::Refused(Ground::RateRange, 0);
+    }
+    Decision::Add(n.at_rate(rate_for(e, cash, tables)))
+}
+
 // On a curve of the book, of a quote that keeps its own rules: grounds 17 and 18, or the node at the smallest rate.
 fn extended(c: Curve, q: Quote) -> Decision
     requires { ⌜ Proper c × QuoteLimits q ⌝ }
@@ -54,11 +75,9 @@ fn extended(c: Curve, q: Quote) -> Decision
     if breaks_curve_end(c, n.day) {
         return Decision::Refused(Ground::CurveEnd, 0);
     }
-    let e = Extension::new(c, n, l);
-    if breaks_rate_range(e, q.cash) {
-        return Decision::Refused(Ground::RateRange, 0);
-    }
-    Decision::Add(n.at_rate(rate_for(e, q.cash)))
+    let mut tables = [0u64; 3694];
+    fill(&mut tables);
+    priced(c, n, l, q.cash, &tables)
 }
 
 // On an accepted book.

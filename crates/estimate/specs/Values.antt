@@ -14,7 +14,6 @@ use Rattle.curve.specs.declared.Components.{Components}
 use Rattle.curve.specs.Rates.{nodesOf, rateAt}
 use Rattle.curve.specs.Scenarios.{scenarioCount, scenarioAt}
 use Rattle.curve.specs.Stress.{stressed}
-use Rattle.sieve.specs.Cheap.{Logs, Powers}
 use Rattle.netting.specs.Netting.{listed, netValue, netSize, cheapOn}
 use Rattle.estimate.specs.declared.lines.Line.{Line}
 use Rattle.estimate.specs.declared.parts.Part.{Part}
@@ -59,12 +58,6 @@ pub record Along (l : Line) (nets : List ℤ) (days : List ℕ) (p r : Part) : T
 -- the most that net amounts are together: 140,000 flows of 10 ^ 12
 unfoldable pub mostSize : ℕ
 mostSize = 140000000000000000
-
--- the tables of cheap factors, up to the highest rate
-pub record Tables (logs middle upper : List ℕ) : Type 0 where
-  pub rows : length logs ≡ 15627
-  pub rates : Logs logs
-  pub powers : Powers middle upper
 
 -- the days are those that have a net amount
 pub record Listed (nets : List ℤ) (days : List ℕ) : Type 0 where

@@ -5,8 +5,8 @@ ghost use lib.ListN.{length, take};
 ghost use Rattle.netting.specs.Netting.{listed};
 
 // Lists the days that have a net amount, in order, and answers how many they are.
-pub fn list_days(nets: &[i64], days: &mut [u64]) -> usize
-    requires { ⌜ length (now nets) ≤ length (now days) ⌝ }
+pub fn list_days(nets: &[i64], days: &mut [u16]) -> usize
+    requires { ⌜ (length (now nets) ≤ length (now days)) × (length (now nets) ≤ 65_536) ⌝ }
     ensures kept { λ _. ⌜ length (now (days .exit)) ≡ length (now (days .entry)) ⌝ }
     ensures list { λ r. ⌜ (r ≤ length (now (nets .entry))) × (take r (now (days .exit)) ≡ listed (now (nets .entry))) ⌝ }
 {
@@ -14,7 +14,7 @@ pub fn list_days(nets: &[i64], days: &mut [u64]) -> usize
     let mut count: usize = 0;
     let mut day: usize = 0;
     while day < n {
-        days[count] = day as u64;
+        days[count] = day as u16;
         if nets[day] != 0 {
             count += 1;
         }

@@ -2,9 +2,10 @@
 ghost use mathlib.Core.Path.{_≡_};
 ghost use Prim.Native.Nat.{_≤_};
 ghost use lib.IntN.{natAbs};
+ghost use Rattle.logarithm.specs.Logarithms.{Tables};
 ghost use Rattle.netting.specs.Netting.{worth, cheapOn};
 ghost use Rattle.estimate.specs.Lines.{rateOn, Drawn};
-ghost use Rattle.estimate.specs.Values.{Along, mostSize, Tables, Ready};
+ghost use Rattle.estimate.specs.Values.{Along, mostSize, Ready};
 use super::lines::Line;
 use netting::value::worth;
 use sieve::cheap::factor;
@@ -16,32 +17,24 @@ pub struct Part {
 }
 
 // What a net amount is worth on its day, at the line's rate.
-fn day_value(line: Line, day: u64, net: i64, logs: &[u64], middle: &[u64], upper: &[u64]) -> i64
-    requires { ⌜ Drawn line day × Tables (now logs) (now middle) (now upper) × (natAbs net ≤ mostSize) ⌝ }
+fn day_value(line: Line, day: u64, net: i64, tables: &[u64]) -> i64
+    requires { ⌜ Drawn line day × Tables (now tables) × (natAbs net ≤ mostSize) ⌝ }
     ensures { λ r. ⌜ r ≡ worth (cheapOn (rateOn line) day) net ⌝ }
 {
-    worth(net, factor(logs, middle, upper, line.rate_on(day), day))
+    worth(net, factor(tables, line.rate_on(day), day))
 }
 
 impl Part {
     // With the days before the line's end.
-    pub fn along(
-        self,
-        line: Line,
-        days: &[u64],
-        nets: &[i64],
-        logs: &[u64],
-        middle: &[u64],
-        upper: &[u64],
-    ) -> Part
-        requires { ⌜ Ready line (now nets) (now days) self × Tables (now logs) (now middle) (now upper) ⌝ }
+    pub fn along(self, line: Line, days: &[u16], nets: &[i64], tables: &[u64]) -> Part
+        requires { ⌜ Ready line (now nets) (now days) self × Tables (now tables) ⌝ }
         ensures { λ r. ⌜ Along line (now (nets .entry)) (now (days .entry)) self r ⌝ }
     {
         let n = days.len();
         let mut i = self.done;
         let mut value = self.value;
         while i < n {
-            let day = days[i];
+            let day = days[i] as u64;
             if line.until <= day {
                 return Part {
                     done: i,
@@ -49,7 +42,7 @@ impl Part {
                 };
             }
             let at = day as usize;
-            value += day_value(line, day, nets[at], logs, middle, upper);
+            value += day_value(line, day, nets[at], tables);
             i += 1;
         }
         Part {

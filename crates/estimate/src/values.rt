@@ -6,41 +6,33 @@ ghost use Rattle.ground.specs.Limits.{dayCount};
 ghost use Rattle.curve.specs.Limits.{Proper, ProperComponents};
 ghost use Rattle.curve.specs.Rates.{nodesOf};
 ghost use Rattle.curve.specs.Scenarios.{scenarioCount};
+ghost use Rattle.logarithm.specs.Logarithms.{Tables};
 ghost use Rattle.netting.specs.Netting.{listed, netSize};
-ghost use Rattle.estimate.specs.Values.{cheapValue, ScenarioValues, Tables, Listed};
+ghost use Rattle.estimate.specs.Values.{cheapValue, ScenarioValues, Listed};
 use super::days::list_days;
 use super::lines::level;
 use super::lines::line_of;
 use super::parts::Part;
 use curve::Components;
 use curve::Curve;
-use sieve::tables::fill_powers;
-use sieve::tables::logs;
 
 // At the rates of a curve: along a level line to its first node, a line from each node to the next, and a level one from the last.
-pub fn value_on(
-    curve: Curve,
-    days: &[u64],
-    nets: &[i64],
-    logs: &[u64],
-    middle: &[u64],
-    upper: &[u64],
-) -> i64
-    requires { ⌜ Proper curve × Listed (now nets) (now days) × Tables (now logs) (now middle) (now upper) ⌝ }
+pub fn value_on(curve: Curve, days: &[u16], nets: &[i64], tables: &[u64]) -> i64
+    requires { ⌜ Proper curve × Listed (now nets) (now days) × Tables (now tables) ⌝ }
     ensures { λ r. ⌜ r ≡ cheapValue (nodesOf curve) (now (nets .entry)) ⌝ }
 {
     let mut a = curve.nodes[0];
     let mut p = Part { done: 0, value: 0 };
-    p = p.along(level(a.rate, a.day), days, nets, logs, middle, upper);
+    p = p.along(level(a.rate, a.day), days, nets, tables);
     let n = curve.count;
     let mut i: usize = 1;
     while i < n {
         let b = curve.nodes[i];
-        p = p.along(line_of(a, b), days, nets, logs, middle, upper);
+        p = p.along(line_of(a, b), days, nets, tables);
         a = b;
         i += 1;
     }
-    p = p.along(level(a.rate, 10_951), days, nets, logs, middle, upper);
+    p = p.along(level(a.rate, 10_951), days, nets, tables);
     p.value
 }
 
@@ -48,14 +40,12 @@ pub fn value_on(
 fn fill_values(
     curve: Curve,
     components: Components,
-    days: &[u64],
+    days: &[u16],
     nets: &[i64],
-    logs: &[u64],
-    middle: &[u64],
-    upper: &[u64],
+    tables: &[u64],
     values: &mut [i64],
 )
-    requires { ⌜ Proper curve × ProperComponents components × Listed (now nets) (now days) × Tables (now logs) (now middle) (now upper) × (scenarioCount components ≤ length (now values)) ⌝ }
+    requires { ⌜ Proper curve × ProperComponents components × Listed (now nets) (now days) × Tables (now tables) × (scenarioCount components ≤ length (now values)) ⌝ }
     ensures kept { λ _. ⌜ length (now (values .exit)) ≡ length (now (values .entry)) ⌝ }
     ensures each { λ _. ⌜ ScenarioValues curve components (now (nets .entry)) (now (values .exit)) ⌝ }
 {
@@ -64,32 +54,24 @@ fn fill_values(
     while s < n {
         let stressed = curve.stressed(components.scenario(s));
         let at = s as usize;
-        values[at] = value_on(stressed, days, nets, logs, middle, upper);
+        values[at] = value_on(stressed, days, nets, tables);
         s += 1;
     }
 }
 
-// In every scenario, in order. The tables of cheap factors and the list of days are made once.
-pub fn values_of(curve: Curve, components: Components, nets: &[i64], values: &mut [i64])
-    requires { ⌜ Proper curve × ProperComponents components × (length (now nets) ≡ dayCount) × (netSize (now nets) (listed (now nets)) ≤ 140_000_000_000_000_000) × (scenarioCount components ≤ length (now values)) ⌝ }
+// In every scenario, in order. The list of days is made once.
+pub fn values_of(
+    curve: Curve,
+    components: Components,
+    nets: &[i64],
+    tables: &[u64],
+    values: &mut [i64],
+)
+    requires { ⌜ Proper curve × ProperComponents components × Tables (now tables) × (length (now nets) ≡ dayCount) × (netSize (now nets) (listed (now nets)) ≤ 140_000_000_000_000_000) × (scenarioCount components ≤ length (now values)) ⌝ }
     ensures kept { λ _. ⌜ length (now (values .exit)) ≡ length (now (values .entry)) ⌝ }
     ensures each { λ _. ⌜ ScenarioValues curve components (now (nets .entry)) (now (values .exit)) ⌝ }
 {
-    let mut rows = [0u64; 15627];
-    let mut middle = [0u64; 1024];
-    let mut upper = [0u64; 481];
-    let mut days = [0u64; 10951];
-    logs(&mut rows);
-    fill_powers(&mut middle, &mut upper);
+    let mut days = [0u16; 10951];
     let count = list_days(nets, &mut days);
-    fill_values(
-        curve,
-        components,
-        &days[..count],
-        nets,
-        &rows,
-        &middle,
-        &upper,
-        values,
-    );
+    fill_values(curve, components, &days[..count], nets, tables, values);
 }

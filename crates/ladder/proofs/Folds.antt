@@ -1,5 +1,5 @@
 -- A loop over the flows of a ladder: what it holds is what the flows passed make of what it began with, and has room for the flows that are left.
--- Marks, net amounts, totals and reaches are all held so.
+-- Net amounts, totals and reaches are all held so.
 use mathlib.Core.Path.{_≡_, refl, sym, _∙_}
 use mathlib.Core.List.{List, [], _∷_, foldl}
 use Prim.Native.Nat.{ℕ, suc, _+_, _*_, _≤_, _<_}
@@ -41,16 +41,16 @@ module _ {A : Type 0} {step : A → Flow → A} {Room : ℕ → A → Type 0} {c
     pub rung-room : Room (suc (length (flowsFrom curve ladder schedules (nextRung ladder r)))) a
     rung-room = rw (flows-next curve ladder schedules r l (w .within l)) at (w .room)
 
-    -- a turn: the rung's flow f, and the next rung
+    -- a turn: the rung's flow f, the next rung, and the room that is left there
     pub flow-limits : {f : Flow} → f ≡ payment curve ladder (r .schedule) (r .payment) → FlowLimits f
     flow-limits e = rw e (payment-limits ladder (r .schedule) (r .payment) (h .each (r .schedule) l) (w .within l) curve)
 
     pub fewer-left : {next : Rung} → next ≡ nextRung ladder r → length (flowsFrom curve ladder schedules next) < length (flowsFrom curve ladder schedules r)
     fewer-left e = rw (e, flows-next curve ladder schedules r l (w .within l)) (omega arith)
 
-    pub folded-next : {f : Flow} {next : Rung} → f ≡ payment curve ladder (r .schedule) (r .payment) → next ≡ nextRung ladder r
-        → ((n : ℕ) → Room (suc n) a → Room n (step a f)) → Folded step Room curve ladder schedules a₀ (step a f) next
-    folded-next {f} {next} e g more =
+    pub folded-next : {Left : ℕ → A → Type 0} {f : Flow} {next : Rung} → f ≡ payment curve ladder (r .schedule) (r .payment) → next ≡ nextRung ladder r
+        → ((n : ℕ) → Room (suc n) a → Left n (step a f)) → Folded step Left curve ladder schedules a₀ (step a f) next
+    folded-next {Left} {f} {next} e g more =
         rw g
         (record {
           fold = w .fold ∙ (rw (flows-next curve ladder schedules r l (w .within l), e) refl);

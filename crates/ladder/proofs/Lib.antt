@@ -2,4 +2,5 @@ pub mod LadderFlows
 pub mod Folds
 pub mod Totals
 pub mod Netting
-pub mod DayFactors
+pub mod KeptFactors
+pub mod Held

@@ -2,15 +2,13 @@
 use mathlib.Core.Path.{_≡_, refl, _∙_}
 use mathlib.Core.List.{List, [], _∷_}
 use Prim.Native.Nat.{ℕ, suc, _+_, _*_, _/_, _%_, _^_, _≤_, _<_}
-use native.Mathlib.Nat.{le-trans, mul-le-mul}
+use native.Mathlib.Nat.{mul-le-mul}
 use native.Mathlib.Omega.{arith}
-use lib.IntN.{ℤ, pos, natAbs, _+ℤ_, _-ℤ_, +ℤ-assoc, +ℤ-idl, +ℤ-idr}
+use lib.IntN.{ℤ, pos, natAbs, _+ℤ_, _-ℤ_, +ℤ-assoc, +ℤ-comm, +ℤ-idl, +ℤ-idr}
 use mir.Syntax.{w64}
 use mir.Val.{SFits}
 use Rattle.laws.proofs.Signed.{fits, cast, read, cast-is, read-is, abs-add, abs-sub}
 use Rattle.decimal.specs.Product.{unit}
-use Rattle.decimal.specs.HalfUp.{discounted}
-use Rattle.decimal.proofs.HalfUp.{discounted-le}
 use Rattle.discount.specs.Discount.{year, products, tolerance}
 use Rattle.discount.specs.declared.Flow.{Flow}
 use Rattle.discount.specs.Flows.{signed, total, sum, flowTolerance}
@@ -35,9 +33,6 @@ tolerance-size a days h k = omega (arith, scaled-size a days h k)
 
 pub off-fits : (off a days : ℕ) → RoomFor 1000 1 off → a ≤ unit → days ≤ 10950 → off + tolerance a days < 2 ^ 64
 off-fits off a days h s k = omega (arith, tolerance-size a days s k)
-
-pub flow-size : (f : Flow) (factor : ℕ) → FlowLimits f → factor ≤ unit → discounted (f .amount) factor ≤ unit
-flow-size f factor h k = le-trans (discounted-le (f .amount) factor k) (h .amount)
 
 -- z is a sum with room for one flow more, v what the flow adds or takes
 module _ (z : ℤ) (v : ℕ) (room : RoomFor unit 1 (natAbs z)) (most : v ≤ unit) where
@@ -75,37 +70,43 @@ module _ (z : ℤ) (v : ℕ) (room : RoomFor unit 1 (natAbs z)) (most : v ≤ un
 
 -- ---- many flows
 
-module _ (g : ℕ → ℕ) where
+module _ (v : Flow → ℕ) where
   -- the fold is the sum
-  plusFlows-is : (t : Total) (fs : List Flow)
-      → plusFlows g t fs ≡ record { sum = t .sum +ℤ total (λ f. discounted (f .amount) (g (f .day))) fs; tolerance = t .tolerance + sum flowTolerance fs }
+  plusFlows-is : (t : Total) (fs : List Flow) → plusFlows v t fs ≡ record { sum = t .sum +ℤ total v fs; tolerance = t .tolerance + sum flowTolerance fs }
   unfolding plusFlow total sum
   plusFlows-is t [] =
       let e : t .tolerance + 0 ≡ t .tolerance = omega arith in
       rw (+ℤ-idr (t .sum), e) refl
   plusFlows-is t (f ∷ fs) =
       let e : t .tolerance + flowTolerance f + sum flowTolerance fs ≡ t .tolerance + (flowTolerance f + sum flowTolerance fs) = omega arith in
-      plusFlows-is (plusFlow t f (g (f .day))) fs
-      ∙ rw (+ℤ-assoc (t .sum) (signed (f .received) (discounted (f .amount) (g (f .day)))) (total (λ f. discounted (f .amount) (g (f .day))) fs), e) refl
+      plusFlows-is (plusFlow t f (v f)) fs ∙ rw (+ℤ-assoc (t .sum) (signed (f .received) (v f)) (total v fs), e) refl
 
-  pub plusFlows-none : (fs : List Flow)
-      → plusFlows g noFlows fs ≡ record { sum = total (λ f. discounted (f .amount) (g (f .day))) fs; tolerance = sum flowTolerance fs }
+  pub plusFlows-none : (fs : List Flow) → plusFlows v noFlows fs ≡ record { sum = total v fs; tolerance = sum flowTolerance fs }
   plusFlows-none fs =
       let e : 0 + sum flowTolerance fs ≡ sum flowTolerance fs = omega arith in
-      plusFlows-is noFlows fs ∙ rw (+ℤ-idl (total (λ f. discounted (f .amount) (g (f .day))) fs), e) refl
+      plusFlows-is noFlows fs ∙ rw (+ℤ-idl (total v fs), e) refl
 
--- room in the total for more
+-- two flows in either order
+pub plusFlow-turned : (t : Total) (f g : Flow) (a b : ℕ) → plusFlow (plusFlow t f a) g b ≡ plusFlow (plusFlow t g b) f a
+unfolding plusFlow
+plusFlow-turned t f g a b =
+    let x = signed (f .received) a in
+    let y = signed (g .received) b in
+    let e : t .tolerance + flowTolerance f + flowTolerance g ≡ t .tolerance + flowTolerance g + flowTolerance f = omega arith in
+    rw (+ℤ-assoc (t .sum) x y, +ℤ-comm x y, +ℤ-assoc (t .sum) y x, e) refl
+
+-- ---- room in the total for more
 
 pub total-none : {n : ℕ} → n ≤ mostFlows → TotalRoom n noFlows
 total-none h = record { value = room-none unit h; off = room-none 1000 h }
 
-pub total-one : {n : ℕ} {t : Total} → TotalRoom (suc n) t → TotalRoom 1 t
-total-one h = record { value = room-less (omega arith) (h .value); off = room-less (omega arith) (h .off) }
+pub total-less : {m n : ℕ} {t : Total} → m ≤ n → TotalRoom n t → TotalRoom m t
+total-less l h = record { value = room-less l (h .value); off = room-less l (h .off) }
 
-pub total-next : (factor : ℕ) → factor ≤ unit → {n : ℕ} (t : Total) (f : Flow) → FlowLimits f → TotalRoom (suc n) t → TotalRoom n (plusFlow t f factor)
+pub total-next : {n value : ℕ} {t : Total} {f : Flow} → value ≤ unit → FlowLimits f → TotalRoom (suc n) t → TotalRoom n (plusFlow t f value)
 unfolding plusFlow
-total-next factor le t f s h =
+total-next {n} {value} {t} {f} le s h =
     record {
-      value = room-next (signed-more (t .sum) (f .received) (discounted (f .amount) factor)) (flow-size f factor s le) (h .value);
+      value = room-next (signed-more (t .sum) (f .received) value) le (h .value);
       off = room-next (omega arith) (tolerance-size (f .amount) (f .day) (s .amount) (s .day)) (h .off);
     }

@@ -1,4 +1,5 @@
 pub mod Totals
 pub mod Ladder
-pub mod Factors
+pub mod Kept
+pub mod Held
 pub mod Netted

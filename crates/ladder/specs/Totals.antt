@@ -1,28 +1,27 @@
--- A running total of flows: their values at the factors of their days, and their tolerances (document 01, "Which form belongs where").
+-- A running total of flows: their values, and their tolerances (document 01, "Which form belongs where").
 use mathlib.Core.List.{List, foldl}
 use Prim.Native.Nat.{ℕ, _+_, _*_, _≤_}
 use lib.IntN.{pos, natAbs, _+ℤ_}
 use Rattle.laws.specs.All.{All}
 use Rattle.ground.specs.Limits.{lastDay}
 use Rattle.decimal.specs.Product.{unit}
-use Rattle.decimal.specs.HalfUp.{discounted}
 use Rattle.discount.specs.declared.Flow.{Flow}
 use Rattle.discount.specs.Flows.{signed, total, sum, flowValue, flowTolerance}
 use Rattle.curve.specs.declared.Node.{Node}
 use Rattle.curve.specs.Rates.{rateAt}
 use Rattle.ladder.specs.declared.total.Total.{Total}
 
--- the total with one flow more: its amount at the factor of its day, rounded "before the sign"
+-- the total with one flow more: its value, rounded "before the sign", takes the sign here
 unfoldable pub plusFlow : Total → Flow → ℕ → Total
-plusFlow t f factor =
+plusFlow t f value =
     record {
-      sum = t .sum +ℤ signed (f .received) (discounted (f .amount) factor);
+      sum = t .sum +ℤ signed (f .received) value;
       tolerance = t .tolerance + flowTolerance f;
     }
 
--- with each flow of a list in turn, given the factor of each day
-abbrev pub plusFlows : (ℕ → ℕ) → Total → List Flow → Total
-plusFlows factorOn t fs = foldl (λ t f. plusFlow t f (factorOn (f .day))) t fs
+-- with each flow of a list in turn, given the value of each
+abbrev pub plusFlows : (Flow → ℕ) → Total → List Flow → Total
+plusFlows v t fs = foldl (λ t f. plusFlow t f (v f)) t fs
 
 abbrev pub noFlows : Total
 noFlows = record { sum = pos 0; tolerance = 0 }

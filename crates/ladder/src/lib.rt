@@ -1,5 +1,6 @@
-// The cash flow ladder of a curve: its payments in turn, the factors of their days, their net amounts, and their total.
-pub mod factors;
+// The cash flow ladder of a curve: its payments in turn, their net amounts, their values, and their total.
+pub mod kept;
 pub mod net;
 pub mod payments;
 pub mod total;
+pub mod valuing;

@@ -4,7 +4,6 @@ use mathlib.Core.Bool.{Bool, true, false}
 use mathlib.Core.List.{List, map}
 use Prim.Native.Nat.{ℕ, _^_, _<_}
 use lib.IntN.{ℤ, natAbs, _-ℤ_}
-use lib.ListN.{length}
 use lib.Signed.{ltZ}
 use Rattle.laws.proofs.Signed.{read, read-is}
 use Rattle.discount.specs.declared.Flow.{Flow}
@@ -21,13 +20,10 @@ use Rattle.margin.specs.Exposure.{Exposure}
 use Rattle.margin.specs.Losses.{valueOn, baseOf, valueAt, lossAt, worstAt}
 use Rattle.ladder.specs.Totals.{AllFlowLimits, totalOn}
 use Rattle.ladder.specs.Ladder.{ladderFlows}
-use Rattle.ground.specs.Limits.{dayCount}
-use Rattle.ladder.specs.Factors.{marked}
 use Rattle.margin.specs.Margins.{curveMargin}
-use Rattle.margin.specs.Positions.{exposureOf, PositionLimits, DaysMarked}
+use Rattle.margin.specs.Positions.{exposureOf, PositionLimits}
 use Rattle.margin.specs.Worst.{worseOf, LossLimits, worstOf}
 use Rattle.ladder.proofs.LadderFlows.{ladder-limits}
-use Rattle.ladder.proofs.DayFactors.{length-marked, all-marked}
 use Rattle.margin.proofs.Sizes.{value-size, loss-size, value-fits, loss-fits}
 
 -- ---- what the code's test of two losses says
@@ -86,10 +82,6 @@ module _ (p : Position) (ladder : List ℕ) (h : PositionLimits p ladder) where
       rw (v, eb, read-is (baseOf flowValue e) base-fits, read-is (valueAt flowValue e s) fit) refl
 
   -- ---- the figures of a curve, by what the code holds of them
-
-  pub days-marked : (blank marks : List ℕ) → length blank ≡ dayCount → marks ≡ marked fs blank → DaysMarked (p .id) ladder (p .schedules) marks
-  days-marked blank marks l m =
-      rw m (record { places = length-marked fs blank ∙ l; each = all-marked fs blank flows-limits l })
 
   module _ (t : Total) (et : t ≡ totalOn (nodesOf (p .curve)) fs) where
     pub base-read : read (t .sum) ≡ baseOf flowValue e

@@ -1,14 +1,12 @@
--- A position as the engine holds it, beside its ladder and the marks of the days of its flows.
+-- A position as the engine holds it, beside its ladder and the tables of logarithms.
 use mathlib.Core.List.{List}
 use mathlib.Core.Path.{_≡_}
 use Prim.Native.Nat.{ℕ}
-use lib.ListN.{length}
 use Rattle.discount.specs.Flows.{flowValue}
 use Rattle.curve.specs.Limits.{Proper, ProperComponents}
 use Rattle.curve.specs.Rates.{nodesOf}
 use Rattle.margin.specs.Exposure.{Exposure}
-use Rattle.ground.specs.Limits.{dayCount}
-use Rattle.ladder.specs.Factors.{AllMarked}
+use Rattle.logarithm.specs.Logarithms.{Tables}
 use Rattle.ladder.specs.Ladder.{ladderFlows, LadderLimits}
 use Rattle.margin.specs.Losses.{baseOf}
 use Rattle.margin.specs.declared.Position.{Position}
@@ -30,13 +28,8 @@ pub record PositionLimits (p : Position) (ladder : List ℕ) : Type 0 where
   pub stress : ProperComponents (p .components)
   pub schedules : LadderLimits ladder (p .schedules)
 
--- the days of a ladder's flows are marked
-pub record DaysMarked (id : ℕ) (ladder : List ℕ) (schedules : ℕ) (marks : List ℕ) : Type 0 where
-  pub places : length marks ≡ dayCount
-  pub each : AllMarked marks (ladderFlows id ladder schedules)
-
--- a position in its limits, with its days marked and its base value
-pub record Based (v : ValuedPosition) (ladder marks : List ℕ) : Type 0 where
+-- a position in its limits, with the tables filled and its base value
+pub record Based (v : ValuedPosition) (ladder tables : List ℕ) : Type 0 where
   pub limits : PositionLimits (v .position) ladder
-  pub marked : DaysMarked (v .position .id) ladder (v .position .schedules) marks
+  pub filled : Tables tables
   pub value : v .base ≡ baseOf flowValue (exposureOf (v .position) ladder)

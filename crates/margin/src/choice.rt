@@ -63,8 +63,8 @@ fn same_rates(a: Curve, b: Curve) -> bool
 }
 
 // The worse of a loss and that of scenario s. Where both scenarios give the nodes the same rates, the losses are equal, and nothing is valued.
-fn worse_with(valued: ValuedPosition, ladder: &[u64], marks: &[u64], worst: Loss, s: u64) -> Loss
-    requires { ⌜ Based valued (now ladder) (now marks) × ScenarioLoss (exposureOf (valued .position) (now ladder)) worst × (s < scenarioCount (valued .position .components)) ⌝ }
+fn worse_with(valued: ValuedPosition, ladder: &[u64], tables: &[u64], worst: Loss, s: u64) -> Loss
+    requires { ⌜ Based valued (now ladder) (now tables) × ScenarioLoss (exposureOf (valued .position) (now ladder)) worst × (s < scenarioCount (valued .position .components)) ⌝ }
     ensures { λ r. ⌜ r ≡ worseOf worst (lossOf (exposureOf (valued .position) (now (ladder .entry))) s) ⌝ }
 {
     let position = valued.position;
@@ -72,7 +72,7 @@ fn worse_with(valued: ValuedPosition, ladder: &[u64], marks: &[u64], worst: Loss
         return worst;
     }
     let next = Loss {
-        amount: loss_of(valued, ladder, marks, s),
+        amount: loss_of(valued, ladder, tables, s),
         scenario: s,
     };
     worst.worse(next)
@@ -82,11 +82,11 @@ fn worse_with(valued: ValuedPosition, ladder: &[u64], marks: &[u64], worst: Loss
 fn worst_kept(
     valued: ValuedPosition,
     ladder: &[u64],
-    marks: &[u64],
+    tables: &[u64],
     values: &[i64],
     limit: i64,
 ) -> Loss
-    requires { ⌜ Based valued (now ladder) (now marks) × (length (now values) ≡ 343) × SomeKept (now values) limit (scenarioCount (valued .position .components)) ⌝ }
+    requires { ⌜ Based valued (now ladder) (now tables) × (length (now values) ≡ 343) × SomeKept (now values) limit (scenarioCount (valued .position .components)) ⌝ }
     ensures { λ r. ⌜ WorstKept (lossAt flowValue (exposureOf (valued .position) (now (ladder .entry)))) (now (values .entry)) limit (scenarioCount (valued .position .components)) r ⌝ }
 {
     let position = valued.position;
@@ -94,13 +94,13 @@ fn worst_kept(
     let count = components.scenario_count();
     let first = first_kept(values, limit, count);
     let mut worst = Loss {
-        amount: loss_of(valued, ladder, marks, first),
+        amount: loss_of(valued, ladder, tables, first),
         scenario: first,
     };
     let mut s = first + 1;
     while s < count {
         if values[s as usize] <= limit {
-            worst = worse_with(valued, ladder, marks, worst, s);
+            worst = worse_with(valued, ladder, tables, worst, s);
         }
         s += 1;
     }
@@ -111,26 +111,26 @@ fn worst_kept(
 fn worst_estimated(
     valued: ValuedPosition,
     ladder: &[u64],
-    marks: &[u64],
+    tables: &[u64],
     values: &[i64],
     reach: u64,
 ) -> Loss
-    requires { ⌜ Based valued (now ladder) (now marks) × Estimates (exposureOf (valued .position) (now ladder)) (now values) reach ⌝ }
+    requires { ⌜ Based valued (now ladder) (now tables) × Estimates (exposureOf (valued .position) (now ladder)) (now values) reach ⌝ }
     ensures { λ r. ⌜ r ≡ worstOf (exposureOf (valued .position) (now (ladder .entry))) ⌝ }
 {
     let position = valued.position;
     let components = position.components;
     let least = least_of(values, components.scenario_count());
     let limit = values[least as usize] + 2 * reach as i64;
-    worst_kept(valued, ladder, marks, values, limit)
+    worst_kept(valued, ladder, tables, values, limit)
 }
 
 // The first scenario with the largest loss.
-pub fn worst_of(valued: ValuedPosition, ladder: &[u64], marks: &[u64]) -> Loss
-    requires { ⌜ Based valued (now ladder) (now marks) ⌝ }
+pub fn worst_of(valued: ValuedPosition, ladder: &[u64], tables: &[u64]) -> Loss
+    requires { ⌜ Based valued (now ladder) (now tables) ⌝ }
     ensures { λ r. ⌜ r ≡ worstOf (exposureOf (valued .position) (now (ladder .entry))) ⌝ }
 {
     let mut values = [0i64; 343];
-    let reach = estimate(valued.position, ladder, &mut values);
-    worst_estimated(valued, ladder, marks, &values, reach)
+    let reach = estimate(valued.position, ladder, tables, &mut values);
+    worst_estimated(valued, ladder, tables, &values, reach)
 }

@@ -1,6 +1,7 @@
 // Estimates of a curve's scenarios: the value of its netted flows at cheap factors.
 ghost use mathlib.Core.Path.{_≡_};
 ghost use lib.ListN.{length};
+ghost use Rattle.logarithm.specs.Logarithms.{Tables};
 ghost use Rattle.margin.specs.Choice.{Estimates};
 ghost use Rattle.margin.specs.Positions.{exposureOf, PositionLimits};
 use super::Position;
@@ -9,12 +10,12 @@ use ladder::net::net_days;
 use ladder::net::reach_of;
 
 // An estimate of each scenario's value. Answers how far each may be off.
-pub fn estimate(position: Position, ladder: &[u64], values: &mut [i64]) -> u64
-    requires { ⌜ PositionLimits position (now ladder) × (length (now values) ≡ 343) ⌝ }
+pub fn estimate(position: Position, ladder: &[u64], tables: &[u64], values: &mut [i64]) -> u64
+    requires { ⌜ PositionLimits position (now ladder) × Tables (now tables) × (length (now values) ≡ 343) ⌝ }
     ensures { λ r. ⌜ Estimates (exposureOf position (now (ladder .entry))) (now (values .exit)) r ⌝ }
 {
     let mut nets = [0i64; 10951];
     net_days(position.id, ladder, position.schedules, &mut nets);
-    values_of(position.curve, position.components, &nets, values);
+    values_of(position.curve, position.components, &nets, tables, values);
     reach_of(position.id, ladder, position.schedules)
 }

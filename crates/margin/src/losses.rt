@@ -2,31 +2,16 @@
 ghost use mathlib.Core.Path.{_≡_};
 ghost use Prim.Native.Nat.{_<_};
 ghost use Rattle.curve.specs.Limits.{Proper, ProperComponents};
-ghost use Rattle.curve.specs.Rates.{nodesOf};
 ghost use Rattle.curve.specs.Scenarios.{scenarioCount, scenarioAt};
 ghost use Rattle.curve.specs.Stress.{stressedCurve};
 ghost use Rattle.discount.specs.Flows.{flowValue};
-ghost use Rattle.ladder.specs.Ladder.{ladderFlows, LadderLimits};
 ghost use Rattle.margin.specs.Losses.{lossAt};
-ghost use Rattle.margin.specs.Positions.{exposureOf, DaysMarked, Based};
-ghost use Rattle.ladder.specs.Totals.{totalOn};
+ghost use Rattle.margin.specs.Positions.{exposureOf, Based};
 ghost use Rattle.margin.specs.Worst.{worseOf, LossLimits};
 use super::Position;
 use super::ValuedPosition;
 use curve::Curve;
-use ladder::factors::fill_factors;
-use ladder::total::Total;
-use ladder::total::value_of;
-
-// The value of a ladder at the rates of a curve, and its tolerance; the days of its flows are marked.
-pub fn value_on(id: u64, curve: Curve, ladder: &[u64], schedules: usize, marks: &[u64]) -> Total
-    requires { ⌜ Proper curve × LadderLimits (now ladder) schedules × DaysMarked id (now ladder) schedules (now marks) ⌝ }
-    ensures { λ r. ⌜ r ≡ totalOn (nodesOf curve) (ladderFlows id (now (ladder .entry)) schedules) ⌝ }
-{
-    let mut factors = [0u64; 10951];
-    fill_factors(curve, marks, &mut factors);
-    value_of(id, ladder, schedules, &factors)
-}
+use ladder::valuing::value_of;
 
 impl Position {
     // The curve in scenario s.
@@ -41,13 +26,13 @@ impl Position {
 }
 
 // The loss of scenario s: the base less the value at the stressed nodes.
-pub fn loss_of(valued: ValuedPosition, ladder: &[u64], marks: &[u64], s: u64) -> i64
-    requires { ⌜ Based valued (now ladder) (now marks) × (s < scenarioCount (valued .position .components)) ⌝ }
+pub fn loss_of(valued: ValuedPosition, ladder: &[u64], tables: &[u64], s: u64) -> i64
+    requires { ⌜ Based valued (now ladder) (now tables) × (s < scenarioCount (valued .position .components)) ⌝ }
     ensures { λ r. ⌜ r ≡ lossAt flowValue (exposureOf (valued .position) (now (ladder .entry))) s ⌝ }
 {
     let position = valued.position;
     let stressed = position.curve_in(s);
-    let total = value_on(position.id, stressed, ladder, position.schedules, marks);
+    let total = value_of(position.id, stressed, ladder, position.schedules, tables);
     valued.base - total.sum
 }
 

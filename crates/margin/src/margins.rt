@@ -11,29 +11,29 @@ use super::Margin;
 use super::Position;
 use super::ValuedPosition;
 use super::choice::worst_of;
-use super::losses::value_on;
-use ladder::factors::mark_days;
+use ladder::valuing::value_of;
+use logarithm::tables::fill;
 
 // The figures of a curve, with a position's ladder on it.
 pub fn curve_margin(position: Position, ladder: &[u64]) -> CurveMargin
     requires { ⌜ PositionLimits position (now ladder) ⌝ }
     ensures { λ r. ⌜ r ≡ curveMargin (exposureOf position (now (ladder .entry))) ⌝ }
 {
-    let mut marks = [0u64; 10951];
-    mark_days(position.id, ladder, position.schedules, &mut marks);
-    let total = value_on(
+    let mut tables = [0u64; 3694];
+    fill(&mut tables);
+    let total = value_of(
         position.id,
         position.curve,
         ladder,
         position.schedules,
-        &marks,
+        &tables,
     );
     let base = total.sum;
     let valued = ValuedPosition {
         position: position,
         base: base,
     };
-    let worst = worst_of(valued, ladder, &marks);
+    let worst = worst_of(valued, ladder, &tables);
     let loss = worst.amount;
     CurveMargin {
         base: base,

@@ -17,7 +17,7 @@ use Rattle.discount.specs.Discount.{factor, presentValue}
 use Rattle.discount.specs.declared.Flow.{Flow}
 use Rattle.discount.specs.Flows.{signed, total, sum, flowValue}
 use Rattle.sieve.specs.Cheap.{whole, cheapFactor, distance}
-use Rattle.sieve.proofs.Rows.{whole-pos}
+use Rattle.sieve.proofs.Powers.{whole-pos}
 use Rattle.sieve.proofs.Bound.{cheap-near}
 use Rattle.netting.specs.Netting.{noNets, netOn, netWith, netted, listed, worth, netValue, cheapOn, distanceUp, moved, reach, flowReach, OnDays}
 use Rattle.netting.proofs.Worths.{worth-more}

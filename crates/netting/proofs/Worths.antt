@@ -10,7 +10,7 @@ use Rattle.laws.specs.Distance.{Within}
 use Rattle.laws.proofs.Integer.{int, up, down, plus, up-pos, down-pos, up-neg, down-neg}
 use Rattle.discount.specs.Flows.{signed}
 use Rattle.sieve.specs.Cheap.{whole}
-use Rattle.sieve.proofs.Rows.{whole-pos}
+use Rattle.sieve.proofs.Powers.{whole-pos}
 use Rattle.netting.specs.Netting.{worth}
 
 module _ (c : ℕ) where

@@ -59,7 +59,7 @@ cheapOn rate day = cheapFactor (rate day) day
 
 -- the distance of a day's cheap factor from document 01's, in parts of whole, rounded up
 unfoldable pub distanceUp : ℕ → ℕ
-distanceUp days = 26 + (50000 * days / 365 + 2) / 4096 + products days * 44 / 10000
+distanceUp days = 16 + (9700000 * days / 365 + 2) / 1048576 + products days * 44 / 10000
 
 -- of a flow, in parts of 2 * whole: what the factor moves, a half for the rounding of the flow's value, and one for the net value of its day, which is
 -- rounded down without the flow and with it

@@ -40,6 +40,6 @@ pub fn reach(amount: u64, day: u64) -> u64
     ensures { λ r. ⌜ r ≡ reach amount day ⌝ }
 {
     let products = day % 365 + day / 365;
-    let distance = 26 + (50_000 * day / 365 + 2) / 4096 + products * 44 / 10_000;
+    let distance = 16 + (9_700_000 * day / 365 + 2) / 1_048_576 + products * 44 / 10_000;
     (2 * amount * distance + 3 * WHOLE) / TWICE
 }

@@ -1,12 +1,4 @@
-pub mod Products
-pub mod Rows
-pub mod Cayley
-pub mod Exponents
-pub mod Ratios
-pub mod Bases
-pub mod PowerRows
+pub mod CheapLogs
 pub mod LowDigits
-pub mod Antilogs
-pub mod Logarithms
-pub mod Closeness
+pub mod Powers
 pub mod Bound

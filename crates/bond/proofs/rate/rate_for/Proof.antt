@@ -9,13 +9,13 @@ use Rattle.bond.proofs.rate.rate_for.Statement.{statement}
 use Rattle.bond.proofs.rate.rate_for.Tie as tie
 
 abbrev Inv-loop : tie.InvT-loop
-Inv-loop e cash low₀ high₀ low high = Left (nodesOf (e .curve)) (e .node) (legFlows (e .payments)) cash low high
+Inv-loop e cash tables low₀ high₀ low high = Left (nodesOf (e .curve)) (e .node) (legFlows (e .payments)) cash low high
 
 abbrev μ-loop : tie.MeasureT-loop
-μ-loop e cash low₀ high₀ low high = high - low
+μ-loop e cash tables low₀ high₀ low high = high - low
 
 loop-holds : tie.Need-loop-holds Inv-loop μ-loop
-loop-holds c = left-all (c .pre .1)
+loop-holds c = left-all (c .before .pre .1)
 
 loop-again : tie.Need-loop-again Inv-loop μ-loop
 loop-again c =

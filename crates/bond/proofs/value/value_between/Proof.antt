@@ -8,16 +8,20 @@ use Rattle.decimal.specs.Product.{unit}
 use Rattle.curve.specs.Rates.{nodesOf}
 use Rattle.legs.specs.Runs.{flowOf}
 use Rattle.bond.specs.Value.{bondValue}
-use Rattle.bond.proofs.Values.{value-two, value-one, value-none, value-most, payment-most}
+use Rattle.bond.proofs.Values.{value-two, value-one, value-none, value-most, payment-kept}
 use Rattle.bond.proofs.value.value_between.Statement.{statement}
 use Rattle.bond.proofs.value.value_between.Tie as tie
 
 abbrev Inv-loop : tie.InvT-loop
-Inv-loop c l from to sum₀ k₀ sum k =
+Inv-loop c l from to tables sum₀ k₀ sum k =
     (k ≤ to) × (sum + bondValue (nodesOf c) (table (flowOf l) k (to - k)) ≡ bondValue (nodesOf c) (table (flowOf l) from (to - from)))
 
 abbrev μ-loop : tie.MeasureT-loop
-μ-loop c l from to sum₀ k₀ sum k = to - k
+μ-loop c l from to tables sum₀ k₀ sum k = to - k
+
+-- where the code begins
+abbrev start : tie.At-loop Inv-loop μ-loop → tie.Start Inv-loop μ-loop
+start at-loop = at-loop .before .before
 
 -- the whole fits
 whole : (s : tie.Start Inv-loop μ-loop) → let a = s .args in bondValue (nodesOf (a .c)) (table (flowOf (a .l)) (a .from) (a .to - a .from)) ≤ 120 * unit
@@ -28,46 +32,48 @@ whole s =
 
 value-of-two-requires : tie.Need-value-of-two-requires Inv-loop μ-loop
 value-of-two-requires c κs =
-    let at-loop = c .before .before .before in
-    let pre = at-loop .before .pre in
-    (pre .0, rw (c .before .payment .ensures) (payment-most _ (pre .1) _), rw (c .payment2 .ensures) (payment-most _ (pre .1) _))
+    let in-loop = c .before .before in
+    let s = start (in-loop .before) in
+    let f = payment-kept (s .pre .1) (c .before .payment .ensures) (omega (arith, in-loop .loop-test .taken, s .pre .3)) in
+    let g = payment-kept (s .pre .1) (c .payment2 .ensures) (omega (arith, in-loop .loop-test .taken, s .pre .3)) in
+    (s .pre .0, f .0, g .0, f .1, g .1, s .pre .4)
 
 -- a turn: the value of the payments left is that of two, and of those behind them
-turn : (c : tie.After-value-of-two Inv-loop μ-loop) → let in-loop = c .before .before .before in let k = in-loop .before .loop .k in let a = in-loop .before .before .args in
+turn : (c : tie.After-value-of-two Inv-loop μ-loop) → let in-loop = c .before .before .before in let k = in-loop .before .loop .k in let a = start (in-loop .before) .args in
     bondValue (nodesOf (a .c)) (table (flowOf (a .l)) k (a .to - k)) ≡ c .value-of-two .result + bondValue (nodesOf (a .c)) (table (flowOf (a .l)) (k + 2) (a .to - (k + 2)))
 turn c =
     let in-loop = c .before .before .before in
-    let a = in-loop .before .before .args in
+    let a = start (in-loop .before) .args in
     rw (c .value-of-two .ensures, c .before .payment2 .ensures, c .before .before .payment .ensures) (value-two (nodesOf (a .c)) (a .l) (in-loop .before .loop .k) (a .to) (in-loop .loop-test .taken))
 
 add-sum : tie.Need-add-sum Inv-loop μ-loop
 unfolding unit
 add-sum c =
     let in-loop = c .before .before .before in
-    omega (arith, turn c, whole (in-loop .before .before))
+    omega (arith, turn c, whole (start (in-loop .before)))
 
 loop-again : tie.Need-loop-again Inv-loop μ-loop
 loop-again c = (search needs, omega (arith, turn c))
 
 value-of-requires : tie.Need-value-of-requires Inv-loop μ-loop
 value-of-requires c κs =
-    let at-loop = c .before .before .before in
-    let pre = at-loop .before .pre in
-    (pre .0, rw (c .payment3 .ensures) (payment-most _ (pre .1) _))
+    let s = start (c .before .before .before) in
+    let f = payment-kept (s .pre .1) (c .payment3 .ensures) (omega (arith, c .before .if1 .taken, s .pre .3)) in
+    (s .pre .0, f .0, f .1, s .pre .4)
 
 -- the last payment alone
-last : (c : tie.After-value-of Inv-loop μ-loop) → let after-loop = c .before .before .before in let k = after-loop .before .loop .k in let a = after-loop .before .before .args in
+last : (c : tie.After-value-of Inv-loop μ-loop) → let after-loop = c .before .before .before in let k = after-loop .before .loop .k in let a = start (after-loop .before) .args in
     bondValue (nodesOf (a .c)) (table (flowOf (a .l)) k (a .to - k)) ≡ c .value-of .result
 last c =
     let after-loop = c .before .before .before in
-    let a = after-loop .before .before .args in
+    let a = start (after-loop .before) .args in
     rw (c .value-of .ensures, c .before .payment3 .ensures) (value-one (nodesOf (a .c)) (a .l) (after-loop .before .loop .k) (a .to) (c .before .before .if1 .taken) (after-loop .loop-test .left))
 
 add-result : tie.Need-add-result Inv-loop μ-loop
 unfolding unit
 add-result c =
     let after-loop = c .before .before .before in
-    omega (arith, last c, whole (after-loop .before .before))
+    omega (arith, last c, whole (start (after-loop .before)))
 
 returns : tie.Need-returns Inv-loop μ-loop
 returns c = omega (arith, last c)
@@ -75,7 +81,7 @@ returns c = omega (arith, last c)
 returns-2 : tie.Need-returns-2 Inv-loop μ-loop
 returns-2 c =
     let at-loop = c .before .before in
-    let a = at-loop .before .args in
+    let a = start at-loop .args in
     omega (arith, value-none (nodesOf (a .c)) (a .l) (at-loop .loop .k) (a .to) (c .if1 .left))
 
 pub value-between-spec : {M : Type 1} → statement M

@@ -23,8 +23,8 @@ loop-again c =
     let l = c .before .before .before in
     let x = getD (l .before .args .nets .now) (l .loop .day) (pos 0) in
     let k = c .before .before .loop-test .taken in
-    let more = listing-more _ _ _ _ _ (l .loop .inv) k (l .before .pre) in
-    let kept = listing-kept _ _ _ _ _ (l .loop .inv) k (l .before .pre) in
+    let more = listing-more _ _ _ _ _ (l .loop .inv) k (l .before .pre .0) in
+    let kept = listing-kept _ _ _ _ _ (l .loop .inv) k (l .before .pre .0) in
     ⊎-elim
     (λ w. rw (w .1) (more (some-tested x (w .0 .taken))))
     (λ w. rw (w .1) (kept (none-tested x (c .before .if12 .given) (w .0 .left))))
@@ -42,6 +42,7 @@ list-days-spec =
     Inv-loop
     μ-loop
     loop-holds
+    (λ c. search needs)
     (λ c. search needs)
     (λ c. search needs)
     (λ c. search needs)

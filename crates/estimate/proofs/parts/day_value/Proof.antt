@@ -13,7 +13,7 @@ use Rattle.estimate.proofs.parts.day_value.Tie as tie
 
 -- the entry's record
 abbrev start : tie.After-factor → tie.Start
-start c = let given = c .before .before in given .before .before .before
+start c = let given = c .before .before in given .before
 
 worth-requires : tie.Need-worth-requires
 unfolding whole mostSize

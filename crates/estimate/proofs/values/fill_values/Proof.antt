@@ -10,15 +10,15 @@ use Rattle.estimate.proofs.values.fill_values.Statement.{statement}
 use Rattle.estimate.proofs.values.fill_values.Tie as tie
 
 abbrev Inv-loop : tie.InvT-loop
-Inv-loop curve components days nets logs middle upper values₀ n s₀ values s =
+Inv-loop curve components days nets tables values₀ n s₀ values s =
     Filled curve components nets values₀ values s
 
 abbrev μ-loop : tie.MeasureT-loop
-μ-loop curve components days nets logs middle upper values₀ n s₀ values s = n - s
+μ-loop curve components days nets tables values₀ n s₀ values s = n - s
 
 -- the entry's record, and that a turn's scenario is one of the components'
 abbrev start : tie.At-loop Inv-loop μ-loop → tie.Start Inv-loop μ-loop
-start l = let given = l .before .before .before in given .before .before .before
+start l = let given = l .before .before .before in given .before
 
 within : (c : tie.In-loop Inv-loop μ-loop) → c .before .loop .s < scenarioCount (start (c .before) .args .components)
 within c = omega (arith, c .loop-test .taken, c .before .before .scenario-count .ensures)
@@ -36,8 +36,8 @@ value-on-requires c κs =
     let p = start (c .before .before .before) .pre in
     (rw (c .stressed .ensures) (proper-stressed _ _ (p .0)), p .2, p .3)
 
-mul-t16 : tie.Need-mul-t16 Inv-loop μ-loop
-mul-t16 c =
+mul-t14 : tie.Need-mul-t14 Inv-loop μ-loop
+mul-t14 c =
     let turn = c .before .before .before in
     record { fits = omega (arith, within turn, scenarios-most _ (start (turn .before) .pre .1)) }
 
@@ -78,7 +78,7 @@ fill-values-spec =
     scenario-requires
     stressed-requires
     value-on-requires
-    mul-t16
+    mul-t14
     slice-set-from-values
     add-s
     loop-less

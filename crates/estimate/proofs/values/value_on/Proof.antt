@@ -8,14 +8,14 @@ use Rattle.estimate.proofs.values.value_on.Statement.{statement}
 use Rattle.estimate.proofs.values.value_on.Tie as tie
 
 abbrev Inv-loop : tie.InvT-loop
-Inv-loop days nets logs middle upper curve a₀ p₀ n i₀ a p i = Held curve nets days a i p
+Inv-loop days nets tables curve a₀ p₀ n i₀ a p i = Held curve nets days a i p
 
 abbrev μ-loop : tie.MeasureT-loop
-μ-loop days nets logs middle upper curve a₀ p₀ n i₀ a p i = n - i
+μ-loop days nets tables curve a₀ p₀ n i₀ a p i = n - i
 
 -- the entry's record
 abbrev start : tie.After-a Inv-loop μ-loop → tie.Start Inv-loop μ-loop
-start c = let given = c .before .before in given .before .before .before
+start c = c .before .before .before
 
 abbrev entry : tie.At-loop Inv-loop μ-loop → tie.Start Inv-loop μ-loop
 entry l = start (l .before .before .before)

@@ -24,11 +24,11 @@ use Rattle.margin.proofs.choice.worst_kept.Statement.{statement}
 use Rattle.margin.proofs.choice.worst_kept.Tie as tie
 
 abbrev Inv-loop : tie.InvT-loop
-Inv-loop valued ladder marks values limit count first worst₀ s₀ worst s =
+Inv-loop valued ladder tables values limit count first worst₀ s₀ worst s =
     WorstKept (lossAt flowValue (exposureOf (valued .position) ladder)) values (cast limit) s worst × (s ≤ scenarioCount (valued .position .components))
 
 abbrev μ-loop : tie.MeasureT-loop
-μ-loop valued ladder marks values limit count first worst₀ s₀ worst s = count - s
+μ-loop valued ladder tables values limit count first worst₀ s₀ worst s = count - s
 
 -- the entry's record, and where the scenarios are counted
 abbrev start : tie.After-scenario-count Inv-loop μ-loop → tie.Start Inv-loop μ-loop

@@ -19,24 +19,29 @@ use Rattle.margin.proofs.estimates.estimate.Tie as tie
 abbrev flows : tie.Start → List Flow
 flows s = let p = s .args .position in ladderFlows (p .id) (s .args .ladder .now) (p .schedules)
 
+-- the entry's record
+abbrev start : tie.After-net-days → tie.Start
+start c = let lent = c .before .before in lent .before .before
+
 net-days-requires : tie.Need-net-days-requires
 net-days-requires c κs =
-    let s = c .before .before in
+    let s = c .before .before .before in
     let h = s .pre .0 .schedules in
     (h, length-replicate {A = ℤ} 10951 (pos 0), nets-none (length (flows s)) (h .few (s .args .position .id)))
 
 values-of-requires : tie.Need-values-of-requires
 values-of-requires c κs =
     let netted = c .before .before .before in
-    let s = netted .before .before .before in
+    let s = start netted in
     let p = s .args .position in
     let h = s .pre .0 in
     let e = netted .net-days .ensures in (
       h .proper,
       h .stress,
+      s .pre .1,
       rw e (nets-length (flows s) (replicate 10951 (pos 0)) ∙ length-replicate {A = ℤ} 10951 (pos 0)),
       rw e (nets-size (flows s) (ladder-limits (p .id) (s .args .ladder .now) (p .schedules) (h .schedules)) (h .schedules .few (p .id))),
-      omega (arith, scenarios-most (p .components) (h .stress), s .pre .1),
+      omega (arith, scenarios-most (p .components) (h .stress), s .pre .2),
     )
 
 returns : tie.Need-returns
@@ -44,8 +49,8 @@ returns c =
     let v = c .before .before in
     let lent = v .before .before .before in
     let netted = lent .before in
-    let s = netted .before .before .before in
-    estimates _ _ (s .pre .0) _ _ _ (netted .net-days .ensures) (c .reach-of .ensures) (v .values-of .ensures .0 ∙ s .pre .1) (v .values-of .ensures .1)
+    let s = start netted in
+    estimates _ _ (s .pre .0) _ _ _ (netted .net-days .ensures) (c .reach-of .ensures) (v .values-of .ensures .0 ∙ s .pre .2) (v .values-of .ensures .1)
 
 pub estimate-spec : {M : Type 1} → statement M
 estimate-spec =
@@ -55,6 +60,6 @@ estimate-spec =
     net-days-requires
     (λ c. search needs)
     values-of-requires
-    (λ c κs. let v = c .before in let lent = v .before .before .before in let netted = lent .before in netted .before .before .before .pre .0 .schedules)
+    (λ c κs. let v = c .before in let lent = v .before .before .before in start (lent .before) .pre .0 .schedules)
     (λ c. search needs)
     returns)

@@ -1,4 +1,4 @@
--- `sieve::cheap::exponent` meets its contract: what it reads of the table is what the definition has, and all of it fits.
+-- `sieve::cheap::exponent` meets its contract: what it reads of the tables is what the definition has, and all of it fits.
 use mathlib.Core.Path.{_≡_, refl}
 use Prim.Native.Nat.{ℕ, _+_, _-_, _*_, _/_, _%_, _≤_}
 use native.Mathlib.Nat.{mul-le-mul}
@@ -6,8 +6,9 @@ use native.Mathlib.Omega.{arith}
 use borrow.Author.Needs.{needs}
 use denote.Ref.{now}
 use lib.ListN.{getD}
-use Rattle.sieve.specs.Cheap.{logOf, logAt}
-use Rattle.sieve.proofs.Rows.{log-more, log-le, log-at-le, row-le}
+use Rattle.logarithm.specs.Logarithms.{logOf, slopeOf}
+use Rattle.sieve.specs.Cheap.{bend, risen, cheapLog}
+use Rattle.sieve.proofs.CheapLogs.{bent, bend-le, square-le, part-le, rise-le, cheap-log-le}
 use Rattle.sieve.proofs.cheap.exponent.Statement.{statement}
 use Rattle.sieve.proofs.cheap.exponent.Tie as tie
 
@@ -15,52 +16,59 @@ module _ (c : tie.Start) where
   abbrev rate : ℕ
   rate = c .args .rate
 
-  abbrev from : ℕ
-  from = getD (now (c .args .logs)) (rate / 64) 0
+  abbrev row : ℕ
+  row = getD (now (c .args .tables)) (rate / 2048) 0
 
-  abbrev to : ℕ
-  to = getD (now (c .args .logs)) (rate / 64 + 1) 0
+  abbrev rise : ℕ
+  rise = rate % 2048 * getD (now (c .args .tables)) (489 + rate / 2048) 0
 
-  from-is : from ≡ logOf (rate / 64)
-  from-is = c .pre .0 .row (rate / 64) (omega (arith, c .pre .3))
+  abbrev part : ℕ
+  part = rise / 2097152
 
-  to-is : to ≡ logOf (rate / 64 + 1)
-  to-is = c .pre .0 .row (rate / 64 + 1) (c .pre .3)
+  row-is : row ≡ logOf (rate / 2048)
+  row-is = c .pre .0 .logs (rate / 2048) (omega (arith, c .pre .1))
 
-  rises : from ≤ to
-  rises = omega (arith, from-is, to-is, log-more (rate / 64))
+  slope-known : getD (now (c .args .tables)) (489 + rate / 2048) 0 ≡ slopeOf (rate / 2048)
+  slope-known = c .pre .0 .slopes (rate / 2048) (omega (arith, c .pre .1))
 
-  to-le : to ≤ 8796374478814
-  to-le = omega (arith, to-is, log-le (rate / 64 + 1), row-le rate (c .pre .1))
+  rise-few : rise ≤ 4609434217211
+  rise-few = rw slope-known (rise-le (rate / 2048) (rate % 2048) (omega arith))
 
-  step-le : (to - from) * (rate % 64) ≤ 8796374478814 * 64
-  step-le =
-      let less : to - from ≤ 8796374478814 = omega (arith, to-le) in
-      let few : rate % 64 ≤ 64 = omega arith in
-      mul-le-mul less few
+  part-few : part ≤ 2197952
+  part-few = part-le rise part (bend rise) (bent rise rise-few)
 
-  log-is : from + (to - from) * (rate % 64) / 64 ≡ logAt rate
-  unfolding logAt
-  log-is = rw (from-is, to-is) refl
+  square-few : part * part ≤ 2197952 * part
+  square-few = square-le rise part (bend rise) (bent rise rise-few)
 
-  log-product-le : (from + (to - from) * (rate % 64) / 64) * c .args .day ≤ 8796374478814 * 10950
-  log-product-le = rw log-is (mul-le-mul (log-at-le rate (c .pre .1)) (c .pre .2))
+  bend-few : part * part / 1024 ≤ rise
+  unfolding bend
+  bend-few = bend-le rise part (bend rise) (bent rise rise-few)
 
-sub-log : tie.Need-sub-log
-sub-log c = rises (c .before .before)
+  log-is : row + (rise - part * part / 1024) ≡ cheapLog rate
+  unfolding cheapLog risen bend
+  log-is = rw (row-is, slope-known) refl
 
-mul-log : tie.Need-mul-log
-mul-log c = omega (arith, step-le (c .before .before))
+  log-few : row + (rise - part * part / 1024) ≤ 1564789514502464
+  log-few = rw log-is (cheap-log-le rate (c .pre .1))
 
-add-log : tie.Need-add-log
-add-log c = omega (arith, step-le (c .before .before), to-le (c .before .before), rises (c .before .before))
-
-mul-result : tie.Need-mul-result
-mul-result c = omega (arith, log-product-le (c .before .before))
+  product-le : (row + (rise - part * part / 1024)) * c .args .day ≤ 1564789514502464 * 10950
+  product-le = mul-le-mul log-few (c .pre .2)
 
 returns : tie.Need-returns
 returns c = rw (log-is (c .before .before)) refl
 
 pub exponent-spec : {M : Type 1} → statement M
 exponent-spec =
-    tie.close (tie.spec (λ c. search needs) (λ c. search needs) (λ c. search needs) (λ c. search needs) (λ c. search needs) sub-log mul-log add-log mul-result returns)
+    tie.close
+    (tie.spec
+    (λ c. search needs)
+    (λ c. omega (arith, c .before .pre .0 .places, c .before .pre .1))
+    (λ c. search needs)
+    (λ c. search needs)
+    (λ c. omega (arith, c .before .before .pre .0 .places, c .before .before .pre .1))
+    (λ c. omega (arith, rise-few (c .before .before)))
+    (λ c. omega (arith, square-few (c .before .before), part-few (c .before .before)))
+    (λ c. bend-few (c .before .before))
+    (λ c. omega (arith, log-few (c .before .before)))
+    (λ c. omega (arith, product-le (c .before .before)))
+    returns)

@@ -1,20 +1,20 @@
 -- `sieve::cheap::factor` meets its contract.
 use mathlib.Core.Path.{ap, _∙_}
 use borrow.Author.Needs.{needs}
-use Rattle.sieve.specs.Cheap.{antilog, cheapFactor}
-use Rattle.sieve.proofs.Rows.{exponent-le}
+use Rattle.logarithm.proofs.Rows.{exponent-le}
+use Rattle.sieve.specs.Cheap.{cheapLog, cheapPower, cheapFactor}
+use Rattle.sieve.proofs.CheapLogs.{cheap-log-le}
 use Rattle.sieve.proofs.cheap.factor.Statement.{statement}
 use Rattle.sieve.proofs.cheap.factor.Tie as tie
 
-antilog-requires : tie.Need-antilog-requires
-antilog-requires c κs =
-    let lent = c .before .before in
-    let start = lent .before .before in
-    (start .pre .1, rw (c .exponent .ensures) (exponent-le (start .args .rate) (start .pre .2) (start .args .day) (start .pre .3)))
+power-requires : tie.Need-power-requires
+power-requires c κs =
+    let start = c .before .before in
+    (start .pre .0, rw (c .exponent .ensures) (exponent-le (cheapLog (start .args .rate)) (start .args .day) (cheap-log-le (start .args .rate) (start .pre .1)) (start .pre .2)))
 
 returns : tie.Need-returns
 unfolding cheapFactor
-returns c = c .antilog .ensures ∙ ap antilog (c .before .exponent .ensures)
+returns c = c .power .ensures ∙ ap cheapPower (c .before .exponent .ensures)
 
 pub factor-spec : {M : Type 1} → statement M
-factor-spec = tie.close (tie.spec (λ c κs. search needs) antilog-requires returns)
+factor-spec = tie.close (tie.spec (λ c κs. search needs) power-requires returns)

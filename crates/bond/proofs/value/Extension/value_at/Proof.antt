@@ -10,7 +10,7 @@ value-between-requires : tie.Need-value-between-requires
 value-between-requires c κs =
     let after-at-rate = c .before in
     let after-n = after-at-rate .before .before in
-    let pre = after-n .before .before .pre in
+    let pre = after-n .before .before .before .pre in
     let proper = longer-proper (pre .0) (after-at-rate .at-rate .ensures) (c .lengthened .ensures) (pre .1) in
     search needs
 
@@ -19,7 +19,7 @@ unfolding unit
 add-result c =
     let after-lengthened = c .before .before in
     let after-n = after-lengthened .before .before .before in
-    let pre = after-n .before .before .pre in
+    let pre = after-n .before .before .before .pre in
     omega (arith, value-limit (pre .0) _ (c .before .value-between .ensures))
 
 returns : tie.Need-returns
@@ -27,7 +27,7 @@ returns c =
     let after-lengthened = c .before .before in
     let after-at-rate = after-lengthened .before in
     let after-n = after-at-rate .before .before in
-    let pre = after-n .before .before .pre in
+    let pre = after-n .before .before .before .pre in
     value-whole (pre .0) (after-at-rate .at-rate .ensures) (after-lengthened .lengthened .ensures) (c .before .value-between .ensures)
 
 pub value-at-spec : {M : Type 1} → statement M

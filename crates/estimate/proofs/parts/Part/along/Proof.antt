@@ -14,15 +14,15 @@ use Rattle.estimate.proofs.parts.Part.along.Statement.{statement}
 use Rattle.estimate.proofs.parts.Part.along.Tie as tie
 
 abbrev Inv-loop : tie.InvT-loop
-Inv-loop line days nets logs middle upper n i₀ value₀ i value =
+Inv-loop line days nets tables n i₀ value₀ i value =
     Going line nets days (record { done = i₀; value = cast value₀ }) (record { done = i; value = cast value })
 
 abbrev μ-loop : tie.MeasureT-loop
-μ-loop line days nets logs middle upper n i₀ value₀ i value = n - i
+μ-loop line days nets tables n i₀ value₀ i value = n - i
 
 -- the entry's record
 abbrev start : tie.After-struct-told Inv-loop μ-loop → tie.Start Inv-loop μ-loop
-start c = let given = c .before .before in given .before .before .before
+start c = c .before .before .before
 
 -- the value of the part that comes in, read back from its bits
 value-read : (s : tie.Start Inv-loop μ-loop) → read (s .args .self .value) ≡ s .args .self .value
@@ -40,6 +40,9 @@ returns c =
     let l = turn .before in
     let a = going-stop _ _ _ _ _ (l .loop .inv) (turn .loop-test .taken) (c .if1 .taken) in
     rw (value-read (start (l .before))) at a
+
+cast-day : tie.Need-cast-day Inv-loop μ-loop
+cast-day c = record { fits = omega (arith, going-day _ _ _ _ _ (c .before .before .loop .inv) (c .before .loop-test .taken) .0) }
 
 -- the day of a turn, which is not past the line's end
 module _ (c : tie.Else1 Inv-loop μ-loop) where
@@ -129,6 +132,7 @@ along-spec =
     loop-holds
     (λ c. search needs)
     (λ c. search needs)
+    cast-day
     returns
     mul-day-value
     shared-slice-copy-out-day-value

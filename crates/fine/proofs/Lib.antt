@@ -1,0 +1,5 @@
+pub mod Products
+pub mod LowPowers
+pub mod Antilogs
+pub mod Bound
+pub mod Settling

@@ -1,0 +1,4 @@
+// The fine factor, near document 01's to some units of 10^-12 at a hundredth of its price, and the present values that it settles.
+pub mod bracket;
+pub mod factor;
+pub mod settle;

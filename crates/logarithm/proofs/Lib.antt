@@ -1,0 +1,11 @@
+pub mod Products
+pub mod Cayley
+pub mod Pade
+pub mod Exponents
+pub mod Ratios
+pub mod Steps
+pub mod Rows
+pub mod Logarithms
+pub mod Bases
+pub mod PowerRows
+pub mod Closeness
