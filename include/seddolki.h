@@ -16,7 +16,7 @@
  *
  * Every function returns; none allocates, keeps a pointer, reads or writes a
  * file, or holds state between calls. Calls on different bytes may run at
- * the same time. No call needs more than 1 MiB of stack. A pointer must be
+ * the same time. No call needs more than 512 KiB of stack. A pointer must be
  * valid for its length; bytes that are written must not overlap the others
  * of the same call. Any value of `used`, `position`, `amount`, `rate`, `day`,
  * `curve`, `cash` and of the components may be passed.

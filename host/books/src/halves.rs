@@ -6,6 +6,7 @@ use seddolki_model::block::{Curve, Node};
 use seddolki_model::curve::rate_on;
 use seddolki_model::discount::discount_factor;
 use seddolki_model::flows::CashFlow;
+use seddolki_model::limits::MAX_DAY;
 use seddolki_model::record::{Record, FIRST_SIDE, OUTRIGHT, SECOND_SIDE, SINGLE_PAYMENT};
 use seddolki_model::report::CurveFigures;
 use seddolki_model::scenario::{scenarios, stressed_nodes};
@@ -82,16 +83,8 @@ pub(crate) const HALVING_RATES: [i32; 3] = [1_000_000, 600_000, 280_000];
 /// Rates move the value of as much by a few kuruş.
 pub(crate) const MOST_SMALL: u64 = 2_000;
 
-/// A small payment in a year or two, bought or sold for as much today: worth
-/// whole kuruş and a half, if that can be, by the curve's own rates or by those
-/// that the first component moves them to.
-pub fn draw_half_payment(draw: &mut Draw, curve: &Curve) -> Record {
-    let day = YEAR * draw.within(1..=2);
-    let coefficient = draw.pick(&[0, 100]);
-    let nodes = stressed_nodes(curve.nodes(), &[coefficient, 0, 0]);
-    let factor = discount_factor(rate_on(&nodes, day), day);
-    let any = draw.within(1..=MOST_SMALL);
-    let half = Rest::Half.draw_amount(draw, factor, MOST_SMALL);
+/// A payment of the curve on a day, bought or sold for as much today.
+fn payment(draw: &mut Draw, curve: &Curve, day: u64, nominal: u64) -> Record {
     Record {
         kind: OUTRIGHT,
         side: draw.pick(&[FIRST_SIDE, SECOND_SIDE]),
@@ -99,10 +92,44 @@ pub fn draw_half_payment(draw: &mut Draw, curve: &Curve) -> Record {
         security_curve: curve.id,
         cash_curve: curve.id,
         first_payment_day: day as u16,
-        nominal: half.unwrap_or(any),
+        nominal,
         price_or_rate: ONE as u32,
         ..Record::default()
     }
+}
+
+/// A small payment in a year or two: worth whole kuruş and a half, if that can
+/// be, by the curve's own rates or by those that the first component moves them
+/// to.
+pub fn draw_half_payment(draw: &mut Draw, curve: &Curve) -> Record {
+    let day = YEAR * draw.within(1..=2);
+    let coefficient = draw.pick(&[0, 100]);
+    let nodes = stressed_nodes(curve.nodes(), &[coefficient, 0, 0]);
+    let factor = discount_factor(rate_on(&nodes, day), day);
+    let any = draw.within(1..=MOST_SMALL);
+    let half = Rest::Half.draw_amount(draw, factor, MOST_SMALL);
+    payment(draw, curve, day, half.unwrap_or(any))
+}
+
+/// How many amounts are drawn for one that is worth nearly a half.
+const AMOUNTS: usize = 200;
+
+/// A payment on any day, of an amount of any size, which by the curve's own
+/// rates is worth whole kuruş and, as nearly as a few hundred amounts allow, a
+/// half.
+pub fn draw_payment_near_half(draw: &mut Draw, curve: &Curve) -> Record {
+    let day = draw.within(1..=MAX_DAY);
+    let factor = discount_factor(rate_on(curve.nodes(), day), day);
+    let most = 10_u64.pow(draw.within(1..=12) as u32);
+    let away = |amount: u64| {
+        let worth = u128::from(amount) * u128::from(factor);
+        ((worth % u128::from(UNIT)) as u64).abs_diff(HALF)
+    };
+    let exact = draw.pick(&Rest::ALL).draw_amount(draw, factor, most);
+    let drawn = (0..AMOUNTS).map(|_| draw.within(1..=most));
+    let nearest = drawn.min_by_key(|amount| away(*amount));
+    let amount = exact.filter(|amount| *amount > 0).or(nearest);
+    payment(draw, curve, day, amount.expect("amounts are drawn"))
 }
 
 /// Whether an amount is worth whole kuruş and a half by these nodes.

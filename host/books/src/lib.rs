@@ -46,7 +46,7 @@ pub use draw::Draw;
 pub use endings::Endings;
 pub use engine::{Engine, Model};
 pub use examples::{buyer, seller, undiscounted_book};
-pub use halves::{draw_half_payment, is_half, HalfCase, Rest};
+pub use halves::{draw_half_payment, draw_payment_near_half, is_half, HalfCase, Rest};
 pub use largest::Largest;
 pub use near_ties::{draw_near_ties, NearTies};
 pub use paying::Paying;

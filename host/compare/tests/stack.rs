@@ -12,7 +12,7 @@ use seddolki_model::record::{Record, RECORD};
 use std::thread;
 
 /// What the header promises.
-const STACK: usize = 1 << 20;
+const STACK: usize = 1 << 19;
 
 /// The answer's number of a call on a thread with no more than that.
 fn number(bytes: Vec<u8>, call: Call) -> u64 {
