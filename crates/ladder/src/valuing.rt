@@ -1,4 +1,4 @@
-// The value of a ladder at the rates of a curve. The fine factor settles the values of nearly all flows; of the others the factor is worked out.
+// The value of a ladder at the rates of a curve. The fine factor settles the values of most flows; of the others the factor is worked out.
 ghost use mathlib.Core.Path.{_≡_};
 ghost use mathlib.Core.Bool.{true};
 ghost use Rattle.curve.specs.Limits.{Proper};
