@@ -1,7 +1,7 @@
 -- Laws of rounding half up: it is within a half of the quotient, a multiple of the divisor comes out whole, and so does the quotient of a factor.
 use mathlib.Core.Path.{_≡_, ap, sym, _∙_}
 use Prim.Native.Nat.{ℕ, _+_, _*_, _/_, _%_, _≤_, _<_}
-use native.Mathlib.Nat.{add-comm, add-mul-div-right, mul-div-mul-right, div-le-of-le-mul, div-lt-iff-lt-mul, div-eq-of-lt, div-eq-of-lt-le, div-add-mod', le-div-iff-mul-le, div-mul-le-self, lt-div-mul-add, lt-of-mul-lt-mul-right, le-refl, mul-le-mul-left, mul-le-mul-right}
+use native.Mathlib.Nat.{add-comm, add-mul-div-right, mul-div-mul-right, div-le-of-le-mul, div-lt-iff-lt-mul, div-eq-of-lt, div-eq-of-lt-le, div-add-mod', le-div-iff-mul-le, div-mul-le-self, lt-div-mul-add, lt-of-mul-lt-mul-right, le-of-mul-le-mul-right, le-refl, mul-le-mul-left, mul-le-mul-right}
 use native.Mathlib.Omega.{arith}
 use borrow.Author.Tests.{le-leb, lt-leb}
 use Rattle.decimal.specs.Product.{unit}
@@ -21,10 +21,17 @@ half-up-high n d h =
     let next : n * 2 + d < (n * 2 + d) / (d * 2) * (d * 2) + d * 2 = lt-div-mul-add (omega arith) in
     omega arith
 
-pub half-up-mono : {n m : ℕ} (d : ℕ) → 0 < d → n ≤ m → halfUp n d ≤ halfUp m d
+-- a larger quotient is no less when rounded, whatever the divisors
+pub half-up-across : (x y u z : ℕ) → 0 < u → 0 < z → x * z ≤ y * u → halfUp x u ≤ halfUp y z
 unfolding halfUp
-half-up-mono {n} {m} d p h =
-    le-div-iff-mul-le {k = d * 2} {y = m * 2 + d} (omega arith) .1 (omega (arith, div-mul-le-self (n * 2 + d) (d * 2)))
+half-up-across x y u z pu pz h =
+    let v : ℕ = (x * 2 + u) / (u * 2) in
+    let cut : v * (u * 2) ≤ x * 2 + u = div-mul-le-self (x * 2 + u) (u * 2) in
+    let scaled : v * (z * 2) * u ≤ (y * 2 + z) * u = omega (arith, mul-le-mul-right z cut, h) in
+    le-div-iff-mul-le {k = z * 2} {x = v} {y = y * 2 + z} (omega arith) .1 (le-of-mul-le-mul-right scaled pu)
+
+pub half-up-mono : {n m : ℕ} (d : ℕ) → 0 < d → n ≤ m → halfUp n d ≤ halfUp m d
+half-up-mono {n} {m} d p h = half-up-across n m d d p p (mul-le-mul-right d h)
 
 -- ---- as code takes it
 

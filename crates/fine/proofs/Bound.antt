@@ -1,4 +1,4 @@
--- The fine factor is at most one, and document 01's lies within its bracket.
+-- Document 01's factor lies within the bracket of the fine one.
 use mathlib.Core.Path.{_≡_}
 use Prim.Native.Nat.{ℕ, _+_, _*_, _/_, _%_, _^_, _≤_, _<_}
 use native.Mathlib.Nat.{mul-le-mul, mul-le-mul-right, lt-div-mul-add, pow-suc}
@@ -18,11 +18,7 @@ use Rattle.logarithm.proofs.Rows.{fine-pos, log-sum-le, exponent-le}
 use Rattle.logarithm.proofs.Logarithms.{at-least, log-row}
 use Rattle.logarithm.proofs.Closeness.{enough, years-high, near-most, near-least}
 use Rattle.fine.specs.Fine.{logAt, fineFactor, spread, lost, below, above, bracketOf, bracketAt, Between}
-use Rattle.fine.proofs.Antilogs.{antilog-low, antilog-high, antilog-le}
-
-pub fine-le : (r days : ℕ) → fineFactor r days ≤ fineWhole
-unfolding fineFactor
-fine-le r days = antilog-le (logAt r * days / 365)
+use Rattle.fine.proofs.Antilogs.{antilog-low, antilog-high}
 
 -- ---- the logarithm of a rate: each row loses 32 units at most, and so does the last step
 

@@ -18,6 +18,7 @@ use Rattle.ladder.specs.declared.total.Total.{Total}
 use Rattle.ladder.specs.declared.valuing.Valuing.{Valuing}
 use Rattle.ladder.specs.Totals.{plusFlow, noFlows, FlowLimits, mostFlows, TotalRoom}
 use Rattle.ladder.specs.Held.{held, ValuingLimits, WithFlow}
+use Rattle.ladder.proofs.KeptFactors.{value-of-factor}
 use Rattle.ladder.proofs.Totals.{plusFlow-turned, total-none, total-less, total-next}
 
 -- ---- the limits of what is held
@@ -42,8 +43,7 @@ module _ (nodes : List Node) where
   at-rate f e q = rw e at q
 
   pub at-factor : (f : Flow) {x : ℕ} → x ≡ factor (rateAt nodes (f .day)) (f .day) → discounted (f .amount) x ≡ worth f
-  unfolding presentValue
-  at-factor f e = rw e
+  at-factor f e = value-of-factor (f .amount) _ _ e
 
   pub value-most : (f : Flow) → FlowLimits f → worth f ≤ unit
   unfolding presentValue

@@ -7,7 +7,8 @@ use native.Mathlib.Omega.{arith}
 use lib.ListN.{getD, set, replicate, length-set, length-replicate, getD-replicate}
 use lib.Seq.{getD-set-same, getD-set-other}
 use Rattle.ground.specs.Limits.{lastDay, dayCount}
-use Rattle.discount.specs.Discount.{factor}
+use Rattle.decimal.specs.HalfUp.{discounted}
+use Rattle.discount.specs.Discount.{factor, presentValue}
 use Rattle.discount.proofs.Factors.{factor-le}
 use Rattle.curve.specs.declared.Node.{Node}
 use Rattle.curve.specs.Rates.{rateAt}
@@ -16,6 +17,11 @@ use Rattle.fine.specs.declared.bracket.Bracket.{Bracket}
 use Rattle.ladder.specs.Kept.{bracketIn, KeptOn, KeptFactors}
 
 -- ---- in a number: a factor, or a bracket
+
+-- what an amount is worth at a factor
+pub value-of-factor : (amount rate day : ℕ) {x : ℕ} → x ≡ factor rate day → discounted amount x ≡ presentValue amount rate day
+unfolding presentValue
+value-of-factor amount rate day e = rw e refl
 
 pub factor-kept : (rate day : ℕ) {x : ℕ} → x ≡ factor rate day → KeptOn rate day (2 * x)
 factor-kept rate day {x} e =

@@ -1,10 +1,9 @@
 -- `ladder::kept::kept_value` meets its contract.
 use borrow.Author.Needs.{needs}
-use mathlib.Core.Path.{_≡_, _∙_, refl}
-use Prim.Native.Nat.{ℕ, _%_}
+use mathlib.Core.Path.{_≡_, _∙_}
+use Prim.Native.Nat.{_%_}
 use native.Mathlib.Omega.{arith}
-use Rattle.decimal.specs.HalfUp.{discounted}
-use Rattle.discount.specs.Discount.{factor, presentValue}
+use Rattle.ladder.proofs.KeptFactors.{value-of-factor}
 use Rattle.ladder.proofs.kept.kept_value.Statement.{statement}
 use Rattle.ladder.proofs.kept.kept_value.Tie as tie
 
@@ -14,11 +13,6 @@ settled-by-requires c κs = let odd = c .before in (odd .before .pre .0, rw (c .
 returns : tie.Need-returns
 returns c rate day k = let at = c .before in c .settled-by .ensures .1 rate day (rw (at .bracket-in .ensures) (k .bracket (at .before .if1 .taken)))
 
--- an amount at a factor that is kept
-at-factor : (amount rate day : ℕ) {x : ℕ} → x ≡ factor rate day → discounted amount x ≡ presentValue amount rate day
-unfolding presentValue
-at-factor amount rate day e = rw e refl
-
 even : (c : tie.Else1) → c .before .args .entry % 2 ≡ 0
 even c = omega (arith, c .if1 .left)
 
@@ -26,7 +20,7 @@ discounted-requires : tie.Need-discounted-requires
 discounted-requires c κs = (c .before .pre .0, c .before .pre .1 .factor (even c))
 
 returns-2 : tie.Need-returns-2
-returns-2 c rate day k e = c .discounted .ensures ∙ at-factor (c .before .before .args .amount) rate day (k .factor (even (c .before)))
+returns-2 c rate day k e = c .discounted .ensures ∙ value-of-factor (c .before .before .args .amount) rate day (k .factor (even (c .before)))
 
 pub kept-value-spec : {M : Type 1} → statement M
 kept-value-spec = tie.close (tie.spec (λ c κs. search needs) settled-by-requires returns discounted-requires returns-2)
