@@ -79,7 +79,7 @@ module _ (s : Scenario) (c : Curve) (p : Proper c) where
   unfolding stressedCurve
   nodes-stressed = take-mapFirst (stressed s) (c .count) (c .nodes)
 
-  stressed-node : (i : ℕ) → i < c .count → getD (stressedCurve s c .nodes) i zeroNode ≡ stressed s (getD (c .nodes) i zeroNode)
+  pub stressed-node : (i : ℕ) → i < c .count → getD (stressedCurve s c .nodes) i zeroNode ≡ stressed s (getD (c .nodes) i zeroNode)
   unfolding stressedCurve
   stressed-node i h = mapFirst-done (stressed s) (c .count) (c .nodes) i zeroNode h (omega (arith, p .places, p .most))
 

@@ -1,78 +1,69 @@
 -- A curve's lines, one after the other, have its rates: a level one before the first node, one from each node to the next, and a level one from the
 -- last node on.
-use mathlib.Core.Path.{_≡_, refl, sym, _∙_, ap}
-use Prim.Native.Nat.{ℕ, suc, _+_, _-_, _≤_, _<_}
+use mathlib.Core.Path.{_≡_, sym, _∙_}
+use Prim.Native.Nat.{ℕ, zero, suc, _-_, _≤_, _<_}
+use native.Mathlib.Numerals.{add-one}
 use native.Mathlib.Omega.{arith}
 use lib.ListN.{getD}
 use Rattle.curve.specs.declared.Node.{Node}
 use Rattle.curve.specs.declared.Curve.{Curve}
 use Rattle.curve.specs.Rates.{nodesOf, rateAt}
-use Rattle.curve.specs.Limits.{Limits, Proper, zeroNode}
+use Rattle.curve.specs.Limits.{Proper, zeroNode}
 use Rattle.curve.proofs.Search.{Passed, before-all, passed-first, passed-interpolated, passed-next, passed-all}
 use Rattle.estimate.specs.Lines.{level, lineOf, Ahead}
-use Rattle.estimate.proofs.LineRates.{line-until, line-rate, line-drawn, level-rate, level-drawn}
+use Rattle.estimate.proofs.LineRates.{line-rate, line-drawn, level-rate, level-drawn}
 use Rattle.estimate.proofs.Valuing.{Follows}
 
 abbrev pub node : Curve → ℕ → Node
 node c i = getD (c .nodes) i zeroNode
 
--- node a stands before place i, and from its day on decides, with what follows it, every rate
-pub record Reached (c : Curve) (a : Node) (i : ℕ) : Type 0 where
-  pub some : 0 < i
-  pub most : i ≤ c .count
-  pub last : a ≡ node c (i - 1)
-  pub passed : (t : ℕ) → a .day ≤ t → Passed c t a i
-
 module _ (c : Curve) (p : Proper c) where
   abbrev pub rates : ℕ → ℕ
   rates t = rateAt (nodesOf c) t
 
-  pub follows-first : Follows rates (level (node c 0 .rate) (node c 0 .day)) 0
-  unfolding level
+  -- from its day on a node decides, with what follows it, every rate
+  passed : (i t : ℕ) → i < c .count → node c i .day ≤ t → Passed c t (node c i) (suc i)
+  passed zero t k h = passed-first c t p h
+  passed (suc i) t k h =
+      let before = passed i t (omega arith) (omega (arith, p .rising i k)) in
+      rw add-one at (passed-next c t p (node c i) (suc i) before k h)
+
+  pub follows-first : Follows rates (level (node c 0 .rate)) 0 (node c 0 .day)
   follows-first =
+      let n = p .each 0 (omega (arith, p .least)) in
       record {
-        drawn = λ t m u b. level-drawn (node c 0 .rate) (node c 0 .day) t (p .each 0 (omega (arith, p .least)) .rate) (omega arith);
-        rate-is = λ t m u b. level-rate (node c 0 .rate) (node c 0 .day) t ∙ sym (before-all c t p u);
+        drawn = λ t m u. level-drawn (node c 0 .rate) t (n .rate) (omega (arith, n .day));
+        rate-is = λ t m u. level-rate (node c 0 .rate) t ∙ sym (before-all c t p u);
       }
 
-  pub reached-first : Reached c (node c 0) 1
-  reached-first = record { some = omega arith; most = omega (arith, p .least); last = refl; passed = λ t h. passed-first c t p h }
-
-  module _ (a : Node) (i : ℕ) (h : Reached c a i) where
-    pub reached-limits : Limits a
-    reached-limits = h .passed (a .day) (omega arith) .limits
+  -- the line to node i, which is not the first
+  module _ (i : ℕ) (some : 0 < i) where
+    here : suc (i - 1) ≡ i
+    here = omega arith
 
     module _ (k : i < c .count) where
-      pub reached-ahead : Ahead a (node c i)
-      reached-ahead =
-          let e : suc (i - 1) ≡ i = omega (arith, h .some) in
+      pub ahead : Ahead (node c (i - 1)) (node c i)
+      ahead =
           let r = p .rising (i - 1) (omega arith) in
-          record { from = reached-limits; to = p .each i k; rising = rw (h .last) (rw e at r) }
+          record { from = p .each (i - 1) (omega arith); to = p .each i k; rising = rw here at r }
 
-      pub reached-next : Reached c (node c i) (i + 1)
-      reached-next =
-          let e : i + 1 - 1 ≡ i = omega arith in
-          record {
-            some = omega arith;
-            most = omega arith;
-            last = ap (node c) (sym e);
-            passed = λ t m. passed-next c t p a i (h .passed t (omega (arith, reached-ahead .rising))) k m;
-          }
-
-      pub follows-between : Follows rates (lineOf a (node c i)) (a .day)
+      pub follows-between : Follows rates (lineOf (node c (i - 1)) (node c i)) (node c (i - 1) .day) (node c i .day)
       follows-between =
-          let before : (t : ℕ) → t < lineOf a (node c i) .until → t < node c i .day = λ t u. rw (line-until a (node c i)) at u in
           record {
-            drawn = λ t m u b. line-drawn a (node c i) t reached-ahead (record { from = m; before = before t u });
+            drawn = λ t m u. line-drawn (node c (i - 1)) (node c i) t ahead (record { from = m; before = u });
             rate-is =
-                λ t m u b.
-                line-rate a (node c i) t reached-ahead (record { from = m; before = before t u })
-                ∙ sym (passed-interpolated c t p a i (h .passed t m) k (before t u));
+                λ t m u.
+                line-rate (node c (i - 1)) (node c i) t ahead (record { from = m; before = u })
+                ∙ sym (passed-interpolated c t p (node c (i - 1)) i (rw here at (passed (i - 1) t (omega arith) m)) k u);
           }
 
-    pub follows-last : c .count ≤ i → Follows rates (level (a .rate) 10951) (a .day)
-    follows-last k =
+    pub follows-last : i ≡ c .count → Follows rates (level (node c (i - 1) .rate)) (node c (i - 1) .day) 10951
+    follows-last e =
+        let n = p .each (i - 1) (omega arith) in
         record {
-          drawn = λ t m u b. level-drawn (a .rate) 10951 t (reached-limits .rate) (omega arith);
-          rate-is = λ t m u b. level-rate (a .rate) 10951 t ∙ sym (passed-all c t p a i (h .passed t m) k);
+          drawn = λ t m u. level-drawn (node c (i - 1) .rate) t (n .rate) (omega arith);
+          rate-is =
+              λ t m u.
+              level-rate (node c (i - 1) .rate) t
+              ∙ sym (passed-all c t p (node c (i - 1)) i (rw here at (passed (i - 1) t (omega arith) m)) (omega arith));
         }

@@ -2,8 +2,10 @@ pub mod Slopes
 pub mod LineRates
 pub mod LineCode
 pub mod Listing
+pub mod ListedDays
 pub mod LineDays
 pub mod Valuing
 pub mod CurveLines
 pub mod CurveValues
+pub mod Ending
 pub mod ScenarioValues

@@ -1,12 +1,11 @@
--- The days before a line's end, valued one by one at the line's rates.
+-- The days up to a place of the list, valued one by one at a line's rates.
 use mathlib.Core.Path.{_≡_, refl, sym, _∙_}
-use mathlib.Core.List.{List, [], _∷_}
-use Prim.Native.Nat.{ℕ, suc, _+_, _≤_, _<_}
+use mathlib.Core.List.{List, _∷_}
+use Prim.Native.Nat.{ℕ, suc, _+_, _-_, _≤_, _<_}
 use native.Mathlib.Numerals.{add-one}
 use native.Mathlib.Omega.{arith}
-use borrow.Author.Tests.{lt-ltb, le-ltb}
 use lib.IntN.{ℤ, natAbs, _+ℤ_, +ℤ-assoc, +ℤ-idr}
-use lib.ListN.{length, drop, getD, drop-of-length-le}
+use lib.ListN.{drop, getD}
 use lib.Seq.{drop-cons}
 use Rattle.laws.proofs.Signed.{abs-add}
 use Rattle.sieve.specs.Cheap.{whole}
@@ -16,51 +15,48 @@ use Rattle.netting.proofs.Sizes.{worth-size}
 use Rattle.estimate.specs.declared.lines.Line.{Line}
 use Rattle.estimate.specs.declared.parts.Part.{Part}
 use Rattle.estimate.specs.Lines.{rateOn, Drawn}
-use Rattle.estimate.specs.Values.{daysBefore, daysFrom, daysLeft, Along, mostSize, Ready}
+use Rattle.estimate.specs.Values.{between, alongTo, mostSize, Ready}
 
 -- a net amount at a cheap factor is worth no more than it is
 pub cheap-worth : (rate : ℕ → ℕ) (d : ℕ) (x : ℤ) → natAbs (worth (cheapOn rate d) x) ≤ natAbs x
 unfolding whole
 cheap-worth rate d x = worth-size (cheapOn rate d) x (cheap-le (rate d) d)
 
-module _ (l : Line) (nets : List ℤ) (days : List ℕ) where
-  abbrev lineValue : List ℕ → ℤ
-  lineValue ds = netValue (cheapOn (rateOn l)) nets (daysBefore (l .until) ds)
+part-is : (r : Part) (n : ℕ) (z : ℤ) → r .done ≡ n → r .value ≡ z → r ≡ record { done = n; value = z }
+part-is r n z e f = rw (← e, ← f)
+
+module _ (l : Line) (end : ℕ) (nets : List ℤ) (days : List ℕ) where
+  abbrev lineValue : ℕ → ℤ
+  lineValue i = netValue (cheapOn (rateOn l)) nets (between i end days)
 
   -- on the way from part p along the line, as far as part r
   pub record Going (p r : Part) : Type 0 where
-    pub ready : Ready l nets days r
-    pub value : r .value +ℤ lineValue (daysLeft days r) ≡ p .value +ℤ lineValue (daysLeft days p)
-    pub rest : daysFrom (l .until) (daysLeft days r) ≡ daysFrom (l .until) (daysLeft days p)
+    pub ready : Ready l end nets days r
+    pub value : r .value +ℤ lineValue (r .done) ≡ p .value +ℤ lineValue (p .done)
 
-  pub going-first : (p : Part) → Ready l nets days p → Going p p
-  going-first p h = record { ready = h; value = refl; rest = refl }
+  pub going-first : (p : Part) → Ready l end nets days p → Going p p
+  going-first p h = record { ready = h; value = refl }
 
   module _ (p r : Part) (h : Going p r) where
-    pub going-end : length days ≤ r .done → Along l nets days p r
-    unfolding daysBefore daysFrom netValue
+    pub going-end : end ≤ r .done → r ≡ alongTo l end nets days p
+    unfolding netValue
     going-end k =
-        let none : daysLeft days r ≡ [] = drop-of-length-le days k in
+        let none : end - r .done ≡ 0 = omega arith in
         let e = rw none at (h .value) in
-        let f = rw none at (h .rest) in
-        record { done = h .ready .done; value = sym (+ℤ-idr (r .value)) ∙ e; left = none ∙ f }
+        part-is r _ _ (omega (arith, h .ready .from)) (sym (+ℤ-idr (r .value)) ∙ e)
 
-    module _ (k : r .done < length days) where
+    module _ (k : r .done < end) where
       abbrev day : ℕ
       day = getD days (r .done) 0
 
-      next : daysLeft days r ≡ day ∷ drop (suc (r .done)) days
-      next = drop-cons days (r .done) 0 k
+      left : drop (r .done) days ≡ day ∷ drop (suc (r .done)) days
+      left = drop-cons days (r .done) 0 (omega (arith, h .ready .most))
 
-      pub going-day : (day < 10951) × (day < l .until → Drawn l day)
-      going-day = (rw next at (h .ready .each)) .0
+      next : between (r .done) end days ≡ day ∷ between (suc (r .done)) end days
+      next = let e : end - r .done ≡ suc (end - suc (r .done)) = omega arith in rw (e, left)
 
-      pub going-stop : l .until ≤ day → Along l nets days p r
-      unfolding daysBefore daysFrom netValue
-      going-stop m =
-          let e = rw (next, le-ltb day (l .until) m) at (h .value) in
-          let f = rw (next, le-ltb day (l .until) m) at (h .rest) in
-          record { done = h .ready .done; value = sym (+ℤ-idr (r .value)) ∙ e; left = next ∙ f }
+      pub going-day : (day < 10951) × Drawn l day
+      going-day = h .ready .each (r .done) (omega arith) k
 
       abbrev dayWorth : ℤ
       dayWorth = worth (cheapOn (rateOn l) day) (netOn nets day)
@@ -70,7 +66,7 @@ module _ (l : Line) (nets : List ℤ) (days : List ℕ) where
 
       size-next : natAbs (r .value) + (natAbs (netOn nets day) + netSize nets (drop (suc (r .done)) days)) ≤ mostSize
       unfolding netSize
-      size-next = rw next at (h .ready .size)
+      size-next = rw left at (h .ready .size)
 
       pub amount-most : natAbs (netOn nets day) ≤ mostSize
       amount-most = omega (arith, size-next)
@@ -81,15 +77,12 @@ module _ (l : Line) (nets : List ℤ) (days : List ℕ) where
       pub sum-size : natAbs (r .value +ℤ dayWorth) ≤ mostSize
       sum-size = omega (arith, size-kept)
 
-      pub going-next : day < l .until → Going p further
-      unfolding daysBefore daysFrom netValue
-      going-next m =
-          let e = rw (next, lt-ltb day (l .until) m) at (h .value) in
-          let f = rw (next, lt-ltb day (l .until) m) at (h .rest) in
-          let g = rw next at (h .ready .each) in
+      pub going-next : Going p further
+      unfolding netValue
+      going-next =
+          let e = rw next at (h .value) in
           rw add-one
           (record {
-            ready = record { places = h .ready .places; done = k; each = g .1; size = size-kept };
-            value = +ℤ-assoc (r .value) dayWorth (lineValue (drop (suc (r .done)) days)) ∙ e;
-            rest = f;
+            ready = record { places = h .ready .places; from = k; most = h .ready .most; each = λ i m u. h .ready .each i (omega arith) u; size = size-kept };
+            value = +ℤ-assoc (r .value) dayWorth (lineValue (suc (r .done))) ∙ e;
           })

@@ -62,9 +62,9 @@ module _ (a b : Node) (t : ℕ) (h : Ahead a b) (m : Between a b t) where
   days-split s = omega (arith, mul-sub s t (a .day), mul-le-mul-right s (m .from))
 
   -- where it stands on day 0 is in bounds
-  start-size : (until above : ℕ) (slope : ℤ) → above ≤ parts → natAbs slope ≤ steepest → natAbs (lineFrom a until above slope .start) ≤ 2000000000000000000
+  start-size : (above : ℕ) (slope : ℤ) → above ≤ parts → natAbs slope ≤ steepest → natAbs (lineFrom a above slope .start) ≤ 2000000000000000000
   unfolding parts
-  start-size until above slope k l =
+  start-size above slope k l =
       omega (arith, abs-sub (pos (a .rate * 134217728 + above)) (slope *ℤ pos (a .day)), abs-mul-le slope (pos (a .day)) {m = 140000000000000} {n = 10950} l (h .from .day), h .from .rate)
 
   -- it rises
@@ -90,7 +90,7 @@ module _ (a b : Node) (t : ℕ) (h : Ahead a b) (m : Between a b t) where
         let s : climb ≤ steepest = slope-size (b .rate - a .rate) run (omega (arith, h .to .rate)) in
         record {
           day = omega arith;
-          start = start-size (b .day) 0 (pos climb) (omega arith) s;
+          start = start-size 0 (pos climb) (omega arith) s;
           slope = s;
           above = rw rising-stands refl;
           rate = rw rising-rate (interpolated-size a b t (h .from, h .to, m));
@@ -124,7 +124,7 @@ module _ (a b : Node) (t : ℕ) (h : Ahead a b) (m : Between a b t) where
         let s : natAbs (negℤ (pos drop)) ≤ steepest = rw (abs-neg (pos drop)) (slope-size (a .rate - b .rate) run (omega (arith, h .from .rate))) in
         record {
           day = omega arith;
-          start = start-size (b .day) (parts - 1) (negℤ (pos drop)) (omega arith) s;
+          start = start-size (parts - 1) (negℤ (pos drop)) (omega arith) s;
           slope = s;
           above = rw falling-stands refl;
           rate = rw falling-rate (interpolated-size a b t (h .from, h .to, m));
@@ -146,26 +146,18 @@ module _ (a b : Node) (t : ℕ) (h : Ahead a b) (m : Between a b t) where
       go true e = rising-drawn (leb-true (a .rate) (b .rate) e)
       go false e = falling-drawn (leb-false (a .rate) (b .rate) e)
 
-pub line-until : (a b : Node) → lineOf a b .until ≡ b .day
-unfolding lineOf rising falling
-line-until a b = go (leb (a .rate) (b .rate))
-  where
-    go : (q : Bool) → cond q (rising a b) (falling a b) .until ≡ b .day
-    go true = refl
-    go false = refl
-
 -- ---- a level line
 
-module _ (rate until t : ℕ) where
-  level-stands : standsAt (level rate until) t ≡ pos (rate * parts)
+module _ (rate t : ℕ) where
+  level-stands : standsAt (level rate) t ≡ pos (rate * parts)
   unfolding level
   level-stands = ap pos (omega (arith, zero-mul t))
 
-  pub level-rate : rateOn (level rate until) t ≡ rate
+  pub level-rate : rateOn (level rate) t ≡ rate
   unfolding rateOn
   level-rate = rw level-stands (div-eq-of-lt-le parts (omega arith) (omega (arith, parts-some)))
 
-  pub level-drawn : rate ≤ highestRate → t ≤ 10950 → Drawn (level rate until) t
+  pub level-drawn : rate ≤ highestRate → t ≤ 10950 → Drawn (level rate) t
   unfolding level parts
   level-drawn h k =
       record { day = k; start = omega arith; slope = omega arith; above = rw level-stands refl; rate = rw level-rate h }

@@ -1,6 +1,6 @@
 -- The values of the scenarios, filled in one by one.
-use mathlib.Core.Path.{_≡_, refl, _∙_, ap}
-use mathlib.Core.List.{List}
+use mathlib.Core.Path.{_≡_, refl, _∙_}
+use mathlib.Core.List.{List, map}
 use Prim.Native.Nat.{ℕ, _+_, _≤_, _<_}
 use native.Mathlib.Omega.{arith}
 use borrow.Author.Count.{below-more}
@@ -8,23 +8,19 @@ use lib.IntN.{ℤ, pos}
 use lib.ListN.{length, getD, set, length-set}
 use lib.Seq.{getD-set-same, getD-set-other}
 use Rattle.laws.proofs.Signed.{read}
-use Rattle.curve.specs.declared.Node.{Node}
 use Rattle.curve.specs.declared.Curve.{Curve}
 use Rattle.curve.specs.declared.Components.{Components}
 use Rattle.curve.specs.declared.Scenario.{Scenario}
-use Rattle.curve.specs.Limits.{Proper}
 use Rattle.curve.specs.Rates.{nodesOf}
 use Rattle.curve.specs.Scenarios.{scenarioCount, scenarioAt}
-use Rattle.curve.specs.Stress.{stressedCurve}
-use Rattle.curve.proofs.Stress.{nodes-stressed}
+use Rattle.curve.specs.Stress.{stressed}
 use Rattle.estimate.specs.Values.{cheapValue, scenarioValue, ScenarioValues, Listed}
 use Rattle.estimate.proofs.CurveValues.{value-read}
 
--- what the code values, in scenario s, and read back from its bits
-module _ (c : Curve) (p : Proper c) (x : Components) (nets : List ℤ) (days : List ℕ) (s : ℕ) (h : Listed nets days) where
-  pub stressed-read : (k : Scenario) (e : Curve) (z : ℤ) → k ≡ scenarioAt x s → e ≡ stressedCurve k c → z ≡ cheapValue (nodesOf e) nets → read z ≡ scenarioValue c x nets s
-  stressed-read k e z f g v =
-      value-read _ nets days h z (v ∙ ap (λ (ns : List Node). cheapValue ns nets) (rw (g, f) (nodes-stressed (scenarioAt x s) c p)))
+-- what the code values, in scenario s, read back from its bits
+module _ (c : Curve) (x : Components) (nets : List ℤ) (days : List ℕ) (s : ℕ) (h : Listed nets days) where
+  pub scenario-read : (k : Scenario) (z : ℤ) → k ≡ scenarioAt x s → z ≡ cheapValue (map (stressed k) (nodesOf c)) nets → read z ≡ scenarioValue c x nets s
+  scenario-read k z f v = value-read _ nets days h z (rw f at v)
 
 -- the scenarios before s have their values
 pub record Filled (c : Curve) (x : Components) (nets values₀ values : List ℤ) (s : ℕ) : Type 0 where

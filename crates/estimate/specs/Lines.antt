@@ -18,21 +18,20 @@ unfoldable pub slopeOf : ℕ → ℕ → ℕ
 slopeOf way run = way * parts / run + 1
 
 -- one rate on every day
-unfoldable pub level : ℕ → ℕ → Line
-level rate until = record { until = until; start = pos (rate * parts); slope = pos 0 }
+unfoldable pub level : ℕ → Line
+level rate = record { start = pos (rate * parts); slope = pos 0 }
 
 -- by its slope, as many parts above node a's rate on node a's day: it starts where it would stand on day 0
-abbrev pub lineFrom : Node → ℕ → ℕ → ℤ → Line
-lineFrom a until above slope =
-    record { until = until; start = pos (a .rate * parts + above) -ℤ slope *ℤ pos (a .day); slope = slope }
+abbrev pub lineFrom : Node → ℕ → ℤ → Line
+lineFrom a above slope = record { start = pos (a .rate * parts + above) -ℤ slope *ℤ pos (a .day); slope = slope }
 
 -- from node a up to node b
 unfoldable pub rising : Node → Node → Line
-rising a b = lineFrom a (b .day) 0 (pos (slopeOf (b .rate - a .rate) (b .day - a .day)))
+rising a b = lineFrom a 0 (pos (slopeOf (b .rate - a .rate) (b .day - a .day)))
 
 -- and down: what a rate falls is cut towards zero, so the line starts a part below the next rate
 unfoldable pub falling : Node → Node → Line
-falling a b = lineFrom a (b .day) (parts - 1) (negℤ (pos (slopeOf (a .rate - b .rate) (b .day - a .day))))
+falling a b = lineFrom a (parts - 1) (negℤ (pos (slopeOf (a .rate - b .rate) (b .day - a .day))))
 
 unfoldable pub lineOf : Node → Node → Line
 lineOf a b = cond (leb (a .rate) (b .rate)) (rising a b) (falling a b)

@@ -1,16 +1,14 @@
 -- The cheap value of a curve's net amounts in every scenario, and what is asked for it.
-use Prim.Native.Nat.{ℕ, _+_, _≤_, _<_}
+use Prim.Native.Nat.{ℕ, _+_, _-_, _≤_, _<_}
 use mathlib.Core.Path.{_≡_}
-use mathlib.Core.Bool.{cond}
-use mathlib.Core.List.{List, [], _∷_, map}
-use lib.Dec.{ltb}
+use mathlib.Core.List.{List, map}
 use lib.IntN.{ℤ, pos, natAbs, _+ℤ_}
-use lib.ListN.{length, drop, getD}
-use Rattle.laws.specs.All.{All}
+use lib.ListN.{length, take, drop, getD}
 use Rattle.ground.specs.Limits.{dayCount}
 use Rattle.curve.specs.declared.Node.{Node}
 use Rattle.curve.specs.declared.Curve.{Curve}
 use Rattle.curve.specs.declared.Components.{Components}
+use Rattle.curve.specs.Limits.{zeroNode}
 use Rattle.curve.specs.Rates.{nodesOf, rateAt}
 use Rattle.curve.specs.Scenarios.{scenarioCount, scenarioAt}
 use Rattle.curve.specs.Stress.{stressed}
@@ -33,25 +31,26 @@ scenarioValue c x nets s = cheapValue (map (stressed (scenarioAt x s)) (nodesOf 
 pub record ScenarioValues (c : Curve) (x : Components) (nets values : List ℤ) : Type 0 where
   pub each : (s : ℕ) → s < scenarioCount x → getD values s (pos 0) ≡ scenarioValue c x nets s
 
--- ---- by lines: the days of a rising list that come before a day, and the others
+-- ---- by lines: each has the listed days from one place to another
 
-unfoldable pub daysBefore : ℕ → List ℕ → List ℕ
-daysBefore until [] = []
-daysBefore until (d ∷ ds) = cond (ltb d until) (d ∷ daysBefore until ds) []
+abbrev pub between : ℕ → ℕ → List ℕ → List ℕ
+between i j days = take (j - i) (drop i days)
 
-unfoldable pub daysFrom : ℕ → List ℕ → List ℕ
-daysFrom until [] = []
-daysFrom until (d ∷ ds) = cond (ltb d until) (daysFrom until ds) (d ∷ ds)
+-- part p with the days before place `end`, at the line's rates
+abbrev pub alongTo : Line → ℕ → List ℤ → List ℕ → Part → Part
+alongTo l end nets days p =
+    record { done = end; value = p .value +ℤ netValue (cheapOn (rateOn l)) nets (between (p .done) end days) }
 
--- the days that part p does not have
-abbrev pub daysLeft : List ℕ → Part → List ℕ
-daysLeft days p = drop (p .done) days
+-- n of the listed days come before a day, and they stand first
+pub record DaysBefore (day : ℕ) (days : List ℕ) (n : ℕ) : Type 0 where
+  pub most : n ≤ length days
+  pub before : (i : ℕ) → i < n → getD days i 0 < day
+  pub after : (i : ℕ) → n ≤ i → i < length days → day ≤ getD days i 0
 
--- part r is part p with the days before the line's end, at the line's rates
-pub record Along (l : Line) (nets : List ℤ) (days : List ℕ) (p r : Part) : Type 0 where
-  pub done : r .done ≤ length days
-  pub value : r .value ≡ p .value +ℤ netValue (cheapOn (rateOn l)) nets (daysBefore (l .until) (daysLeft days p))
-  pub left : daysLeft days r ≡ daysFrom (l .until) (daysLeft days p)
+-- for each node of a curve, how many come before its day
+pub record Ends (c : Curve) (days ends : List ℕ) : Type 0 where
+  pub places : c .count ≤ length ends
+  pub each : (k : ℕ) → k < c .count → DaysBefore (getD (c .nodes) k zeroNode .day) days (getD ends k 0)
 
 -- ---- what is asked
 
@@ -65,13 +64,15 @@ pub record Listed (nets : List ℤ) (days : List ℕ) : Type 0 where
   pub list : days ≡ listed nets
   pub size : netSize nets (listed nets) ≤ mostSize
 
--- every day has its place among the net amounts, and those before the line's end are on it
-abbrev pub OnLine : Line → List ℕ → Type 0
-OnLine l ds = All (λ d. (d < dayCount) × (d < l .until → Drawn l d)) ds
+-- no day comes before one that stands in front of it
+pub record Rising (days : List ℕ) : Type 0 where
+  pub order : (i j : ℕ) → i ≤ j → j < length days → getD days i 0 ≤ getD days j 0
 
--- part p can go on along the line, and its value with the amounts to come fits
-pub record Ready (l : Line) (nets : List ℤ) (days : List ℕ) (p : Part) : Type 0 where
+-- part p can go on along the line to place `end`: the days there have their places among the net amounts and are on the line, and the part's value with
+-- all amounts to come fits
+pub record Ready (l : Line) (end : ℕ) (nets : List ℤ) (days : List ℕ) (p : Part) : Type 0 where
   pub places : length nets ≡ dayCount
-  pub done : p .done ≤ length days
-  pub each : OnLine l (daysLeft days p)
-  pub size : natAbs (p .value) + netSize nets (daysLeft days p) ≤ mostSize
+  pub from : p .done ≤ end
+  pub most : end ≤ length days
+  pub each : (i : ℕ) → p .done ≤ i → i < end → (getD days i 0 < dayCount) × Drawn l (getD days i 0)
+  pub size : natAbs (p .value) + netSize nets (drop (p .done) days) ≤ mostSize

@@ -9,9 +9,8 @@ use curve::Node;
 // A rate in the parts that a line counts in: 2^27.
 const PARTS: u64 = 134_217_728;
 
-// A line gives the rates of the days before `until`. It stands at `start` on day 0, and moves by `slope` a day.
+// A line gives rates of days: it stands at `start` on day 0, and moves by `slope` a day.
 pub struct Line {
-    pub until: u64,
     pub start: i64,
     pub slope: i64,
 }
@@ -25,24 +24,22 @@ fn slope(way: u64, run: u64) -> u64
 }
 
 // One rate on every day.
-pub fn level(rate: u64, until: u64) -> Line
+pub fn level(rate: u64) -> Line
     requires { ⌜ rate ≤ 1_000_000 ⌝ }
-    ensures { λ r. ⌜ r ≡ level rate until ⌝ }
+    ensures { λ r. ⌜ r ≡ level rate ⌝ }
 {
     Line {
-        until: until,
         start: (rate * PARTS) as i64,
         slope: 0,
     }
 }
 
 // By its slope, as many parts above node a's rate on node a's day.
-fn line_from(a: Node, until: u64, above: u64, slope: i64) -> Line
+fn line_from(a: Node, above: u64, slope: i64) -> Line
     requires { ⌜ Limits a × (above ≤ parts) × (natAbs slope ≤ steepest) ⌝ }
-    ensures { λ r. ⌜ r ≡ lineFrom a until above slope ⌝ }
+    ensures { λ r. ⌜ r ≡ lineFrom a above slope ⌝ }
 {
     Line {
-        until: until,
         start: (a.rate * PARTS + above) as i64 - slope * a.day as i64,
         slope: slope,
     }
@@ -56,10 +53,10 @@ pub fn line_of(a: Node, b: Node) -> Line
     let run = b.day - a.day;
     if a.rate <= b.rate {
         let up = slope(b.rate - a.rate, run) as i64;
-        return line_from(a, b.day, 0, up);
+        return line_from(a, 0, up);
     }
     let down = slope(a.rate - b.rate, run) as i64;
-    line_from(a, b.day, PARTS - 1, -down)
+    line_from(a, PARTS - 1, -down)
 }
 
 impl Line {

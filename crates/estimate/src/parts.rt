@@ -4,9 +4,11 @@ ghost use Prim.Native.Nat.{_≤_};
 ghost use lib.IntN.{natAbs};
 ghost use Rattle.logarithm.specs.Logarithms.{Tables};
 ghost use Rattle.netting.specs.Netting.{worth, cheapOn};
-ghost use Rattle.estimate.specs.Lines.{rateOn, Drawn};
-ghost use Rattle.estimate.specs.Values.{Along, mostSize, Ready};
+ghost use Rattle.estimate.specs.Lines.{lineOf, rateOn, Ahead, Drawn};
+ghost use Rattle.estimate.specs.Values.{alongTo, mostSize, Ready};
 use super::lines::Line;
+use super::lines::line_of;
+use curve::Node;
 use netting::value::worth;
 use sieve::cheap::factor;
 
@@ -25,22 +27,15 @@ fn day_value(line: Line, day: u64, net: i64, tables: &[u64]) -> i64
 }
 
 impl Part {
-    // With the days before the line's end.
-    pub fn along(self, line: Line, days: &[u16], nets: &[i64], tables: &[u64]) -> Part
-        requires { ⌜ Ready line (now nets) (now days) self × Tables (now tables) ⌝ }
-        ensures { λ r. ⌜ Along line (now (nets .entry)) (now (days .entry)) self r ⌝ }
+    // With the days before place `end` of the list, at a line's rates.
+    pub fn along(self, line: Line, end: usize, days: &[u16], nets: &[i64], tables: &[u64]) -> Part
+        requires { ⌜ Ready line end (now nets) (now days) self × Tables (now tables) ⌝ }
+        ensures { λ r. ⌜ r ≡ alongTo line end (now (nets .entry)) (now (days .entry)) self ⌝ }
     {
-        let n = days.len();
         let mut i = self.done;
         let mut value = self.value;
-        while i < n {
+        while i < end {
             let day = days[i] as u64;
-            if line.until <= day {
-                return Part {
-                    done: i,
-                    value: value,
-                };
-            }
             let at = day as usize;
             value += day_value(line, day, nets[at], tables);
             i += 1;
@@ -49,5 +44,24 @@ impl Part {
             done: i,
             value: value,
         }
+    }
+
+    // The same between two nodes. Where there are no such days, no line is drawn.
+    pub fn between(
+        self,
+        a: Node,
+        b: Node,
+        end: usize,
+        days: &[u16],
+        nets: &[i64],
+        tables: &[u64],
+    ) -> Part
+        requires { ⌜ Ahead a b × Ready (lineOf a b) end (now nets) (now days) self × Tables (now tables) ⌝ }
+        ensures { λ r. ⌜ r ≡ alongTo (lineOf a b) end (now (nets .entry)) (now (days .entry)) self ⌝ }
+    {
+        if self.done == end {
+            return self;
+        }
+        self.along(line_of(a, b), end, days, nets, tables)
     }
 }

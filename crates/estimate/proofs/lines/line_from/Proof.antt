@@ -17,15 +17,15 @@ module _ (s : tie.Start) where
   unfolding parts
   high-most = omega (arith, s .pre .0 .rate, s .pre .1)
 
-mul-t9 : tie.Need-mul-t9
-mul-t9 c =
+mul-t8 : tie.Need-mul-t8
+mul-t8 c =
     let s = c .before .before in
     let a = s .args in
     rw (code-moved (a .slope) (a .a .day) (s .pre .2) (s .pre .0 .day))
     (fits _ (omega (arith, moved-size (a .slope) (a .a .day) (s .pre .2) (s .pre .0 .day))))
 
-sub-t10 : tie.Need-sub-t10
-sub-t10 c =
+sub-t9 : tie.Need-sub-t9
+sub-t9 c =
     let s = c .before .before in
     let a = s .args in
     rw (code-start (a .slope) (a .a .day) (s .pre .2) (s .pre .0 .day) (high s) (high-most s))
@@ -47,6 +47,6 @@ line-from-spec =
     (λ c. record { fits = omega (arith, high-most (c .before)) })
     (λ c. fits _ (omega (arith, high-most (c .before))))
     (λ c. search needs)
-    mul-t9
-    sub-t10
+    mul-t8
+    sub-t9
     returns)

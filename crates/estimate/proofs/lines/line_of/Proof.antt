@@ -33,7 +33,7 @@ returns c =
     let s = c .before in
     let a = start s .args in
     rw (le-leb _ _ (test s .if1 .taken))
-    (c .line-from .ensures ∙ ap (λ (z : ℤ). lineFrom (a .a) (a .b .day) 0 z) (code-up _ (up-most s) ∙ ap pos (s .slope .ensures)))
+    (c .line-from .ensures ∙ ap (λ (z : ℤ). lineFrom (a .a) 0 z) (code-up _ (up-most s) ∙ ap pos (s .slope .ensures)))
 
 -- it falls
 module _ (c : tie.After-slope2) where
@@ -61,7 +61,7 @@ returns-2 c =
     let s = c .before in
     let a = entry s .args in
     rw (lt-leb _ _ (other s .if1 .left))
-    (c .line-from2 .ensures ∙ ap (λ (z : ℤ). lineFrom (a .a) (a .b .day) 134217727 z) (down-read _ (down-most s) ∙ ap (λ (n : ℕ). negℤ (pos n)) (s .slope2 .ensures)))
+    (c .line-from2 .ensures ∙ ap (λ (z : ℤ). lineFrom (a .a) 134217727 z) (down-read _ (down-most s) ∙ ap (λ (n : ℕ). negℤ (pos n)) (s .slope2 .ensures)))
 
 pub line-of-spec : {M : Type 1} → statement M
 line-of-spec =

@@ -1,65 +1,73 @@
 -- `estimate::values::fill_values` meets its contract: the scenarios passed have their values.
 use borrow.Author.Needs.{needs}
-use Prim.Native.Nat.{_-_, _<_}
+use Prim.Native.Nat.{ℕ, _-_, _<_}
 use native.Mathlib.Omega.{arith}
+use lib.ListN.{length-replicate}
 use Rattle.curve.specs.Scenarios.{scenarioCount}
 use Rattle.curve.proofs.Scenarios.{scenarios-most, scenario-limits}
-use Rattle.curve.proofs.Stress.{proper-stressed}
-use Rattle.estimate.proofs.ScenarioValues.{stressed-read, Filled, filled-none, filled-next, filled-all}
+use Rattle.estimate.proofs.ListedDays.{rising-listed}
+use Rattle.estimate.proofs.ScenarioValues.{scenario-read, Filled, filled-none, filled-next, filled-all}
 use Rattle.estimate.proofs.values.fill_values.Statement.{statement}
 use Rattle.estimate.proofs.values.fill_values.Tie as tie
 
 abbrev Inv-loop : tie.InvT-loop
-Inv-loop curve components days nets tables values₀ n s₀ values s =
+Inv-loop curve components days nets tables values₀ ends n s₀ values s =
     Filled curve components nets values₀ values s
 
 abbrev μ-loop : tie.MeasureT-loop
-μ-loop curve components days nets tables values₀ n s₀ values s = n - s
+μ-loop curve components days nets tables values₀ ends n s₀ values s = n - s
 
 -- the entry's record, and that a turn's scenario is one of the components'
-abbrev start : tie.At-loop Inv-loop μ-loop → tie.Start Inv-loop μ-loop
-start l = let given = l .before .before .before in given .before
+abbrev start : tie.After-ends Inv-loop μ-loop → tie.Start Inv-loop μ-loop
+start c = c .before .before .before
 
-within : (c : tie.In-loop Inv-loop μ-loop) → c .before .loop .s < scenarioCount (start (c .before) .args .components)
+abbrev entry : tie.At-loop Inv-loop μ-loop → tie.Start Inv-loop μ-loop
+entry l = let filled = l .before .before .before in start (filled .before)
+
+within : (c : tie.In-loop Inv-loop μ-loop) → c .before .loop .s < scenarioCount (entry (c .before) .args .components)
 within c = omega (arith, c .loop-test .taken, c .before .before .scenario-count .ensures)
 
+fill-ends-requires : tie.Need-fill-ends-requires Inv-loop μ-loop
+fill-ends-requires c κs =
+    let p = start c .pre in
+    (p .0, rising-listed _ _ (p .2), omega (arith, p .0 .most, length-replicate {A = ℕ} 24 0))
+
 scenario-requires : tie.Need-scenario-requires Inv-loop μ-loop
-scenario-requires c κs = (start (c .before) .pre .1, within c)
+scenario-requires c κs = (entry (c .before) .pre .1, within c)
 
-stressed-requires : tie.Need-stressed-requires Inv-loop μ-loop
-stressed-requires c κs =
-    let p = start (c .before .before) .pre in
-    (p .0, rw (c .scenario .ensures) (scenario-limits _ _ (within (c .before)) (p .1)))
+value-in-requires : tie.Need-value-in-requires Inv-loop μ-loop
+value-in-requires c κs =
+    let turn = c .before .before in
+    let l = turn .before in
+    let p = entry l .pre in
+    let filled = l .before .before .before in
+    (p .0, rw (c .before .scenario .ensures) (scenario-limits _ _ (within turn) (p .1)), filled .fill-ends .ensures, p .2, p .3)
 
-value-on-requires : tie.Need-value-on-requires Inv-loop μ-loop
-value-on-requires c κs =
-    let p = start (c .before .before .before) .pre in
-    (rw (c .stressed .ensures) (proper-stressed _ _ (p .0)), p .2, p .3)
-
-mul-t14 : tie.Need-mul-t14 Inv-loop μ-loop
-mul-t14 c =
+mul-t19 : tie.Need-mul-t19 Inv-loop μ-loop
+mul-t19 c =
     let turn = c .before .before .before in
-    record { fits = omega (arith, within turn, scenarios-most _ (start (turn .before) .pre .1)) }
+    record { fits = omega (arith, within turn, scenarios-most _ (entry (turn .before) .pre .1)) }
 
 slice-set-from-values : tie.Need-slice-set-from-values Inv-loop μ-loop
 slice-set-from-values c =
     let turn = c .before .before .before in
-    omega (arith, within turn, start (turn .before) .pre .4, turn .before .loop .inv .places)
+    omega (arith, within turn, entry (turn .before) .pre .4, turn .before .loop .inv .places)
 
 add-s : tie.Need-add-s Inv-loop μ-loop
 add-s c =
     let turn = c .before .before .before in
-    record { fits = omega (arith, within turn, scenarios-most _ (start (turn .before) .pre .1)) }
+    record { fits = omega (arith, within turn, scenarios-most _ (entry (turn .before) .pre .1)) }
 
 loop-less : tie.Need-loop-less Inv-loop μ-loop
 loop-less c = omega (arith, c .before .before .before .loop-test .taken)
 
 loop-again : tie.Need-loop-again Inv-loop μ-loop
 loop-again c =
-    let turn = c .before .before .before in
+    let scenario = c .before .before in
+    let turn = scenario .before in
     let l = turn .before in
-    let p = start l .pre in
-    let v = stressed-read _ (p .0) _ _ _ _ (p .2) _ _ _ (c .before .before .scenario .ensures) (c .before .stressed .ensures) (c .value-on .ensures) in
+    let p = entry l .pre in
+    let v = scenario-read (entry l .args .curve) _ _ _ _ (p .2) _ _ (scenario .scenario .ensures) (c .value-in .ensures) in
     filled-next _ _ _ _ _ _ (l .loop .inv) (within turn) (p .4) _ v
 
 returns : tie.Need-returns Inv-loop μ-loop
@@ -73,12 +81,14 @@ fill-values-spec =
     (tie.spec
     Inv-loop
     μ-loop
+    (λ c. search needs)
+    fill-ends-requires
     (λ c κs. search needs)
     (λ c. filled-none _ _ _ _)
     scenario-requires
-    stressed-requires
-    value-on-requires
-    mul-t14
+    (λ c. search needs)
+    value-in-requires
+    mul-t19
     slice-set-from-values
     add-s
     loop-less
