@@ -12,7 +12,7 @@ use Rattle.curve.specs.Limits.{zeroNode}
 use Rattle.curve.specs.Rates.{nodesOf, rateAt}
 use Rattle.curve.specs.Scenarios.{scenarioCount, scenarioAt}
 use Rattle.curve.specs.Stress.{stressed}
-use Rattle.netting.specs.Netting.{listed, netValue, netSize, cheapOn}
+use Rattle.netting.specs.Netting.{listed, netOn, netValue, netSize, cheapOn}
 use Rattle.estimate.specs.declared.lines.Line.{Line}
 use Rattle.estimate.specs.declared.parts.Part.{Part}
 use Rattle.estimate.specs.Lines.{rateOn, Drawn}
@@ -51,6 +51,12 @@ pub record DaysBefore (day : ℕ) (days : List ℕ) (n : ℕ) : Type 0 where
 pub record Ends (c : Curve) (days ends : List ℕ) : Type 0 where
   pub places : c .count ≤ length ends
   pub each : (k : ℕ) → k < c .count → DaysBefore (getD (c .nodes) k zeroNode .day) days (getD ends k 0)
+
+-- the days from one day to before another have no net amount
+pub record Empty (nets : List ℤ) (from to : ℕ) : Type 0 where
+  pub order : from ≤ to
+  pub most : to ≤ length nets
+  pub each : (d : ℕ) → from ≤ d → d < to → natAbs (netOn nets d) ≡ 0
 
 -- ---- what is asked
 
