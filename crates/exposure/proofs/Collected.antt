@@ -80,10 +80,10 @@ module _ (s : List ℕ) (used : ℕ) (b : Sound s used) where
       omega
       (arith, ap length more, length-append (flowsUpTo s i) (flowsOf (tradeAt s i)), few-flows i (omega arith), flows-few (fieldsOf (recordAt s i)) (accepted-at i (omega arith)))
 
-  pub collected-all : (curve : ℕ) (ladder : List ℕ) (n : ℕ) → 20412 ≤ length ladder → Collected s curve ladder n (tradeCount s) → LadderLimits ladder n
+  pub collected-all : (curve : ℕ) (ladder : List ℕ) (n : ℕ) → tradeCount s * 18 ≤ length ladder → Collected s curve ladder n (tradeCount s) → LadderLimits ladder n
   collected-all curve ladder n room h =
       record {
-        places = omega (arith, h .few, trade-count-most s used b);
+        places = omega (arith, h .few);
         each = h .limits;
         few = λ c.
             omega

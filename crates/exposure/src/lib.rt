@@ -6,6 +6,7 @@ ghost use Rattle.exposure.specs.Schedules.{standsOn, withLeg, countWithL
 ghost use Rattle.exposure.specs.Growth.{Grown, LegsSound};
 ghost use Rattle.legs.specs.Runs.{legsFlows};
 ghost use Rattle.ground.specs.declared.Verdict.the-variants.{Accepted};
+ghost use Rattle.book.specs.Parts.{tradeCount};
 ghost use Rattle.book.specs.Verdict.{verdict};
 ghost use Rattle.margin.specs.Exposure.{flowsOn};
 ghost use Rattle.ladder.specs.Ladder.{ladderFlows, LadderLimits};
@@ -53,7 +54,7 @@ fn push_legs(ladder: &mut [u64], schedules: usize, curve: u64, legs: Legs) -> us
 
 // The ladder of a curve of an accepted book, and how many schedules it has.
 pub fn gather(book: &[u8], used: usize, curve: u64, ladder: &mut [u64]) -> usize
-    requires { ⌜ (verdict (now book) used ≡ Accepted) × (20412 ≤ length (now ladder)) ⌝ }
+    requires { ⌜ (verdict (now book) used ≡ Accepted) × (tradeCount (now book) * 18 ≤ length (now ladder)) ⌝ }
     ensures flows { λ r. ⌜ ladderFlows curve (now (ladder .exit)) r ≡ flowsOn curve (flowsIn (now (book .entry))) ⌝ }
     ensures limits { λ r. ⌜ LadderLimits (now (ladder .exit)) r ⌝ }
 {

@@ -8,13 +8,13 @@ use margin::CurveMargin;
 use margin::Margin;
 use margin::Position;
 ghost use mathlib.Core.Path.{_≡_};
-ghost use Prim.Native.Nat.{_≤_};
+ghost use Prim.Native.Nat.{_*_, _≤_};
 ghost use lib.ListN.{length};
 ghost use Rattle.ground.specs.declared.Verdict.the-variants.{Accepted};
 ghost use Rattle.ground.specs.Verdicts.{bytesAfter};
 ghost use Rattle.curve.specs.Limits.{ProperComponents};
 ghost use Rattle.curve_block.specs.Parts.{componentsOf};
-ghost use Rattle.book.specs.Parts.{blockAt, curveCount};
+ghost use Rattle.book.specs.Parts.{blockAt, curveCount, tradeCount};
 ghost use Rattle.book.specs.Verdict.{verdict};
 ghost use Rattle.margin.specs.Margins.{curveMargin};
 ghost use Rattle.exposure.specs.Exposures.{exposureAt};
@@ -30,13 +30,12 @@ fn components_at(book: &[u8], used: usize, curve: usize) -> Components
     curve_block::components_of(parts::block_at(book, curve))
 }
 
-// The figures of a curve of an accepted book, by way of its ladder.
-fn curve_figures(book: &[u8], used: usize, curve: usize) -> CurveMargin
-    requires { ⌜ (verdict (now book) used ≡ Accepted) × (1 ≤ curve) × (curve ≤ curveCount (now book)) ⌝ }
+// The figures of a curve of an accepted book, by way of its ladder, which has room for three legs of each trade.
+fn curve_figures(book: &[u8], used: usize, curve: usize, ladder: &mut [u64]) -> CurveMargin
+    requires { ⌜ (verdict (now book) used ≡ Accepted) × (1 ≤ curve) × (curve ≤ curveCount (now book)) × (tradeCount (now book) * 18 ≤ length (now ladder)) ⌝ }
     ensures { λ r. ⌜ r ≡ curveMargin (exposureAt (now (book .entry)) curve) ⌝ }
 {
-    let mut ladder = [0u64; 20412];
-    let n = exposure::gather(book, used, curve as u64, &mut ladder);
+    let n = exposure::gather(book, used, curve as u64, ladder);
     let b = parts::block_at(book, curve);
     let currency = curve_block::currency_of(b);
     let components = components_at(book, used, curve);
@@ -47,23 +46,36 @@ fn curve_figures(book: &[u8], used: usize, curve: usize) -> CurveMargin
         components: components,
         schedules: n,
     };
-    margin::margins::curve_margin(position, &ladder)
+    margin::margins::curve_margin(position, ladder)
 }
 
-// The margin of an accepted book.
-pub fn margin_of_book(book: &[u8], used: usize) -> Margin
-    requires { ⌜ verdict (now book) used ≡ Accepted ⌝ }
+// The margin of an accepted book, curve by curve in one ladder.
+fn margin_with(book: &[u8], used: usize, ladder: &mut [u64]) -> Margin
+    requires { ⌜ (verdict (now book) used ≡ Accepted) × (tradeCount (now book) * 18 ≤ length (now ladder)) ⌝ }
     ensures { λ r. ⌜ r ≡ marginIn (now (book .entry)) ⌝ }
 {
     let count = parts::curve_count(book);
     let mut curves = [margin::margins::no_curve(); 8];
     let mut k: usize = 0;
     while k < count {
-        let m = curve_figures(book, used, k + 1);
+        let m = curve_figures(book, used, k + 1, ladder);
         curves[k] = m;
         k += 1;
     }
     margin::margins::margin_of(parts::account(book), curves, count)
+}
+
+// The margin of an accepted book. With one block of trades its ladder is short: less is cleared.
+pub fn margin_of_book(book: &[u8], used: usize) -> Margin
+    requires { ⌜ verdict (now book) used ≡ Accepted ⌝ }
+    ensures { λ r. ⌜ r ≡ marginIn (now (book .entry)) ⌝ }
+{
+    if parts::trade_count(book) <= 9 {
+        let mut few = [0u64; 162];
+        return margin_with(book, used, &mut few);
+    }
+    let mut ladder = [0u64; 20412];
+    margin_with(book, used, &mut ladder)
 }
 
 // Writes the report of an accepted book, where there is space for it.

@@ -9,7 +9,7 @@ use Rattle.trade.specs.Read.{tradeOf}
 use Rattle.flows.specs.Legs.{flowsOf, breaksFlowLimit}
 use Rattle.flows.specs.Limits.{Valued}
 use Rattle.book.specs.Parts.{tradeCount}
-use Rattle.book.proofs.Accepted.{Sound, sound, place-held, length-recordAt, trade-count-most}
+use Rattle.book.proofs.Accepted.{Sound, sound, place-held, length-recordAt}
 use Rattle.exposure.specs.Exposures.{tradeAt}
 use Rattle.exposure.proofs.Collected.{Collected, collected-none, collected-next, collected-all, accepted-at}
 use Rattle.exposure.proofs.gather.Statement.{statement}
@@ -73,9 +73,8 @@ unfolding breaksFlowLimit
 push-legs-requires c κs =
     let legs = c .before in
     let read = legs .before in
-    let b = here (start read) in
     let inv = turn read .before .loop .inv in (
-      omega (arith, inv .1, inv .2 .few, at (turn read), trade-count-most _ _ b, start read .pre .1),
+      omega (arith, inv .1, inv .2 .few, at (turn read), start read .pre .1),
       record { reach = legs .legs-of .ensures .1; within = rw (legs .legs-of .ensures .0, trade-is read) (can-be-valued read .within) },
     )
 

@@ -7,29 +7,31 @@ use Rattle.exposure.specs.Exposures.{exposureAt}
 use Rattle.report.proofs.curve_figures.Statement.{statement}
 use Rattle.report.proofs.curve_figures.Tie as tie
 
+-- the entry's record
+abbrev start : tie.After-gather → tie.Start
+start c = let arg = c .before in arg .before .before .before
+
 block-at-requires : tie.Need-block-at-requires
 block-at-requires c κs =
-    let gathered = c .before in
-    let start = gathered .before .before .before in
-    let b = sound (start .args .book .now) (start .args .used) (start .pre .0) in
-    omega (arith, b .blocks, b .lent, start .pre .2)
+    let s = start (c .before .before) in
+    let b = sound (s .args .book .now) (s .args .used) (s .pre .0) in
+    omega (arith, b .blocks, b .lent, s .pre .2)
 
 components-at-requires : tie.Need-components-at-requires
 components-at-requires c κs =
     let at = c .before in
-    let gathered = at .before .before in
-    let start = gathered .before .before .before in
-    (start .pre .0, omega (arith, start .pre .1), omega (arith, start .pre .1, start .pre .2))
+    let s = start (at .before .before .before) in
+    (s .pre .0, omega (arith, s .pre .1), omega (arith, s .pre .1, s .pre .2))
 
 curve-margin-requires : tie.Need-curve-margin-requires
 curve-margin-requires c κs =
     let curve = c .before in
     let components = curve .before in
     let at = components .before .before in
-    let gathered = at .before .before in
-    let start = gathered .before .before .before in
-    let a = start .args in
-    let b = curve-sound (a .book .now) (a .used) (sound (a .book .now) (a .used) (start .pre .0)) (a .curve) (start .pre .1) (start .pre .2) in
+    let gathered = at .before .before .before in
+    let s = start gathered in
+    let a = s .args in
+    let b = curve-sound (a .book .now) (a .used) (sound (a .book .now) (a .used) (s .pre .0)) (a .curve) (s .pre .1) (s .pre .2) in
     record {
       proper = rw (curve .curve-of .ensures, at .block-at .ensures .0) (b .curve);
       stress = components .components-at .ensures .1;
@@ -43,7 +45,7 @@ returns c =
     let components = curve .before in
     let currency = components .before in
     let at = currency .before in
-    let gathered = at .before .before in
+    let gathered = at .before .before .before in
     c .curve-margin .ensures
     ∙ rw (curve .curve-of .ensures, components .components-at .ensures .0, currency .currency-of .ensures, at .block-at .ensures .0, gathered .gather .ensures .0) refl
 
@@ -51,12 +53,11 @@ pub curve-figures-spec : {M : Type 1} → statement M
 curve-figures-spec =
     tie.close
     (tie.spec
-    (λ c. search needs)
     (λ c κs. search needs)
     block-at-requires
     (λ c κs. search needs)
     components-at-requires
     (λ c κs. search needs)
-    (λ c. search needs)
     curve-margin-requires
+    (λ c. search needs)
     returns)
