@@ -74,10 +74,16 @@ impl Valuing {
         let waiting = self.flow;
         let settled = known_value(curve, f, tables, factors);
         if settled.known {
+            // what waits is copied field by field: with the bytes between its fields, turn after turn, the copy would be waited for
             return Valuing {
                 total: total.with_flow(f, settled.value),
                 waits: self.waits,
-                flow: waiting,
+                flow: Flow {
+                    curve: waiting.curve,
+                    day: waiting.day,
+                    received: waiting.received,
+                    amount: waiting.amount,
+                },
             };
         }
         if self.waits {
