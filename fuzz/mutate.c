@@ -1,10 +1,10 @@
 /*
  * Changes inputs so that many get past the length, the checks and the rules
  * of a book: one time in ten any bytes change, otherwise a field in its
- * place, a whole record, the days of its payments, the bond and its cash, the
- * day that the book is for or the current day, the position, the amount, rate
- * and day of a present value, or the lengths that are lent. At times a book is
- * to be filled with trades.
+ * place, a whole record, the days of its payments, a block of trades, the bond
+ * and its cash, the day that the book is for or the current day, the position,
+ * the amount, rate and day of a present value, or the lengths that are lent. At
+ * times a book is to be filled with trades.
  * The current day is that of the book most times. The length of the book, the
  * places of its blocks and their checks are then mended.
  */
@@ -105,6 +105,35 @@ static void move_payments(seddolki_record *trade, uint64_t *state) {
 static void move_some_payments(uint8_t *data, size_t blocks, uint64_t *state) {
     int of_head = draw(state, 2) == 0;
     move_payments(of_head ? &head_of(data)->record : draw_trade(data, blocks, state), state);
+}
+
+/* A bond with many payments, bought or sold on a curve for cash today. */
+static seddolki_record draw_often_paying(uint8_t curve, uint64_t *state) {
+    seddolki_record trade = {.kind = SEDDOLKI_OUTRIGHT, .security = SEDDOLKI_COUPONS};
+    size_t payments = 1 + draw(state, SEDDOLKI_MAX_PAYMENTS), period = 1 + draw(state, 90);
+    trade.side = draw(state, 2) ? SEDDOLKI_BUYER : SEDDOLKI_SELLER;
+    trade.security_curve = trade.cash_curve = curve;
+    seddolki_set_u16(&trade.first_payment_day,
+                     (uint16_t)(1 + draw(state, SEDDOLKI_MAX_DAY - payments * period)));
+    seddolki_set_u16(&trade.period, (uint16_t)period);
+    seddolki_set_u16(&trade.payments, (uint16_t)payments);
+    seddolki_set_u32(&trade.coupon, (uint32_t)draw(state, 200000));
+    seddolki_set_u64(&trade.nominal, 1 + draw(state, 1000000000));
+    seddolki_set_u32(&trade.price_or_rate, (uint32_t)(1 + draw(state, 2000000)));
+    return trade;
+}
+
+/* Fills the last block with such bonds on a curve: it has flows on many days, in many scenarios. */
+static void pay_often(uint8_t *data, size_t blocks, uint64_t *state) {
+    size_t curves = curves_of(data, blocks);
+    if (curves == 0 || curves + 1 >= blocks) return;
+    seddolki_trade_block *last = &block_at(data, blocks - 1)->trades;
+    uint8_t id = (uint8_t)(1 + draw(state, curves));
+    for (int i = 0; i < SEDDOLKI_COMPONENTS; i++)
+        block_at(data, id)->curve.steps[i] = (uint8_t)(1 + draw(state, SEDDOLKI_MAX_STEPS));
+    last->count = SEDDOLKI_FULL_BLOCK;
+    for (size_t i = 0; i < SEDDOLKI_FULL_BLOCK; i++)
+        last->places[i] = draw_often_paying(id, state);
 }
 
 /* A bond that ends after a curve does. */
@@ -238,7 +267,9 @@ size_t LLVMFuzzerCustomMutator(uint8_t *data, size_t size, size_t most, unsigned
     case 6: change_day(data, blocks, &state); break;
     case 7: move_position(data, blocks, &state); break;
     case 8: ask_value(head_of(data), &state); break;
-    default: change_some_field(data, blocks, &state);
+    default:
+        if (draw(&state, 64)) change_some_field(data, blocks, &state);
+        else pay_often(data, blocks, &state);
     }
     return size < HEAD ? size : mend(data, size, &state);
 }

@@ -42,6 +42,15 @@ impl NearTies {
         NearTies::EndRates,
         NearTies::Halves,
     ];
+
+    /// Those by which a curve alone changes.
+    pub(crate) const OF_CURVES: [NearTies; 5] = [
+        NearTies::ZeroComponents,
+        NearTies::AlikeComponents,
+        NearTies::SmallComponents,
+        NearTies::LastNode,
+        NearTies::EndRates,
+    ];
 }
 
 /// So few that each can have its opposite.
@@ -101,7 +110,7 @@ fn pay_halves(draw: &mut Draw, book: &mut Book) {
     }
 }
 
-fn bring_near(draw: &mut Draw, ties: NearTies, curve: &mut Curve) {
+pub(crate) fn bring_near(draw: &mut Draw, ties: NearTies, curve: &mut Curve) {
     let whole = draw.once_in(3);
     let (one, other) = (draw.place(3), draw.place(3));
     let sign = draw.pick(&[1, -1]);

@@ -52,7 +52,7 @@ pub fn near_tie_book() -> Book {
     let mut curves = curves(&mut draw, 3);
     let trades = (0..200)
         .map(|i| match curves.get(i) {
-            Some(curve) => far_payment(curve),
+            Some(curve) => payment(curve, curve.last_node().day, 150),
             None => Record {
                 payments: 3,
                 ..bond(&mut draw, &curves)
@@ -73,22 +73,22 @@ fn stress_the_last_node_alone(curve: &mut Curve) {
     curve.places[last].components = [20_000, 3_000, 500];
 }
 
-/// A single payment of a lira and a half on the last node's day, for as much today.
-fn far_payment(curve: &Curve) -> Record {
+/// A single payment on a day, for as much today.
+pub(crate) fn payment(curve: &Curve, day: u16, nominal: u64) -> Record {
     Record {
         kind: OUTRIGHT,
         side: FIRST_SIDE,
         security: SINGLE_PAYMENT,
         security_curve: curve.id,
         cash_curve: curve.id,
-        first_payment_day: curve.last_node().day,
-        nominal: 150,
+        first_payment_day: day,
+        nominal,
         price_or_rate: ONE as u32,
         ..Record::default()
     }
 }
 
-fn book(curves: Vec<Curve>, trades: Vec<Record>) -> Book {
+pub(crate) fn book(curves: Vec<Curve>, trades: Vec<Record>) -> Book {
     Book {
         account: 42,
         valuation_day: Date::FIRST,
@@ -112,7 +112,7 @@ pub fn mixed_book(curve_count: u8, trade_count: usize, steps: [u8; 3]) -> Book {
 }
 
 /// Curves around 13%, each with all scenarios: its level, slope and bend.
-fn curves(draw: &mut Draw, count: u8) -> Vec<Curve> {
+pub(crate) fn curves(draw: &mut Draw, count: u8) -> Vec<Curve> {
     (1..=count).map(|id| curve(draw, id)).collect()
 }
 
@@ -138,7 +138,7 @@ fn curve(draw: &mut Draw, id: u8) -> Curve {
 }
 
 /// A bond bought or sold, with as many coupons as there can be.
-fn bond(draw: &mut Draw, curves: &[Curve]) -> Record {
+pub(crate) fn bond(draw: &mut Draw, curves: &[Curve]) -> Record {
     let security = draw.pick(curves);
     let same = |curve: &&Curve| curve.currency == security.currency;
     let cash: Vec<Curve> = curves.iter().filter(same).copied().collect();
