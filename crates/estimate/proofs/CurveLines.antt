@@ -22,7 +22,7 @@ module _ (c : Curve) (p : Proper c) where
   rates t = rateAt (nodesOf c) t
 
   -- from its day on a node decides, with what follows it, every rate
-  passed : (i t : ℕ) → i < c .count → node c i .day ≤ t → Passed c t (node c i) (suc i)
+  pub passed : (i t : ℕ) → i < c .count → node c i .day ≤ t → Passed c t (node c i) (suc i)
   passed zero t k h = passed-first c t p h
   passed (suc i) t k h =
       let before = passed i t (omega arith) (omega (arith, p .rising i k)) in

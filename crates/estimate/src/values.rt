@@ -3,15 +3,12 @@ ghost use mathlib.Core.Path.{_≡_};
 ghost use mathlib.Core.List.{map};
 ghost use Prim.Native.Nat.{_≤_};
 ghost use lib.ListN.{length};
-ghost use Rattle.ground.specs.Limits.{dayCount};
 ghost use Rattle.curve.specs.Limits.{Proper, ProperComponents, ScenarioLimits};
 ghost use Rattle.curve.specs.Rates.{nodesOf};
 ghost use Rattle.curve.specs.Scenarios.{scenarioCount};
 ghost use Rattle.curve.specs.Stress.{stressed};
 ghost use Rattle.logarithm.specs.Logarithms.{Tables};
-ghost use Rattle.netting.specs.Netting.{listed, netSize};
 ghost use Rattle.estimate.specs.Values.{cheapValue, ScenarioValues, Ends, Listed};
-use super::days::list_days;
 use super::ends::fill_ends;
 use super::lines::level;
 use super::parts::Part;
@@ -77,21 +74,4 @@ pub fn fill_values(
         values[at] = value_in(curve, scenario, &ends, days, nets, tables);
         s += 1;
     }
-}
-
-// In every scenario, in order. The list of days is made once.
-pub fn values_of(
-    curve: Curve,
-    components: Components,
-    nets: &[i64],
-    tables: &[u64],
-    values: &mut [i64],
-)
-    requires { ⌜ Proper curve × ProperComponents components × Tables (now tables) × (length (now nets) ≡ dayCount) × (netSize (now nets) (listed (now nets)) ≤ 140_000_000_000_000_000) × (scenarioCount components ≤ length (now values)) ⌝ }
-    ensures kept { λ _. ⌜ length (now (values .exit)) ≡ length (now (values .entry)) ⌝ }
-    ensures each { λ _. ⌜ ScenarioValues curve components (now (nets .entry)) (now (values .exit)) ⌝ }
-{
-    let mut days = [0u16; 10951];
-    let count = list_days(nets, &mut days);
-    fill_values(curve, components, &days[..count], nets, tables, values);
 }

@@ -8,7 +8,6 @@ use native.Mathlib.Omega.{arith}
 use lib.IntN.{ℤ, pos, natAbs, _+ℤ_}
 use lib.ListN.{length, length-set, set}
 use lib.Seq.{getD-set-same, getD-set-other}
-use Rattle.laws.proofs.Signed.{read, read-is}
 use Rattle.decimal.specs.Product.{unit}
 use Rattle.discount.specs.declared.Flow.{Flow}
 use Rattle.discount.specs.Flows.{signed, sum}
@@ -23,11 +22,6 @@ use Rattle.ladder.proofs.Folds.{sum-most, room-less, room-next}
 
 net-next : {n : ℕ} (x : ℤ) (f : Flow) → FlowLimits f → RoomFor unit (suc n) (natAbs x) → RoomFor unit n (natAbs (x +ℤ signed (f .received) (f .amount)))
 net-next x f s h = room-next (signed-more x (f .received) (f .amount)) (s .amount) h
-
--- a net amount with one flow more, read back from its bits
-pub net-read : (x : ℤ) (f : Flow) → RoomFor unit 1 (natAbs x) → FlowLimits f → (r : ℤ) → r ≡ x +ℤ signed (f .received) (f .amount) → read r ≡ x +ℤ signed (f .received) (f .amount)
-unfolding unit
-net-read x f h s r e = rw e (read-is (x +ℤ signed (f .received) (f .amount)) (omega (arith, net-next x f s h .fits)))
 
 pub nets-none : (n : ℕ) → n ≤ mostFlows → NetsRoom n noNets
 unfolding sum

@@ -1,30 +1,15 @@
 // A ladder's flows netted by day, and how far the value of the net amounts at cheap factors may be off.
 ghost use mathlib.Core.Path.{_≡_};
-ghost use lib.IntN.{natAbs, _+ℤ_};
 ghost use lib.ListN.{length};
-ghost use Rattle.decimal.specs.Product.{unit};
-ghost use Rattle.discount.specs.Flows.{signed, sum};
+ghost use Rattle.discount.specs.Flows.{sum};
 ghost use Rattle.netting.specs.Netting.{netted, flowReach};
 ghost use Rattle.ground.specs.Limits.{dayCount};
 ghost use Rattle.ladder.specs.Ladder.{ladderFlows, LadderLimits};
 ghost use Rattle.ladder.specs.Netted.{NetsRoom};
-ghost use Rattle.ladder.specs.Totals.{FlowLimits, RoomFor};
 use super::payments::Rung;
 use super::payments::payment;
-use discount::Flow;
+use netting::net::net_with;
 use netting::value::reach;
-
-// A net amount with one flow more.
-fn net_with(net: i64, f: Flow) -> i64
-    requires { ⌜ RoomFor unit 1 (natAbs net) × FlowLimits f ⌝ }
-    ensures { λ r. ⌜ r ≡ net +ℤ signed (f .received) (f .amount) ⌝ }
-{
-    let amount = f.amount as i64;
-    if f.received {
-        return net + amount;
-    }
-    net - amount
-}
 
 // Adds the payments of the first schedules to the net amounts of their days.
 pub fn net_days(curve: u64, ladder: &[u64], schedules: usize, nets: &mut [i64])

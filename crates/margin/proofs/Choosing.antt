@@ -9,7 +9,8 @@ use mir.Val.{SFits}
 use lib.IntN.{ℤ, pos, natAbs, _+ℤ_, _-ℤ_, _*ℤ_}
 use lib.ListN.{getD}
 use lib.Signed.{ltZ, _<ℤ_, ltZ-yes}
-use Rattle.laws.proofs.Integer.{int, near-size}
+use Rattle.laws.specs.Distance.{Below}
+use Rattle.laws.proofs.Integer.{int, abs-le}
 use Rattle.laws.proofs.Signed.{fits, cast, cast-is, read, read-is, abs-add}
 use Rattle.decimal.specs.Product.{unit}
 use Rattle.discount.specs.Flows.{flowValue}
@@ -22,7 +23,8 @@ use Rattle.margin.specs.Losses.{valueOn, baseOf, valueAt, lossAt, worstA
 use Rattle.ladder.specs.Totals.{mostFlows}
 use Rattle.margin.specs.Positions.{exposureOf, PositionLimits}
 use Rattle.margin.specs.Worst.{worseOf, lossOf, ScenarioLoss, worstOf}
-use Rattle.margin.specs.Choice.{Estimates, Least, slackOf, limitOf, WorstKept, sameRates}
+use Rattle.screening.specs.Screening.{Least}
+use Rattle.margin.specs.Choice.{Estimates, slackOf, limitOf, WorstKept, sameRates}
 use Rattle.margin.proofs.Discarding.{kept-worst, same-stressed}
 use Rattle.ladder.proofs.LadderFlows.{ladder-limits}
 use Rattle.margin.proofs.Sizes.{value-size}
@@ -33,6 +35,13 @@ not-less z = go (ltZ z z) refl
     go : (t : Bool) → ltZ z z ≡ t → t ≡ false
     go true e = let less : z <ℤ z = ltZ-yes (rw e tt) in absurd (omega int)
     go false e = refl
+
+-- between two numbers of some size
+between-size : (a b c : ℤ) (t m : ℕ) → Below a b t → Below c a t → natAbs b ≤ m → natAbs c ≤ m → natAbs a ≤ m + t
+between-size a b c t m h k x y =
+    let bs = abs-le b m .0 x in
+    let cs = abs-le c m .0 y in
+    abs-le a (m + t) .1 (omega (int, h, k, bs .0, bs .1, cs .0, cs .1))
 
 module _ (p : Position) (ladder : List ℕ) (h : PositionLimits p ladder) where
   abbrev e : Exposure
@@ -54,19 +63,23 @@ module _ (p : Position) (ladder : List ℕ) (h : PositionLimits p ladder) where
       let same : lossAt flowValue e s ≡ w .amount = same-losses s (w .scenario) q ∙ sym (ap (λ (v : Loss). v .amount) (k .loss)) in
       rw (same, not-less (w .amount))
 
+  size : (s : ℕ) → natAbs (valueAt flowValue e s) ≤ mostFlows * unit
+  size s =
+      value-size e (ladder-limits (p .id) ladder (p .schedules) (h .schedules)) (h .schedules .few (p .id)) (map (stressed (scenarioAt (p .components) s)) (e .nodes))
+
   -- an estimate is little larger than a value
   pub estimate-size : (values : List ℤ) (reach : ℕ) → Estimates e values reach → (s : ℕ) → s < scenarioCount (p .components)
       → natAbs (getD values s (pos 0)) ≤ mostFlows * unit + reach
   estimate-size values reach k s m =
-      near-size _ (valueAt flowValue e s) reach (mostFlows * unit) (k .near s m)
-      (value-size e (ladder-limits (p .id) ladder (p .schedules) (h .schedules)) (h .schedules .few (p .id)) (map (stressed (scenarioAt (p .components) s)) (e .nodes)))
+      let cover = k .cover s m in
+      between-size _ (valueAt flowValue e s) (valueAt flowValue e (cover .place)) reach (mostFlows * unit) (k .below s m) (cover .near) (size s) (size (cover .place))
 
 -- the first largest loss over those kept is the worst loss
 pub worst-is : (e : Exposure) (values : List ℤ) (reach m : ℕ) → Estimates e values reach → Least values (scenarioCount (e .components)) m → (w : Loss)
     → WorstKept (lossAt flowValue e) values (limitOf (getD values m (pos 0)) reach) (scenarioCount (e .components)) w → w ≡ worstOf e
 unfolding worstAt lossAt
 worst-is e values reach m k least w h =
-    kept-worst (baseOf flowValue e) (valueAt flowValue e) values reach (scenarioCount (e .components)) (k .near) m least w h
+    kept-worst (baseOf flowValue e) (valueAt flowValue e) values reach (scenarioCount (e .components)) (k .below) m least (k .cover m (least .within) .place) (k .cover m (least .within) .within) (k .cover m (least .within) .near) w h
 
 -- ---- the limit
 

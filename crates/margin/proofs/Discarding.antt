@@ -11,7 +11,7 @@ use lib.ListN.{length, getD}
 use lib.Seq.{getD-take}
 use borrow.Author.Tests.{eqb-true}
 use lib.Signed.{ltZ, _≤ℤ_, _<ℤ_, ltZ-yes, ltZ-no, ≤ℤ-refl}
-use Rattle.laws.specs.Distance.{Within}
+use Rattle.laws.specs.Distance.{Below}
 use Rattle.laws.specs.Worst.{worst}
 use Rattle.laws.proofs.Integer.{int, lt-show, plus, up-pos, down-pos, up-neg, down-neg}
 use Rattle.laws.proofs.Largest.{upFrom, Leads, leads-worst}
@@ -26,7 +26,8 @@ use Rattle.curve.specs.Stress.{stressed, stressedCurve}
 use Rattle.curve.proofs.Rates.{length-nodes}
 use Rattle.margin.specs.declared.losses.Loss.{Loss}
 use Rattle.margin.specs.Worst.{worseOf}
-use Rattle.margin.specs.Choice.{Least, slackOf, limitOf, Kept, FirstKept, WorstKept, sameRates}
+use Rattle.screening.specs.Screening.{Least}
+use Rattle.margin.specs.Choice.{slackOf, limitOf, Kept, FirstKept, WorstKept, sameRates}
 
 -- ---- discarding
 
@@ -38,35 +39,37 @@ both-off : (reach : ℕ) → reach + reach ≤ slackOf reach
 unfolding slackOf
 both-off reach = omega arith
 
-module _ (base : ℤ) (value : ℕ → ℤ) (estimates : List ℤ) (reach n : ℕ) (near : (s : ℕ) → s < n → Within (getD estimates s (pos 0)) (value s) reach) (m : ℕ) (least : Least estimates n m) where
+module _ (base : ℤ) (value : ℕ → ℤ) (estimates : List ℤ) (reach n : ℕ) (below : (s : ℕ) → s < n → Below (getD estimates s (pos 0)) (value s) reach) (m : ℕ) (least : Least estimates n m) (q : ℕ) (within : q < n) (near : Below (value q) (getD estimates m (pos 0)) reach) where
   abbrev loss : ℕ → ℤ
   loss s = base -ℤ value s
 
   abbrev limit : ℤ
   limit = limitOf (getD estimates m (pos 0)) reach
 
-  -- a scenario above the limit loses less than the one with the least estimate
-  pub loses-less : (s : ℕ) → s < n → limit <ℤ getD estimates s (pos 0) → loss s <ℤ loss m
+  -- a scenario above the limit loses less than the one that the least estimate covers
+  pub loses-less : (s : ℕ) → s < n → limit <ℤ getD estimates s (pos 0) → loss s <ℤ loss q
   loses-less s h k =
-      lt-show (loss s) (loss m)
+      lt-show (loss s) (loss q)
       (omega (
         int,
-        near s h,
-        near m (least .within),
+        below s h,
+        near,
         both-off reach,
         plus (getD estimates m (pos 0)) (pos (slackOf reach)),
         up-pos (slackOf reach),
         down-pos (slackOf reach),
         plus base (negℤ (value s)),
-        plus base (negℤ (value m)),
+        plus base (negℤ (value q)),
         up-neg (value s),
         down-neg (value s),
-        up-neg (value m),
-        down-neg (value m),
+        up-neg (value q),
+        down-neg (value q),
       ))
 
-  least-kept : Kept estimates limit m
-  least-kept = not-above (getD estimates m (pos 0)) reach
+  covered-kept : Kept estimates limit q
+  covered-kept =
+      omega
+      (int, below q within, near, both-off reach, plus (getD estimates m (pos 0)) (pos (slackOf reach)), up-pos (slackOf reach), down-pos (slackOf reach))
 
   -- so the first largest loss over those that are kept is the first largest over all
   pub kept-leads : (w : Loss) → WorstKept loss estimates limit n w → Leads loss (w .scenario) n
@@ -76,15 +79,15 @@ module _ (base : ℤ) (value : ℕ → ℤ) (estimates : List ℤ) (reach n : �
       most : (s : ℕ) → s < n → (t : Bool) → ltZ limit (getD estimates s (pos 0)) ≡ t → loss s ≤ℤ loss (w .scenario)
       most s k true e =
           let gone : limit <ℤ getD estimates s (pos 0) = ltZ-yes (rw e tt) in
-          let le : loss s ≤ℤ w .amount = omega (int, loses-less s k gone, h .most m (least .within) least-kept) in
+          let le : loss s ≤ℤ w .amount = omega (int, loses-less s k gone, h .most q within covered-kept) in
           rw (h .amount) at le
       most s k false e = rw (h .amount) at (h .most s k (ltZ-no (rw e tt)))
 
       first : (s : ℕ) → s < w .scenario → (t : Bool) → ltZ limit (getD estimates s (pos 0)) ≡ t → loss s <ℤ loss (w .scenario)
       first s k true e =
           let gone : limit <ℤ getD estimates s (pos 0) = ltZ-yes (rw e tt) in
-          let less : loss s <ℤ loss m = loses-less s (omega (arith, h .within)) gone in
-          let top : loss m ≤ℤ loss (w .scenario) = rw (h .amount) at (h .most m (least .within) least-kept) in
+          let less : loss s <ℤ loss q = loses-less s (omega (arith, h .within)) gone in
+          let top : loss q ≤ℤ loss (w .scenario) = rw (h .amount) at (h .most q within covered-kept) in
           lt-show (loss s) (loss (w .scenario)) (omega (int, less, top))
       first s k false e = rw (h .amount) at (h .first s k (ltZ-no (rw e tt)))
 
@@ -124,21 +127,6 @@ module _ (loss : ℕ → ℤ) (values : List ℤ) (limit : ℤ) where
         go false q =
             let less : loss s ≤ℤ w .amount = ltZ-no (rw q tt) in
             record { within = omega (arith, h .within); amount = h .amount; most = below-more _ s (h .most) (λ c. less); first = h .first }
-
--- ---- the least estimate
-
-module _ (values : List ℤ) where
-  pub least-first : Least values 1 0
-  least-first =
-      record { within = omega arith; least = λ s h. let e : s ≡ 0 = omega arith in rw e (≤ℤ-refl (getD values 0 (pos 0))) }
-
-  module _ (s m : ℕ) (h : Least values s m) where
-    pub least-new : getD values s (pos 0) <ℤ getD values m (pos 0) → Least values (s + 1) s
-    least-new k =
-        record { within = omega arith; least = below-more _ s (λ j l. omega (int, k, h .least j l)) (≤ℤ-refl (getD values s (pos 0))) }
-
-    pub least-same : getD values m (pos 0) ≤ℤ getD values s (pos 0) → Least values (s + 1) m
-    least-same k = record { within = omega (arith, h .within); least = below-more _ s (h .least) k }
 
 -- ---- two scenarios that give the nodes the same rates
 

@@ -7,7 +7,7 @@ use lib.Dec.{eqb}
 use lib.IntN.{ℤ, pos, _+ℤ_}
 use lib.ListN.{length, getD}
 use lib.Signed.{_≤ℤ_, _<ℤ_}
-use Rattle.laws.specs.Distance.{Within}
+use Rattle.laws.specs.Distance.{Below}
 use Rattle.laws.specs.Every.{every}
 use Rattle.discount.specs.Flows.{flowValue}
 use Rattle.curve.specs.declared.Curve.{Curve}
@@ -18,16 +18,18 @@ use Rattle.margin.specs.Losses.{valueAt}
 use Rattle.ladder.specs.Totals.{mostFlows}
 use Rattle.margin.specs.declared.losses.Loss.{Loss}
 
--- an estimate for each scenario: it differs from the scenario's value by at most a reach that is the same for all
+-- some scenario's value is at most a number, but for the reach
+pub record Covered (e : Exposure) (v : ℤ) (reach : ℕ) : Type 0 where
+  pub place : ℕ
+  pub within : place < scenarioCount (e .components)
+  pub near : Below (valueAt flowValue e place) v reach
+
+-- an estimate for each scenario: its value is at least that, and some scenario's value is at most that, but for a reach that is the same for all
 pub record Estimates (e : Exposure) (values : List ℤ) (reach : ℕ) : Type 0 where
   pub places : length values ≡ 343
-  pub near : (s : ℕ) → s < scenarioCount (e .components) → Within (getD values s (pos 0)) (valueAt flowValue e s) reach
+  pub below : (s : ℕ) → s < scenarioCount (e .components) → Below (getD values s (pos 0)) (valueAt flowValue e s) reach
+  pub cover : (s : ℕ) → s < scenarioCount (e .components) → Covered e (getD values s (pos 0)) reach
   pub small : reach ≤ mostFlows * 200000
-
--- of n values the one at m is the least
-pub record Least (values : List ℤ) (n m : ℕ) : Type 0 where
-  pub within : m < n
-  pub least : (s : ℕ) → s < n → getD values m (pos 0) ≤ℤ getD values s (pos 0)
 
 -- what two estimates may be off together
 unfoldable pub slackOf : ℕ → ℕ

@@ -5,7 +5,7 @@ ghost use lib.ListN.{length};
 ghost use Rattle.curve.specs.Limits.{Proper};
 ghost use Rattle.curve.specs.Scenarios.{scenarioCount};
 ghost use Rattle.discount.specs.Flows.{flowValue};
-ghost use Rattle.margin.specs.Choice.{Estimates, Least, SomeKept, FirstKept, WorstKept, sameRates};
+ghost use Rattle.margin.specs.Choice.{Estimates, SomeKept, FirstKept, WorstKept, sameRates};
 ghost use Rattle.margin.specs.Losses.{lossAt};
 ghost use Rattle.margin.specs.Positions.{exposureOf, Based};
 ghost use Rattle.margin.specs.Worst.{worseOf, lossOf, ScenarioLoss, worstOf};
@@ -14,22 +14,7 @@ use super::estimates::estimate;
 use super::losses::Loss;
 use super::losses::loss_of;
 use curve::Curve;
-
-// The place of the least of the first n values.
-fn least_of(values: &[i64], n: u64) -> u64
-    requires { ⌜ (0 < n) × (n ≤ length (now values)) ⌝ }
-    ensures { λ r. ⌜ Least (now (values .entry)) n r ⌝ }
-{
-    let mut least: u64 = 0;
-    let mut s: u64 = 1;
-    while s < n {
-        if values[s as usize] < values[least as usize] {
-            least = s;
-        }
-        s += 1;
-    }
-    least
-}
+use screening::least::least_of;
 
 // The first of n places whose value is at most the limit, where there is one.
 fn first_kept(values: &[i64], limit: i64, n: u64) -> u64

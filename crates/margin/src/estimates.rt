@@ -1,13 +1,13 @@
-// Estimates of a curve's scenarios: the value of its netted flows at cheap factors.
+// Estimates of a curve's scenarios: the value of its netted flows at cheap factors, screened.
 ghost use mathlib.Core.Path.{_≡_};
 ghost use lib.ListN.{length};
 ghost use Rattle.logarithm.specs.Logarithms.{Tables};
 ghost use Rattle.margin.specs.Choice.{Estimates};
 ghost use Rattle.margin.specs.Positions.{exposureOf, PositionLimits};
 use super::Position;
-use estimate::values::values_of;
 use ladder::net::net_days;
 use ladder::net::reach_of;
+use screening::screen::screen;
 
 // An estimate of each scenario's value. Answers how far each may be off.
 pub fn estimate(position: Position, ladder: &[u64], tables: &[u64], values: &mut [i64]) -> u64
@@ -16,6 +16,6 @@ pub fn estimate(position: Position, ladder: &[u64], tables: &[u64], values: &mut
 {
     let mut nets = [0i64; 10951];
     net_days(position.id, ladder, position.schedules, &mut nets);
-    values_of(position.curve, position.components, &nets, tables, values);
+    screen(position.curve, position.components, &nets, tables, values);
     reach_of(position.id, ladder, position.schedules)
 }

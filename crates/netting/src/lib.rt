@@ -1,2 +1,3 @@
 // Flows netted by day, and what the net amounts are worth at cheap factors.
+pub mod net;
 pub mod value;

@@ -1,17 +1,18 @@
 -- `ladder::net::net_days` meets its contract, by the fold over the ladder's flows.
 use mathlib.Core.Path.{sym, _∙_}
-use Prim.Native.Nat.{_<_}
+use Prim.Native.Nat.{_≤_, _<_}
 use native.Mathlib.Omega.{arith}
 use lib.IntN.{natAbs}
 use lib.ListN.{length}
 use Rattle.laws.proofs.Signed.{back}
 use Rattle.decimal.specs.Product.{unit}
 use Rattle.netting.specs.Netting.{netOn, netWith}
+use Rattle.netting.proofs.NetAmounts.{net-read}
 use Rattle.ladder.specs.Ladder.{RungLimits}
 use Rattle.ladder.specs.Totals.{FlowLimits, RoomFor}
 use Rattle.ladder.proofs.LadderFlows.{flowsFrom}
 use Rattle.ladder.proofs.Folds.{Folded, folded-none, folded-next, folded-all, rung-limits, rung-room, flow-limits, fewer-left, room-less}
-use Rattle.ladder.proofs.Netting.{DaysRoom, nets-next, net-read}
+use Rattle.ladder.proofs.Netting.{DaysRoom, nets-next}
 use Rattle.ladder.proofs.net.net_days.Statement.{statement}
 use Rattle.ladder.proofs.net.net_days.Tie as tie
 
@@ -46,10 +47,18 @@ module _ (c : tie.After-payment Inv-loop μ-loop) where
       let turn = c .before in
       room-less (omega arith) (rung-room (turn .before .before .loop .inv) (start turn .pre .0) (turn .if1 .taken) .1 .each _)
 
+  small : natAbs (netOn (c .before .before .before .loop .nets) (c .payment .result .day)) ≤ 1000000000000000000
+  unfolding unit
+  small = omega (arith, room .fits)
+
+  amount : c .payment .result .amount ≤ 1000000000000000000
+  unfolding unit
+  amount = omega (arith, limits .amount)
+
 net-with-requires : tie.Need-net-with-requires Inv-loop μ-loop
 net-with-requires c κs =
     let at = c .before in
-    (rw (back (netOn (at .before .before .before .loop .nets) (at .payment .result .day)) (c .net-with-arg .given)) (room at), limits at)
+    (rw (back (netOn (at .before .before .before .loop .nets) (at .payment .result .day)) (c .net-with-arg .given)) (small at), amount at)
 
 loop-less : tie.Need-loop-less Inv-loop μ-loop
 loop-less c =
@@ -64,7 +73,7 @@ loop-again c =
     let turn = at .before in
     let net = netOn (turn .before .before .loop .nets) (at .payment .result .day) in
     let fit = back net (c .before .before .net-with-arg .given) in
-    rw (net-read net (at .payment .result) (room at) (limits at) _ (rw fit at (c .before .net-with .ensures)))
+    rw (net-read net (at .payment .result) (small at) (amount at) _ (rw fit at (c .before .net-with .ensures)))
     (folded-next (turn .before .before .loop .inv) (start turn .pre .0) (turn .if1 .taken) (at .payment .ensures) (c .next .ensures) (λ n k. nets-next _ _ (limits at) k))
 
 same-length : tie.Need-same-length Inv-loop μ-loop

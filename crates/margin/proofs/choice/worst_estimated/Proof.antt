@@ -9,7 +9,8 @@ use Rattle.decimal.specs.Product.{unit}
 use Rattle.curve.specs.Scenarios.{scenarioCount}
 use Rattle.curve.proofs.Scenarios.{scenarios-some, scenarios-most}
 use Rattle.ladder.specs.Totals.{mostFlows}
-use Rattle.margin.specs.Choice.{Least, limitOf}
+use Rattle.screening.specs.Screening.{Least}
+use Rattle.margin.specs.Choice.{limitOf}
 use Rattle.margin.proofs.Discarding.{not-above}
 use Rattle.margin.proofs.Choosing.{twice-fits, limit-fits, limit-read, estimate-size, worst-is}
 use borrow.Author.Needs.{needs}

@@ -1,11 +1,9 @@
 -- `margin::estimates::estimate` meets its contract.
 use mathlib.Core.List.{List}
 use mathlib.Core.Path.{_∙_}
-use native.Mathlib.Omega.{arith}
 use lib.IntN.{ℤ, pos}
 use lib.ListN.{length, replicate, length-replicate}
 use Rattle.discount.specs.declared.Flow.{Flow}
-use Rattle.curve.proofs.Scenarios.{scenarios-most}
 use Rattle.netting.proofs.Sizes.{nets-length}
 use Rattle.ladder.specs.Ladder.{ladderFlows}
 use Rattle.margin.proofs.Estimating.{estimates}
@@ -29,8 +27,8 @@ net-days-requires c κs =
     let h = s .pre .0 .schedules in
     (h, length-replicate {A = ℤ} 10951 (pos 0), nets-none (length (flows s)) (h .few (s .args .position .id)))
 
-values-of-requires : tie.Need-values-of-requires
-values-of-requires c κs =
+screen-requires : tie.Need-screen-requires
+screen-requires c κs =
     let netted = c .before .before .before in
     let s = start netted in
     let p = s .args .position in
@@ -41,7 +39,7 @@ values-of-requires c κs =
       s .pre .1,
       rw e (nets-length (flows s) (replicate 10951 (pos 0)) ∙ length-replicate {A = ℤ} 10951 (pos 0)),
       rw e (nets-size (flows s) (ladder-limits (p .id) (s .args .ladder .now) (p .schedules) (h .schedules)) (h .schedules .few (p .id))),
-      omega (arith, scenarios-most (p .components) (h .stress), s .pre .2),
+      s .pre .2,
     )
 
 returns : tie.Need-returns
@@ -50,7 +48,7 @@ returns c =
     let lent = v .before .before .before in
     let netted = lent .before in
     let s = start netted in
-    estimates _ _ (s .pre .0) _ _ _ (netted .net-days .ensures) (c .reach-of .ensures) (v .values-of .ensures .0 ∙ s .pre .2) (v .values-of .ensures .1)
+    estimates _ _ (s .pre .0) _ _ _ (netted .net-days .ensures) (c .reach-of .ensures) (v .screen .ensures .0 ∙ s .pre .2) (v .screen .ensures .1)
 
 pub estimate-spec : {M : Type 1} → statement M
 estimate-spec =
@@ -59,7 +57,7 @@ estimate-spec =
     (λ c. search needs)
     net-days-requires
     (λ c. search needs)
-    values-of-requires
+    screen-requires
     (λ c κs. let v = c .before in let lent = v .before .before .before in start (lent .before) .pre .0 .schedules)
     (λ c. search needs)
     returns)

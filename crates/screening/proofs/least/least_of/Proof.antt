@@ -1,4 +1,4 @@
--- `margin::choice::least_of` meets its contract: of the values passed, the least is held.
+-- `screening::least::least_of` meets its contract: of the values passed, the least is held.
 use mathlib.Core.Path.{_≡_}
 use mathlib.Core.Logic.{⊎-elim}
 use mathlib.Core.Bool.{true, false}
@@ -6,12 +6,12 @@ use lib.IntN.{pos}
 use lib.ListN.{getD}
 use lib.Signed.{ltZ, ltZ-yes, ltZ-no}
 use Rattle.laws.proofs.Signed.{compared}
-use Rattle.margin.proofs.Discarding.{least-first, least-new, least-same}
-use Rattle.margin.specs.Choice.{Least}
+use Rattle.screening.proofs.Leasts.{least-first, least-new, least-same}
+use Rattle.screening.specs.Screening.{Least}
 use borrow.Author.Needs.{needs}
 use Prim.Native.Nat.{_-_, _≤_}
-use Rattle.margin.proofs.choice.least_of.Statement.{statement}
-use Rattle.margin.proofs.choice.least_of.Tie as tie
+use Rattle.screening.proofs.least.least_of.Statement.{statement}
+use Rattle.screening.proofs.least.least_of.Tie as tie
 
 abbrev Inv-loop : tie.InvT-loop
 Inv-loop values n least₀ s₀ least s = Least values s least × (s ≤ n)
