@@ -14,7 +14,7 @@ use Rattle.sieve.specs.Cheap.{whole, cheapFactor}
 use Rattle.sieve.proofs.Powers.{whole-pos, whole-is}
 use Rattle.sieve.proofs.Bound.{cheap-near, cheap-le}
 use Rattle.netting.specs.Netting.{distanceUp, moved, reach, cheapOn}
-use Rattle.netting.proofs.NettedValue.{distance-up}
+use Rattle.netting.proofs.NettedValue.{distance-up, not-over, not-under}
 use Rattle.netting.proofs.Sizes.{distance-size}
 use Rattle.bucket.specs.declared.buckets.Bucket.{Bucket}
 use Rattle.bucket.specs.Mapped.{NearLine, BucketLimits, lastPart, excess, allowance}
@@ -25,26 +25,17 @@ pub record Valued (z a c p : ℕ) : Type 0 where
   pub over : p * (z * 2) ≤ a * c * 2 + a * 786 + z
   pub under : a * c * 2 ≤ p * (z * 2) + a * 786 + z
 
-module _ (a f u c z d p : ℕ) (some : 0 < u) (few : d ≤ 393) where
-  not-over : p * (u * 2) ≤ a * f * 2 + u → f * z ≤ c * u + d * u → p * (z * 2) ≤ a * c * 2 + a * 786 + z
-  not-over h k =
-      let scaled : p * (z * 2) * u ≤ (a * c * 2 + a * d * 2 + z) * u = omega (arith, mul-le-mul-right z h, mul-le-mul-left a k) in
-      omega (arith, le-of-mul-le-mul-right scaled some, mul-le-mul-left a few)
-
-  not-under : a * f * 2 < p * (u * 2) + u → c * u ≤ f * z + d * u → a * c * 2 ≤ p * (z * 2) + a * 786 + z
-  not-under h k =
-      let first : a * f * 2 ≤ p * (u * 2) + u = omega arith in
-      let scaled : a * c * 2 * u ≤ (p * (z * 2) + a * d * 2 + z) * u = omega (arith, mul-le-mul-right z first, mul-le-mul-left a k) in
-      omega (arith, le-of-mul-le-mul-right scaled some, mul-le-mul-left a few)
-
 valued : (a r days : ℕ) → r ≤ 1000000 → days ≤ 10950 → Valued whole a (cheapFactor r days) (presentValue a r days)
 unfolding presentValue
 valued a r days l k =
     let f : ℕ = factor r days in
+    let c : ℕ = cheapFactor r days in
+    let d : ℕ = distanceUp days in
     let close = cheap-near r days l k in
+    let few = mul-le-mul-left a (distance-size days k) in
     record {
-      over = not-over a f unit (cheapFactor r days) whole (distanceUp days) (discounted a f) unit-pos (distance-size days k) (discounted-low a f) (omega (arith, close .above, distance-up days));
-      under = not-under a f unit (cheapFactor r days) whole (distanceUp days) (discounted a f) unit-pos (distance-size days k) (discounted-high a f) (omega (arith, close .below, distance-up days));
+      over = omega (arith, few, not-over a f unit c whole d (discounted a f) unit-pos (discounted-low a f) (omega (arith, close .above, distance-up days)));
+      under = omega (arith, few, not-under a f unit c whole d (discounted a f) unit-pos (discounted-high a f) (omega (arith, close .below, distance-up days)));
     }
 
 -- ---- the parts of an amount a: a₁ is a * u / (u + v), and a₀ the rest

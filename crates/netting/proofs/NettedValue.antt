@@ -31,12 +31,12 @@ distance-up days = omega arith
 
 -- a flow's part in its day's value: p is its present value, a * f / u to the nearest; f / u and c / z are at most d / z apart
 module _ (a f u c z d p : ℕ) (some : 0 < u) where
-  not-over : p * (u * 2) ≤ a * f * 2 + u → f * z ≤ c * u + d * u → p * (z * 2) ≤ a * c * 2 + a * d * 2 + z
+  pub not-over : p * (u * 2) ≤ a * f * 2 + u → f * z ≤ c * u + d * u → p * (z * 2) ≤ a * c * 2 + a * d * 2 + z
   not-over h k =
       let scaled : p * (z * 2) * u ≤ (a * c * 2 + a * d * 2 + z) * u = omega (arith, mul-le-mul-right z h, mul-le-mul-left a k) in
       le-of-mul-le-mul-right scaled some
 
-  not-under : a * f * 2 < p * (u * 2) + u → c * u ≤ f * z + d * u → a * c * 2 ≤ p * (z * 2) + a * d * 2 + z
+  pub not-under : a * f * 2 < p * (u * 2) + u → c * u ≤ f * z + d * u → a * c * 2 ≤ p * (z * 2) + a * d * 2 + z
   not-under h k =
       let first : a * f * 2 ≤ p * (u * 2) + u = omega arith in
       let scaled : a * c * 2 * u ≤ (p * (z * 2) + a * d * 2 + z) * u = omega (arith, mul-le-mul-right z first, mul-le-mul-left a k) in

@@ -118,7 +118,7 @@ fn screen_mapped(
     refine(curve, components, days, nets, tables, values);
 }
 
-// Whether so many scenarios, days and amounts may be mapped. Only the last is a rule: what is mapped fits 64 bits.
+// Whether a curve with so many scenarios, days and amounts is one to map. Only the size of the amounts is a rule: what is mapped fits 64 bits.
 fn mappable(scenarios: u64, days: usize, size: u64) -> bool
     ensures { λ r. ⌜ (r ≡ true → size ≤ mostMapped) ⌝ }
 {
