@@ -1,20 +1,18 @@
 -- What the whole-book check says of a book that it accepts, and which books it accepts.
-use mathlib.Core.Path.{_≡_, refl, ap}
+use mathlib.Core.Path.{_≡_, refl, sym, ap, _∙_}
 use mathlib.Core.Bool.{false}
 use mathlib.Core.List.{List}
 use Prim.Native.Nat.{ℕ}
 use borrow.Author.Tests.{eq-eqb, ne-eqb, eqb-true, not-false}
 use Rattle.ground.specs.declared.Ground.{Ground}
 use Rattle.ground.specs.declared.Ground.the-variants.{ValuationDay}
-use Rattle.ground.specs.declared.Verdict.{Verdict}
 use Rattle.ground.specs.declared.Verdict.the-variants.{Accepted, Refused}
-use Rattle.ground.specs.Verdicts.{orElse, firstBroken}
 use Rattle.ground.proofs.Verdicts.{orElse-accepted, unbroken}
-use Rattle.book.specs.Parts.{Header, headerOf}
+use Rattle.book.specs.Parts.{Parts, partsOf, headerOf}
 use Rattle.book.specs.Verdict.{verdict}
 use Rattle.acceptance.specs.declared.Today.{Today}
 use Rattle.acceptance.specs.declared.Today.the-variants.{Given, NotGiven}
-use Rattle.acceptance.specs.Verdict.{breaksValuationDay, bookRules, bookVerdict}
+use Rattle.acceptance.specs.Verdict.{breaksValuationDay, bookRules, partsVerdict, bookVerdict}
 
 -- ---- an accepted book
 
@@ -25,36 +23,43 @@ pub record AcceptedBook (s : List ℕ) (used : ℕ) (today : Today) : Type 0 whe
   pub day : breaksValuationDay (headerOf s .day) today ≡ false
 
 module _ (s : List ℕ) (used : ℕ) (today : Today) where
+  -- bytes whose blocks are accepted are judged by their parts
+  pub by-parts : (p : Parts) → verdict s used ≡ Accepted → partsOf s ≡ p → bookVerdict s used today ≡ partsVerdict p today
+  unfolding bookVerdict
+  by-parts p ok same = rw (ok, ap (λ (q : Parts). partsVerdict q today) same)
+
+  pub parts-accepted : bookVerdict s used today ≡ Accepted → partsVerdict (partsOf s) today ≡ Accepted
+  unfolding bookVerdict
+  parts-accepted h = orElse-accepted (verdict s used) (partsVerdict (partsOf s) today) h .1
+
   pub book-accepted : bookVerdict s used today ≡ Accepted → AcceptedBook s used today
   unfolding bookVerdict
   book-accepted h =
-      let p = orElse-accepted (verdict s used) (firstBroken 0 (bookRules s today)) h in
-      record { blocks = p .0; day = unbroken 0 (bookRules s today) (p .1) 0 }
-
-  pub accepted-book : AcceptedBook s used today → bookVerdict s used today ≡ Accepted
-  unfolding bookVerdict
-  accepted-book h = rw (h .blocks, h .day)
+      record { blocks = orElse-accepted (verdict s used) (partsVerdict (partsOf s) today) h .0; day = unbroken 0 (bookRules (partsOf s) today) (parts-accepted h) 0 }
 
   -- a refusal of a block is the answer, whatever the day
   pub block-refused : (g : Ground) (k : ℕ) → verdict s used ≡ Refused g k → bookVerdict s used today ≡ Refused g k
   unfolding bookVerdict
   block-refused g k e = rw e
 
--- with the header of an accepted book, a book whose blocks are accepted is accepted on the same day
-pub same-header : (s t : List ℕ) (used size : ℕ) (today : Today) → bookVerdict s used today ≡ Accepted → headerOf t ≡ headerOf s → verdict t size ≡ Accepted
-    → bookVerdict t size today ≡ Accepted
-same-header s t used size today h same blocks =
-    let day : headerOf t .day ≡ headerOf s .day = ap (λ (header : Header). header .day) same in
-    accepted-book t size today (record { blocks = blocks; day = rw day (book-accepted s used today h .day) })
-
 -- ---- the days
 
--- the day of an accepted book is the one given
-pub day-given : (s : List ℕ) (used day : ℕ) → bookVerdict s used (Given day) ≡ Accepted → headerOf s .day ≡ day
+-- parts that are accepted on a day are accepted where none is given
+pub none-given : (p : Parts) (today : Today) → partsVerdict p today ≡ Accepted → partsVerdict p NotGiven ≡ Accepted
 unfolding breaksValuationDay
-day-given s used day h = eqb-true (headerOf s .day) day (not-false _ (book-accepted s used (Given day) h .day))
+none-given p today h = refl
 
 module _ (s : List ℕ) (used : ℕ) where
+  -- and so is a book
+  pub accepted-undated : (today : Today) → bookVerdict s used today ≡ Accepted → bookVerdict s used NotGiven ≡ Accepted
+  accepted-undated today h =
+      by-parts s used NotGiven (partsOf s) (book-accepted s used today h .blocks) refl ∙ none-given (partsOf s) today (parts-accepted s used today h)
+
+  -- the day of an accepted book is the one given
+  pub day-given : (day : ℕ) → bookVerdict s used (Given day) ≡ Accepted → headerOf s .day ≡ day
+  unfolding breaksValuationDay
+  day-given day h = eqb-true (headerOf s .day) day (not-false _ (book-accepted s used (Given day) h .day))
+
   -- 19 of any other, block 0
   pub other-day : (day : ℕ) → verdict s used ≡ Accepted → (headerOf s .day ≡ day → ⊥) → bookVerdict s used (Given day) ≡ Refused ValuationDay 0
   unfolding bookVerdict breaksValuationDay
@@ -64,12 +69,3 @@ module _ (s : List ℕ) (used : ℕ) where
   pub own-day : bookVerdict s used (Given (headerOf s .day)) ≡ bookVerdict s used NotGiven
   unfolding bookVerdict breaksValuationDay
   own-day = rw (eq-eqb (headerOf s .day) (headerOf s .day) refl)
-
-  -- and without one by its blocks alone
-  pub no-day : bookVerdict s used NotGiven ≡ verdict s used
-  unfolding bookVerdict breaksValuationDay
-  no-day = go (verdict s used)
-    where
-      go : (v : Verdict) → orElse v Accepted ≡ v
-      go Accepted = refl
-      go (Refused g k) = refl

@@ -7,7 +7,7 @@ use lib.Dec.{eqb}
 use Rattle.ground.specs.declared.Ground.the-variants.{ValuationDay}
 use Rattle.ground.specs.declared.Verdict.{Verdict}
 use Rattle.ground.specs.Verdicts.{orElse, Rule, firstBroken}
-use Rattle.book.specs.Parts.{headerOf}
+use Rattle.book.specs.Parts.{Parts, partsOf}
 use Rattle.book.specs.Verdict.{verdict}
 use Rattle.acceptance.specs.declared.Today.{Today}
 use Rattle.acceptance.specs.declared.Today.the-variants.{Given, NotGiven}
@@ -17,10 +17,13 @@ unfoldable pub breaksValuationDay : ℕ → Today → Bool
 breaksValuationDay day (Given today) = not (eqb day today)
 breaksValuationDay day NotGiven = false
 
--- what is asked of a book as a whole: "all numbers from 17 on answer block 0"
-abbrev pub bookRules : List ℕ → Today → List Rule
-bookRules s today = (breaksValuationDay (headerOf s .day) today, ValuationDay) ∷ []
+-- what is asked of a book as a whole is asked of its parts: "all numbers from 17 on answer block 0"
+abbrev pub bookRules : Parts → Today → List Rule
+bookRules p today = (breaksValuationDay (p .header .day) today, ValuationDay) ∷ []
+
+abbrev pub partsVerdict : Parts → Today → Verdict
+partsVerdict p today = firstBroken 0 (bookRules p today)
 
 -- 19 is "tested after all rules on the book's blocks"
 unfoldable pub bookVerdict : List ℕ → ℕ → Today → Verdict
-bookVerdict s used today = orElse (verdict s used) (firstBroken 0 (bookRules s today))
+bookVerdict s used today = orElse (verdict s used) (partsVerdict (partsOf s) today)

@@ -5,28 +5,28 @@ use Prim.Native.Nat.{ℕ}
 use lib.ListN.{length, take, drop, take-append-drop}
 use Rattle.ground.specs.declared.Verdict.the-variants.{Accepted}
 use Rattle.layout.specs.Bytes.{AreBytes}
-use Rattle.book.specs.Parts.{headerOf, curveCount, curveBlocks, tradeCount, records, WithRecords}
+use Rattle.book.specs.Parts.{Parts, headerOf, curveCount, curveBlocks, tradeCount, records, partsOf}
 use Rattle.book.specs.Verdict.{verdict}
-use Rattle.book.specs.Encode.{encode}
+use Rattle.book.specs.Encode.{bookOf}
 use Rattle.book.proofs.Places.{length-curveBlocks, length-records}
 use Rattle.book.proofs.Accepted.{sound}
-use Rattle.book.proofs.Encoded.{header-encoded, curves-encoded, records-encoded, encoded-accepted}
+use Rattle.book.proofs.Encoded.{parts-encoded, encoded-accepted}
 use Rattle.book.proofs.Canonical.{sound-encodable, sound-acceptable, accepted-encoded, length-accepted}
 
 -- t has the parts of s
 abbrev pub SameBook : List ℕ → List ℕ → Type 0
-SameBook s t = WithRecords s t (records s)
+SameBook s t = partsOf t ≡ partsOf s
 
 module _ (s t : List ℕ) where
-  pub same-curve-count : curveBlocks t ≡ curveBlocks s → curveCount t ≡ curveCount s
-  same-curve-count same = sym (length-curveBlocks t) ∙ ap length same ∙ length-curveBlocks s
+  pub same-curve-count : SameBook s t → curveCount t ≡ curveCount s
+  same-curve-count same = sym (length-curveBlocks t) ∙ ap (λ (p : Parts). length (p .curves)) same ∙ length-curveBlocks s
 
-  pub same-trade-count : records t ≡ records s → tradeCount t ≡ tradeCount s
-  same-trade-count same = sym (length-records t) ∙ ap length same ∙ length-records s
+  pub same-trade-count : SameBook s t → tradeCount t ≡ tradeCount s
+  same-trade-count same = sym (length-records t) ∙ ap (λ (p : Parts). length (p .trades)) same ∙ length-records s
 
   module _ (used : ℕ) (bytes : AreBytes s) (ok : verdict s used ≡ Accepted) (same : take used t ≡ take used s) where
     abbrev book : List ℕ
-    book = encode (headerOf s) (curveBlocks s) (records s)
+    book = bookOf (partsOf s)
 
     abbrev rest : List ℕ
     rest = drop used t
@@ -35,13 +35,7 @@ module _ (s t : List ℕ) where
     lent = sym (take-append-drop used t) ∙ ap (λ (x : List ℕ). x ++ rest) (same ∙ accepted-encoded s used bytes ok)
 
     pub same-book : SameBook s t
-    same-book =
-        let fine = sound-encodable s used bytes (sound s used ok) in
-        record {
-          header = ap headerOf lent ∙ header-encoded (headerOf s) (curveBlocks s) (records s) fine rest;
-          curves = ap curveBlocks lent ∙ curves-encoded (headerOf s) (curveBlocks s) (records s) fine rest;
-          trades = ap records lent ∙ records-encoded (headerOf s) (curveBlocks s) (records s) fine rest;
-        }
+    same-book = ap partsOf lent ∙ parts-encoded (headerOf s) (curveBlocks s) (records s) (sound-encodable s used bytes (sound s used ok)) rest
 
     pub copy-accepted : verdict t used ≡ Accepted
     copy-accepted =

@@ -14,7 +14,7 @@ use Rattle.laws.proofs.Walk.{length-table, getD-table}
 use Rattle.laws.proofs.Tables.{Each, length-flatten, part-flatten, flatten-parts, table-same, table-of, table-by}
 use Rattle.ground.specs.declared.Verdict.the-variants.{Accepted}
 use Rattle.curve_block.specs.Verdict.{curveVerdict}
-use Rattle.book.specs.Parts.{Header, blockAt, headerOf, curveCount, tradeBlocks, curveBlocks, curvesIn, curvesOf, tradeCount, recordAt, records}
+use Rattle.book.specs.Parts.{Header, Parts, blockAt, headerOf, curveCount, tradeBlocks, curveBlocks, curvesIn, curvesOf, tradeCount, recordAt, records, partsOf}
 use Rattle.book.specs.Verdict.{bytesVerdict, blockVerdict, verdict}
 use Rattle.book.specs.Encode.{headerBlock, tradeBlock, blocksFor, recordsOfBlock, tradeBlocksOf, bookBlocks, encode}
 use Rattle.book.proofs.First.{first-of}
@@ -53,7 +53,7 @@ module _ (rs : List (List ℕ)) (j : ℕ) where
 -- ---- the blocks
 
 -- the header, a curve's block, a block of trades: there is no other
-each-block : (c t : ℕ) (P : ℕ → Type 0) → P 0 → ((k : ℕ) → k < c → P (1 + k)) → ((j : ℕ) → j < t → P (1 + c + j)) → (k : ℕ) → k < 1 + c + t → P k
+pub each-block : (c t : ℕ) (P : ℕ → Type 0) → P 0 → ((k : ℕ) → k < c → P (1 + k)) → ((j : ℕ) → j < t → P (1 + c + j)) → (k : ℕ) → k < 1 + c + t → P k
 each-block c t P head curve trade zero l = head
 each-block c t P head curve trade (suc k) l = go (decLe c k)
   where
@@ -199,6 +199,9 @@ module _ (header : Header) (cs rs : List (List ℕ)) (fine : Encodable header cs
         (table-same (recordAt s) (λ (i : ℕ). getD rs i []) 0 0 (length rs)
         (λ i l. let e : 0 + i ≡ i = zero-add i in rw e (record-at-encoded i l))
         ∙ table-of rs [])
+
+    pub parts-encoded : partsOf s ≡ record { header = header; curves = cs; trades = rs }
+    parts-encoded = rw (header-encoded, curves-encoded, records-encoded)
 
     -- ---- the verdict
 

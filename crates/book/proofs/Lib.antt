@@ -7,6 +7,7 @@ pub mod Laid
 pub mod HeaderBlock
 pub mod TradeBlock
 pub mod Encoded
+pub mod EncodedBytes
 pub mod Canonical
 pub mod Replaced
 pub mod Copied

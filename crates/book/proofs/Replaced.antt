@@ -1,12 +1,13 @@
 -- A book with one curve block replaced by another of the same currency that breaks nothing: it is accepted, and the rest of it is as it was.
-use mathlib.Core.Path.{_≡_, sym, _∙_}
+use mathlib.Core.Path.{_≡_, sym, ap, _∙_}
 use mathlib.Core.Logic.{inl}
 use mathlib.Core.List.{List, []}
 use Prim.Native.Nat.{ℕ, _+_, _-_, _*_, _/_, _≤_, _<_}
 use native.Mathlib.Nat.{zero-add}
 use native.Mathlib.Decide.{ℕ-discrete, decLt}
 use native.Mathlib.Omega.{arith}
-use lib.ListN.{length, getD}
+use lib.ListN.{length, getD, set, length-set}
+use lib.Seq.{ext-getD, getD-set-same, getD-set-other}
 use Rattle.laws.proofs.Tables.{table-same}
 use Rattle.ground.specs.declared.Verdict.the-variants.{Accepted}
 use Rattle.layout.specs.Bytes.{put}
@@ -15,7 +16,8 @@ use Rattle.layout.proofs.Bytes.{length-put}
 use Rattle.layout.proofs.Field.{field-apart}
 use Rattle.curve_block.specs.Parts.{currencyOf}
 use Rattle.curve_block.specs.Verdict.{curveVerdict}
-use Rattle.book.specs.Parts.{blockAt, headerOf, curveCount, tradeBlocks, curveBlocks, curvesIn, curvesOf, tradeCount, recordAt, records}
+use Rattle.book.specs.Parts.{blockAt, headerOf, curveCount, tradeBlocks, curveBlocks, curvesIn, curvesOf, tradeCount, recordAt, records, partsOf}
+use Rattle.book.specs.Edited.{withCurve}
 use Rattle.book.specs.Verdict.{blockVerdict, verdict}
 use Rattle.book.proofs.First.{first-of}
 use Rattle.book.proofs.Places.{length-curveBlocks, curve-block, no-curve-block, no-trades, last-trades, block-put, block-apart}
@@ -25,9 +27,7 @@ use Rattle.book.proofs.Accepted.{Sound, length-passed, block-passed, so
 -- t is s with b for curve block k
 pub record Replaced (s t : List ℕ) (used k : ℕ) (b : List ℕ) : Type 0 where
   pub accepted : verdict t used ≡ Accepted
-  pub header : headerOf t ≡ headerOf s
-  pub curves : curvesOf t ≡ curvesOf s
-  pub trades : records t ≡ records s
+  pub parts : partsOf t ≡ withCurve (partsOf s) k b
   pub block : blockAt t k ≡ b
   pub others : (j : ℕ) → j * 512 < used → (j ≡ k → ⊥) → blockAt t j ≡ blockAt s j
 
@@ -68,6 +68,24 @@ module _ (s : List ℕ) (used k : ℕ) (b : List ℕ) (fine : Replaceable s used
 
   trade-blocks-same : tradeBlocks t ≡ tradeBlocks s
   trade-blocks-same = head-field 2 10 (omega arith)
+
+  -- ---- the curves
+
+  blocks-same : curveBlocks t ≡ set (curveBlocks s) (k - 1) b
+  blocks-same =
+      let n = length-curveBlocks s in
+      ext-getD [] (curveBlocks t) (set (curveBlocks s) (k - 1) b) (length-curveBlocks t ∙ curves-same ∙ sym n ∙ sym (length-set (curveBlocks s) (k - 1) b))
+      (λ j l. go j (omega (arith, length-curveBlocks t, curves-same)) (ℕ-discrete j (k - 1)))
+    where
+      go : (j : ℕ) → j < curveCount s → Dec (j ≡ k - 1) → getD (curveBlocks t) j [] ≡ getD (set (curveBlocks s) (k - 1) b) j []
+      go j l (yes e) =
+          let place : 1 + j ≡ k = omega (arith, fine .first) in
+          let n = length-curveBlocks s in
+          curve-block t j (omega (arith, curves-same)) ∙ ap (blockAt t) place ∙ at-curve
+          ∙ sym (rw e (getD-set-same (curveBlocks s) (k - 1) b [] (omega (arith, fine .first, fine .last))))
+      go j l (no e) =
+          curve-block t j (omega (arith, curves-same)) ∙ elsewhere (1 + j) (omega arith) (λ f. e (omega arith)) ∙ sym (curve-block s j l)
+          ∙ sym (getD-set-other (curveBlocks s) (k - 1) j b [] (λ f. e (omega arith)))
 
   -- ---- the currencies
 
@@ -127,9 +145,7 @@ module _ (s : List ℕ) (used k : ℕ) (b : List ℕ) (fine : Replaceable s used
         accepted =
             verdict-blocks t used (rw length-put (length-passed s used (fine .book) .0))
             ∙ first-of (blockVerdict t (used / 512)) 0 (used / 512) (λ j l m. block-accepted j (omega arith) (ℕ-discrete j k));
-        header = rw (head-field 4 4 (omega arith), head-field 4 12 (omega arith));
-        curves = currencies-same;
-        trades = records-same;
+        parts = rw (head-field 4 4 (omega arith), head-field 4 12 (omega arith), blocks-same, records-same);
         block = at-curve;
         others = λ j l e. elsewhere j (omega (arith, held .blocks)) e;
       }

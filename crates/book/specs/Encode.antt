@@ -6,7 +6,7 @@ use lib.ListN.{length, take, drop, replicate}
 use Rattle.laws.specs.Walk.{table}
 use Rattle.layout.specs.Field.{bytesOf}
 use Rattle.layout.specs.Check.{sealed}
-use Rattle.book.specs.Parts.{Header}
+use Rattle.book.specs.Parts.{Header, Parts}
 
 -- "Byte 0 is the kind, 2-3 the block number"; byte 1 is the count of a block of trades; from 4 stands what the kind names, and "Bytes that
 -- no layout names are 0" up to the check
@@ -47,3 +47,6 @@ bookBlocks header curves records =
 -- one behind the other
 unfoldable pub encode : Header → List (List ℕ) → List (List ℕ) → List ℕ
 encode header curves records = flatten (bookBlocks header curves records)
+
+abbrev pub bookOf : Parts → List ℕ
+bookOf p = encode (p .header) (p .curves) (p .trades)

@@ -1,6 +1,5 @@
 -- What a book holds (document 01, "Blocks of the book"): bytes as a list, in which the book stands first.
 use Prim.Native.Nat.{ℕ, _+_, _-_, _*_, _/_, _%_}
-use mathlib.Core.Path.{_≡_}
 use mathlib.Core.Bool.{cond}
 use mathlib.Core.List.{List, []}
 use lib.Dec.{eqb}
@@ -71,10 +70,13 @@ recordAt s i = recordIn (blockAt s (1 + curveCount s + i / 9)) (i % 9)
 unfoldable pub records : List ℕ → List (List ℕ)
 records s = table (recordAt s) 0 (tradeCount s)
 
--- ---- a book beside another
+-- ---- the parts together
 
--- t has the header and the curves of s, and these records
-pub record WithRecords (s t : List ℕ) (rs : List (List ℕ)) : Type 0 where
-  pub header : headerOf t ≡ headerOf s
-  pub curves : curveBlocks t ≡ curveBlocks s
-  pub trades : records t ≡ rs
+-- a header, curve blocks and records: what is asked of a book as a whole, and what an edit changes, is said of these
+pub record Parts : Type 0 where
+  pub header : Header
+  pub curves : List (List ℕ)
+  pub trades : List (List ℕ)
+
+abbrev pub partsOf : List ℕ → Parts
+partsOf s = record { header = headerOf s; curves = curveBlocks s; trades = records s }

@@ -1,6 +1,6 @@
 -- What holds after a bootstrap: the book is accepted, with the node and no other change; and a refusal writes nothing. That the rate is the
 -- smallest is `smallest-found` of Added.antt.
-use mathlib.Core.Path.{_≡_}
+use mathlib.Core.Path.{_≡_, _∙_}
 use mathlib.Core.List.{List}
 use Prim.Native.Nat.{ℕ, _*_}
 use Rattle.ground.specs.declared.Ground.{Ground}
@@ -11,10 +11,11 @@ use Rattle.curve_edit.proofs.Lengthened.{length-with-node, verdict-with-node, c
 use Rattle.book.specs.Parts.{blockAt}
 use Rattle.book.proofs.Replaced.{Replaced, replaced}
 use Rattle.acceptance.specs.declared.Today.the-variants.{Given}
-use Rattle.acceptance.proofs.Laws.{same-header}
+use Rattle.acceptance.specs.Verdict.{partsVerdict}
+use Rattle.acceptance.proofs.Laws.{by-parts, parts-accepted}
 use Rattle.bootstrap.specs.declared.Quote.{Quote}
 use Rattle.bootstrap.specs.Refusals.{curveAt, bootstrapVerdict}
-use Rattle.bootstrap.specs.Bootstrap.{newNode, bootstrapped, Extended}
+use Rattle.bootstrap.specs.Bootstrap.{newNode, bootstrapped, extendedParts, Extended}
 use Rattle.bootstrap.proofs.Added.{accepted-on-day, blocks-accepted, id, addable}
 
 -- a refusal leaves every lent byte
@@ -46,6 +47,10 @@ module _ (s : List ℕ) (used day : ℕ) (q : Quote) (bytes : AreBytes s) (h : b
         currency = currency-with-node n b;
       })
 
+  -- what is asked of the book as a whole holds with the node
+  longer-accepted : partsVerdict (extendedParts s q) (Given day) ≡ verdict.Accepted
+  longer-accepted = parts-accepted s used (Given day) (accepted-on-day s used day q h)
+
   -- the book after it: accepted, and as it was but for the node
   pub book-extended : Extended s (bootstrapped s used day q) used day q
   book-extended =
@@ -54,9 +59,8 @@ module _ (s : List ℕ) (used day : ℕ) (q : Quote) (bytes : AreBytes s) (h : b
       let n = newNode (curveAt s (q .curve)) q in
       rw is-put
       (record {
-        accepted = same-header s (put s (q .curve * 512) block) used used (Given day) (accepted-on-day s used day q h) (r .header) (r .accepted);
-        header = r .header;
-        trades = r .trades;
+        accepted = by-parts (put s (q .curve * 512) block) used (Given day) (extendedParts s q) (r .accepted) (r .parts) ∙ longer-accepted;
+        parts = r .parts;
         others = r .others;
         currency = rw (r .block) (currency-with-node n b);
         components = rw (r .block) (components-with-node n b);

@@ -13,7 +13,8 @@ use Rattle.curve.specs.Lengthen.{atRate}
 use Rattle.curve.specs.Rates.{nodesOf}
 use Rattle.curve_block.specs.Parts.{currencyOf, componentsOf}
 use Rattle.curve_edit.specs.Lengthen.{withNode}
-use Rattle.book.specs.Parts.{blockAt, headerOf, records}
+use Rattle.book.specs.Parts.{Parts, blockAt, partsOf}
+use Rattle.book.specs.Edited.{withCurve}
 use Rattle.acceptance.specs.declared.Today.the-variants.{Given}
 use Rattle.acceptance.specs.Verdict.{bookVerdict}
 use Rattle.bond.specs.Value.{bondValueAt, rateFor}
@@ -49,11 +50,14 @@ pub record SmallestRate (c : Curve) (q : Quote) : Type 0 where
   pub enough : valueWith c q (newNode c q .rate) ≤ q .cash
   pub above : (rate : ℕ) → rate < newNode c q .rate → q .cash < valueWith c q rate
 
+-- the parts of the book, its curve's block with the node
+abbrev pub extendedParts : List ℕ → Quote → Parts
+extendedParts s q = withCurve (partsOf s) (q .curve) (withNode (newNode (curveAt s (q .curve)) q) (blockAt s (q .curve)))
+
 -- t is the book s with the node and no other change
 pub record Extended (s t : List ℕ) (used day : ℕ) (q : Quote) : Type 0 where
   pub accepted : bookVerdict t used (Given day) ≡ verdict.Accepted
-  pub header : headerOf t ≡ headerOf s
-  pub trades : records t ≡ records s
+  pub parts : partsOf t ≡ extendedParts s q
   pub others : (k : ℕ) → k * 512 < used → (k ≡ q .curve → ⊥) → blockAt t k ≡ blockAt s k
   pub currency : currencyOf (blockAt t (q .curve)) ≡ currencyOf (blockAt s (q .curve))
   pub components : componentsOf (blockAt t (q .curve)) ≡ componentsOf (blockAt s (q .curve))

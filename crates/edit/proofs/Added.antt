@@ -14,7 +14,7 @@ use Rattle.layout.proofs.Bytes.{length-put, byte-apart, drop-kept}
 use Rattle.book.specs.Parts.{blockAt, headerOf, curveCount, tradeBlocks, tradeCount, records}
 use Rattle.book.specs.Verdict.{verdict}
 use Rattle.book.specs.Encode.{headerBlock, tradeBlock, blocksFor, recordsOfBlock}
-use Rattle.book.proofs.Places.{head-fields, head-curves, block-put, block-apart}
+use Rattle.book.proofs.Places.{head-fields, head-curves, curve-block, block-put, block-apart}
 use Rattle.book.proofs.Accepted.{sound, length-blockAt}
 use Rattle.book.proofs.HeaderBlock.{bytes-part, header-recounted}
 use Rattle.book.proofs.TradeBlock.{Holds}
@@ -95,7 +95,7 @@ module _ (s : List ℕ) (used : ℕ) (bytes : AreBytes s) (ok : verdict s used �
   appended-by t same fits head others last behind =
       let count : blocksFor (length (rs ++ r ∷ [])) ≡ u + 1 = omega (arith, length-one-more rs r, z .trade-count) in
       let n : (1 + c + (u + 1)) * 512 ≡ k * 512 + 512 = omega arith in
-      let all = relaid s (rs ++ r ∷ []) t (drop (k * 512 + 512) s) (rw count head) (λ i l. others (1 + i) (omega arith) (omega arith)) (λ j l. trade j (rw count at l) (decLt j u))
+      let all = relaid s (rs ++ r ∷ []) t (drop (k * 512 + 512) s) (rw count head) (λ i l. others (1 + i) (omega arith) (omega arith) ∙ sym (curve-block s i l)) (λ j l. trade j (rw count at l) (decLt j u))
       (rw (count, n) (drop-kept t s (k * 512 + 512) same behind)) in
       let size : k * 512 + 512 ≡ length (appendedBook s r) = omega (arith, ap length all, length-append (appendedBook s r) (drop (k * 512 + 512) s), length-drop (k * 512 + 512) s) in
       (size, all ∙ ap (λ (m : ℕ). appendedBook s r ++ drop m s) size)

@@ -13,17 +13,18 @@ use Rattle.laws.proofs.Tables.{Each}
 use Rattle.ground.specs.declared.Verdict.the-variants.{Accepted}
 use Rattle.layout.specs.Bytes.{byteAt, part, AreBytes}
 use Rattle.layout.proofs.Bytes.{length-part, byte-part, part-same, part-kept, drop-kept, part-part, zeros-at, zeros-of, zeros-part}
-use Rattle.book.specs.Parts.{blockAt, recordPlace, recordIn, headerOf, curveCount, tradeCount, recordAt, records}
+use Rattle.book.specs.Parts.{Parts, blockAt, recordPlace, recordIn, headerOf, curveCount, tradeCount, recordAt, records, partsOf}
 use Rattle.book.specs.Verdict.{verdict}
-use Rattle.book.specs.Encode.{headerBlock, tradeBlock, blocksFor, recordsOfBlock}
-use Rattle.book.proofs.Places.{head-curves, record-of}
+use Rattle.book.specs.Encode.{headerBlock, tradeBlock, blocksFor, recordsOfBlock, bookOf}
+use Rattle.book.specs.Edited.{without, struckParts}
+use Rattle.book.proofs.Places.{head-curves, curve-block, record-of}
 use Rattle.book.proofs.Accepted.{sound}
 use Rattle.book.proofs.TradeBlock.{Holds, sealed-trades}
 use Rattle.book.proofs.Encoded.{length-nine, nine-at}
 use Rattle.book.proofs.Canonical.{trade-block}
 use Rattle.trade_edit.specs.Blocks.{placeOf, recordMoved, endOf, cutBack, blockSealed}
 use Rattle.trade_edit.proofs.StepLaws.{places-apart, length-moves, moves-apart, moves-moved, length-cutBack, end-within, CutRead, cut-read, length-seals, seals-apart, seals-sealed}
-use Rattle.edit.specs.Edits.{bookOf, without, struckBook}
+use Rattle.edit.specs.Edits.{struckBook}
 use Rattle.edit.proofs.Books.{Sized, sized, trades-held, relaid}
 use Rattle.edit.proofs.Added.{nine-full, nine-last, header-counted}
 
@@ -315,6 +316,9 @@ module _ (s : List ℕ) (used : ℕ) (bytes : AreBytes s) (ok : verdict s used �
       sym (take-append-drop (used - n) (drop n done))
       ∙ rw (zero, drop-drop (used - n) n done, most, drop-kept done s used length-done (λ m h. seal-apart m (inr (omega arith)) ∙ outside m (omega (arith, last-block)) (inr h)))
 
+  abbrev left-parts : Parts
+  left-parts = struckParts (partsOf s) p
+
   pub struck-lent : (to * 512 ≡ length (struckBook s p)) × (done ≡ struckBook s p ++ replicate (used - length (struckBook s p)) 0 ++ drop used s)
   unfolding struckBook
   struck-lent =
@@ -322,8 +326,8 @@ module _ (s : List ℕ) (used : ℕ) (bytes : AreBytes s) (ok : verdict s used �
       part-kept done cut 0 512 (length-seals from (to - from) cut) (λ m b l. seal-apart m (inl (omega arith)))
       ∙ read .header
       ∙ rw first-kept (header-counted s used bytes ok (blocksFor left) (omega (arith, z .limit, last-block))) in
-      let all : done ≡ bookOf s fewer ++ rest =
-      relaid s fewer done rest (rw length-fewer head) (λ k l. block-before (1 + k) (omega arith) (omega arith)) (rw length-fewer trade-sealed) (rw length-fewer behind) in
-      let size : to * 512 ≡ length (bookOf s fewer) =
-      omega (arith, ap length all, length-done, last-block, z .lent, length-append (bookOf s fewer) rest, length-append (replicate (used - to * 512) 0) (drop used s), length-replicate {A = ℕ} (used - to * 512) 0, length-drop used s) in
-      (size, all ∙ rw size (sym (append-assoc (bookOf s fewer) (replicate (used - length (bookOf s fewer)) 0) (drop used s))))
+      let all : done ≡ bookOf left-parts ++ rest =
+      relaid s fewer done rest (rw length-fewer head) (λ k l. block-before (1 + k) (omega arith) (omega arith) ∙ sym (curve-block s k l)) (rw length-fewer trade-sealed) (rw length-fewer behind) in
+      let size : to * 512 ≡ length (bookOf left-parts) =
+      omega (arith, ap length all, length-done, last-block, z .lent, length-append (bookOf left-parts) rest, length-append (replicate (used - to * 512) 0) (drop used s), length-replicate {A = ℕ} (used - to * 512) 0, length-drop used s) in
+      (size, all ∙ rw size (sym (append-assoc (bookOf left-parts) (replicate (used - length (bookOf left-parts)) 0) (drop used s))))

@@ -26,12 +26,16 @@ pub record HasTrade (s : List ℕ) (used position : ℕ) : Type 0 where
   pub accepted : verdict s used ≡ Accepted
   pub in-book : position < tradeCount s
 
+pub position-book : (s : List ℕ) (used : ℕ) (today : Today) (position : ℕ) → positionVerdict s used today position ≡ Accepted → bookVerdict s used today ≡ Accepted
+unfolding positionVerdict
+position-book s used today position h = orElse-accepted (bookVerdict s used today) _ h .0
+
 pub has-trade : (s : List ℕ) (used : ℕ) (today : Today) (position : ℕ) → positionVerdict s used today position ≡ Accepted → HasTrade s used position
 unfolding positionVerdict breaksPosition
 has-trade s used today position h =
     let p = orElse-accepted (bookVerdict s used today) _ h in
     let q = unless-accepted (breaksPosition s position) Position 0 Accepted (p .1) in
-    record { accepted = book-accepted s used today (p .0) .blocks; in-book = ltb-true position (tradeCount s) (not-false _ (q .0)) }
+    record { accepted = book-accepted s used today (position-book s used today position h) .blocks; in-book = ltb-true position (tradeCount s) (not-false _ (q .0)) }
 
 pub record Admitted (s : List ℕ) (used : ℕ) (r : List ℕ) : Type 0 where
   pub accepted : verdict s used ≡ Accepted

@@ -14,7 +14,7 @@ use Rattle.book.specs.Verdict.{verdict}
 use Rattle.book.specs.Encode.{blocksFor}
 use Rattle.book.proofs.Encoded.{Encodable}
 use Rattle.edit.specs.Refusals.{breaksBookSpace}
-use Rattle.edit.specs.Edits.{without}
+use Rattle.book.specs.Edited.{without}
 use Rattle.edit.proofs.Books.{sized, encodable}
 use Rattle.edit.proofs.Added.{length-one-more, each-more}
 use Rattle.edit.proofs.Fewer.{length-without, each-without}

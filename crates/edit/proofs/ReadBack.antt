@@ -45,7 +45,7 @@ trade-reads-back s used day t w =
 
 -- ---- an accepted record rewritten
 
-bytes-recordAt : (s : List ℕ) (i : ℕ) → AreBytes s → AreBytes (recordAt s i)
+pub bytes-recordAt : (s : List ℕ) (i : ℕ) → AreBytes s → AreBytes (recordAt s i)
 unfolding recordAt
 bytes-recordAt s i bytes =
     let k = 1 + curveCount s + i / 9 in

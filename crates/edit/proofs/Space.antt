@@ -22,7 +22,7 @@ use Rattle.record.specs.declared.Curves.{Curves}
 use Rattle.record.specs.declared.Fields.{Fields}
 use Rattle.record.specs.Bytes.{fieldsOf}
 use Rattle.flows.specs.Verdict.{recordRules, recordVerdict}
-use Rattle.book.specs.Parts.{blockAt, curveCount, curvesOf, recordCount, recordIn, tradeCount}
+use Rattle.book.specs.Parts.{blockAt, curveCount, curvesOf, recordCount, recordIn, tradeCount, partsOf}
 use Rattle.book.specs.Rules.{breaksLength}
 use Rattle.book.specs.Verdict.{firstOf, bytesVerdict, headerRules, headerVerdict, recordsVerdict, tradesRules, tradesVerdict, blockVerdict, verdict}
 use Rattle.acceptance.specs.declared.Today.{Today}
@@ -108,7 +108,7 @@ verdict-tested s used = unless-tested (breaksLength used (length s)) Length 0 _ 
 -- the whole-book check never answers 15
 book-tested : (s : List ℕ) (used : ℕ) (today : Today) → Tested (bookVerdict s used today)
 unfolding bookVerdict others
-book-tested s used today = orElse-tested (verdict s used) _ (verdict-tested s used) (rules-tested 0 (bookRules s today) refl)
+book-tested s used today = orElse-tested (verdict s used) _ (verdict-tested s used) (rules-tested 0 (bookRules (partsOf s) today) refl)
 
 -- ---- 15
 

@@ -1,14 +1,16 @@
 -- What a read, an append and a strike answer, and every lent byte afterwards (document 01, "Editing and smaller entries").
-use Prim.Native.Nat.{ℕ, _+_, _-_}
-use mathlib.Core.List.{List, [], _∷_, _++_}
-use lib.ListN.{length, take, drop, replicate}
+use Prim.Native.Nat.{ℕ, _-_}
+use mathlib.Core.Path.{_≡_}
+use mathlib.Core.List.{List, _++_}
+use lib.ListN.{length, drop, replicate}
 use Rattle.ground.specs.declared.Verdict.{Verdict}
 use Rattle.ground.specs.declared.Verdict.the-variants as verdict
 use Rattle.ground.specs.declared.Written.{Written}
 use Rattle.ground.specs.declared.Written.the-variants.{Length, Refused}
 use Rattle.ground.specs.Verdicts.{bytesAfter, writtenOf}
-use Rattle.book.specs.Parts.{headerOf, curveBlocks, recordAt, records, WithRecords}
-use Rattle.book.specs.Encode.{encode}
+use Rattle.book.specs.Parts.{recordAt, partsOf}
+use Rattle.book.specs.Encode.{bookOf}
+use Rattle.book.specs.Edited.{appendedParts, struckParts}
 use Rattle.acceptance.specs.declared.Today.the-variants.{Given, NotGiven}
 use Rattle.edit.specs.declared.Found.{Found}
 use Rattle.edit.specs.Refusals.{positionVerdict, appendVerdict}
@@ -17,10 +19,6 @@ use Rattle.edit.specs.Refusals.{positionVerdict, appendVerdict}
 abbrev pub usedAfter : Written → ℕ → ℕ
 usedAfter (Length n) used = n
 usedAfter (Refused g k) used = used
-
--- the book with other records
-abbrev pub bookOf : List ℕ → List (List ℕ) → List ℕ
-bookOf s records = encode (headerOf s) (curveBlocks s) records
 
 -- ---- read
 
@@ -38,7 +36,7 @@ found s used position =
 
 -- "Append adds a record behind the last"
 unfoldable pub appendedBook : List ℕ → List ℕ → List ℕ
-appendedBook s r = bookOf s (records s ++ r ∷ [])
+appendedBook s r = bookOf (appendedParts (partsOf s) r)
 
 unfoldable pub appendAnswer : List ℕ → ℕ → ℕ → List ℕ → Written
 appendAnswer s used day r = writtenOf (appendVerdict s used day r) (length (appendedBook s r))
@@ -53,16 +51,13 @@ appended s used day r = bytesAfter (appendVerdict s used day r) s (appendedBook 
 
 -- the book after it: as it was, and the record behind the others
 abbrev pub BookAppended : List ℕ → List ℕ → List ℕ → Type 0
-BookAppended s t r = WithRecords s t (records s ++ r ∷ [])
+BookAppended s t r = partsOf t ≡ appendedParts (partsOf s) r
 
 -- ---- strike
 
-abbrev pub without : List (List ℕ) → ℕ → List (List ℕ)
-without rs position = take position rs ++ drop (position + 1) rs
-
 -- "Strike closes the gap"
 unfoldable pub struckBook : List ℕ → ℕ → List ℕ
-struckBook s position = bookOf s (without (records s) position)
+struckBook s position = bookOf (struckParts (partsOf s) position)
 
 unfoldable pub strikeAnswer : List ℕ → ℕ → ℕ → ℕ → Written
 strikeAnswer s used day position = writtenOf (positionVerdict s used (Given day) position) (length (struckBook s position))
@@ -73,7 +68,7 @@ usedStruck s used day position = usedAfter (strikeAnswer s used day position) us
 
 -- the book after it: as it was, but for the record
 abbrev pub BookStruck : List ℕ → List ℕ → ℕ → Type 0
-BookStruck s t position = WithRecords s t (without (records s) position)
+BookStruck s t position = partsOf t ≡ struckParts (partsOf s) position
 
 -- "a block left empty becomes zeros and the used length falls by 512"; bytes behind the book stay
 unfoldable pub struck : List ℕ → ℕ → ℕ → ℕ → List ℕ

@@ -8,21 +8,21 @@ use Rattle.laws.proofs.Tables.{table-same}
 use Rattle.record.specs.Bytes.{fieldsOf}
 use Rattle.trade.specs.Read.{tradeOf}
 use Rattle.flows.specs.Legs.{flowsOf}
-use Rattle.book.specs.Parts.{blockAt, curveCount, tradeCount, recordAt}
+use Rattle.book.specs.Parts.{Parts, blockAt, curveCount, tradeCount, recordAt}
 use Rattle.book.proofs.Places.{curve-block, record-of}
 use Rattle.book.proofs.Copied.{SameBook, same-curve-count, same-trade-count}
 use Rattle.exposure.specs.Exposures.{tradeAt, flowsUpTo, flowsIn, exposureAt, exposures}
 
 module _ (s t : List ℕ) (same : SameBook s t) where
   curves-same : curveCount t ≡ curveCount s
-  curves-same = same-curve-count s t (same .curves)
+  curves-same = same-curve-count s t same
 
   trades-same : tradeCount t ≡ tradeCount s
-  trades-same = same-trade-count s t (same .trades)
+  trades-same = same-trade-count s t same
 
   trade-same : (i : ℕ) → i < tradeCount s → tradeAt t i ≡ tradeAt s i
   trade-same i l =
-      let read : recordAt t i ≡ recordAt s i = sym (record-of t i (omega (arith, trades-same))) ∙ ap (λ (rs : List (List ℕ)). getD rs i []) (same .trades) ∙ record-of s i l in
+      let read : recordAt t i ≡ recordAt s i = sym (record-of t i (omega (arith, trades-same))) ∙ ap (λ (p : Parts). getD (p .trades) i []) same ∙ record-of s i l in
       ap (λ (r : List ℕ). tradeOf (fieldsOf r)) read
 
   flows-same : flowsIn t ≡ flowsIn s
@@ -32,7 +32,7 @@ module _ (s t : List ℕ) (same : SameBook s t) where
       (ap (flatMap flowsOf) (table-same (tradeAt t) (tradeAt s) 0 0 (tradeCount s) (λ i l. trade-same (0 + i) (omega arith))))
 
   block-same : (k : ℕ) → k < curveCount s → blockAt t (1 + k) ≡ blockAt s (1 + k)
-  block-same k l = sym (curve-block t k (omega (arith, curves-same))) ∙ ap (λ (bs : List (List ℕ)). getD bs k []) (same .curves) ∙ curve-block s k l
+  block-same k l = sym (curve-block t k (omega (arith, curves-same))) ∙ ap (λ (p : Parts). getD (p .curves) k []) same ∙ curve-block s k l
 
   exposure-same : (k : ℕ) → k < curveCount s → exposureAt t (1 + k) ≡ exposureAt s (1 + k)
   unfolding exposureAt

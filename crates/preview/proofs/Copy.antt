@@ -63,13 +63,7 @@ module _ (room : List ℕ) (wide : length room ≡ 65536) (s : List ℕ) (used :
         module _ (day : ℕ) (ok : appendVerdict s used day r ≡ Accepted) where
           same-margins : marginIn u ≡ marginIn (appended s used day r)
           same-margins =
-              let a = book-appended s used bytes r long day ok in
-              let b = with-record s used bytes r long w rest in
-              same-margin (appended s used day r) u (rw added-is (record {
-                header = b .header ∙ sym (a .header);
-                curves = b .curves ∙ sym (a .curves);
-                trades = b .trades ∙ sym (a .trades);
-              }))
+              same-margin (appended s used day r) u (rw added-is (with-record s used bytes r long w rest ∙ sym (book-appended s used bytes r long day ok)))
 
           pub copy-shown : (out : List ℕ) {v : Verdict} {after : List ℕ} → v ≡ reportVerdict (length out) → after ≡ bytesAfter (reportVerdict (length out)) out (reported u out)
               → (v ≡ previewVerdict s used day r (length out)) × (after ≡ previewBytes s used day r out)

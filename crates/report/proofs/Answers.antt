@@ -10,7 +10,7 @@ use Rattle.ground.specs.declared.Ground.the-variants.{ReportSpace}
 use Rattle.ground.specs.declared.Verdict.the-variants.{Accepted, Refused}
 use Rattle.ground.specs.Verdicts.{bytesAfter}
 use Rattle.ground.specs.Space.{breaksSpace}
-use Rattle.book.specs.Parts.{Header}
+use Rattle.book.specs.Parts.{Parts}
 use Rattle.book.proofs.Copied.{SameBook}
 use Rattle.margin.specs.declared.Margin.{Margin}
 use Rattle.report_block.specs.Report.{reportBytes}
@@ -52,7 +52,7 @@ module _ (s : List ℕ) (used day : ℕ) (out : List ℕ) where
 -- the same margin
 pub same-margin : (s t : List ℕ) → SameBook s t → marginIn t ≡ marginIn s
 unfolding marginIn
-same-margin s t same = rw (ap (λ (h : Header). h .account) (same .header), same-exposures s t same)
+same-margin s t same = rw (ap (λ (p : Parts). p .header .account) same, same-exposures s t same)
 
 -- and so the same answer and bytes, whatever their used lengths
 pub same-report : (s t : List ℕ) (used n day : ℕ) (out : List ℕ) → bookVerdict s used (Given day) ≡ Accepted → bookVerdict t n (Given day) ≡ Accepted → SameBook s t
