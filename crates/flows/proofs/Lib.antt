@@ -7,4 +7,3 @@ pub mod Accepted
 pub mod Bounded
 pub mod Figures
 pub mod Rewritten
-pub mod Earlier

@@ -5,4 +5,3 @@ pub mod Counted
 pub mod Capped
 pub mod Limits
 pub mod Verdict
-pub mod Earlier

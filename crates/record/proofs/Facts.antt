@@ -77,7 +77,7 @@ pub record DaysKept (f : Form) (d : Days) : Type 0 where
 
 -- a repo's two cases
 module _ (d : Days) where
-  pub ahead-tests : legsAhead d ≡ true → (InLimits 1 (d .term) 730) × ((d .day1 < d .day2) × (d .day2 ≤ lastDay))
+  ahead-tests : legsAhead d ≡ true → (InLimits 1 (d .term) 730) × ((d .day1 < d .day2) × (d .day2 ≤ lastDay))
   ahead-tests h =
       let p = four (inLimits 1 (d .term) 730) (ltb (d .day1) (d .day2)) (eqb (d .day2 - d .day1) (d .term)) (inReach (d .day2)) h in
       (in-limits 1 (d .term) 730 (p .0), (ltb-true (d .day1) (d .day2) (p .1 .0), leb-true (d .day2) lastDay (p .1 .1 .1)))

@@ -64,15 +64,11 @@ countsFit period payments = inLimits 1 period 366 && inLimits 1 payments 120
 abbrev pub couponDaysFit : ℕ → ℕ → ℕ → Bool
 couponDaysFit first period payments = countsFit period payments && inReach (lastPaymentDay first period payments)
 
--- all days, given whether that of the first payment fits
-abbrev pub daysFit : Bool → Form → Days → Bool
-daysFit first f d =
-    valueDaysFit f d
-    && asked (hasSecurity (f .security)) first
-    && asked (hasCoupons (f .security)) (couponDaysFit (d .first) (d .period) (d .payments))
-
 unfoldable pub breaksDays : Form → Days → Bool
-breaksDays f d = not (daysFit (firstPaymentFits f d) f d)
+breaksDays f d = not (
+    valueDaysFit f d
+    && asked (hasSecurity (f .security)) (firstPaymentFits f d)
+    && asked (hasCoupons (f .security)) (couponDaysFit (d .first) (d .period) (d .payments)))
 
 -- ---- 10. An amount, price, rate, coupon, accrued or index is wrong, or a field due to be 0 (days, and bytes 6-7, included) is not.
 

@@ -2,4 +2,3 @@ pub mod Placed
 pub mod Figures
 pub mod Answers
 pub mod Demand
-pub mod Earlier
