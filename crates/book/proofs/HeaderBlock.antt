@@ -2,19 +2,21 @@
 use mathlib.Core.Path.{_≡_, refl, sym, _∙_}
 use mathlib.Core.Logic.{_⊎_, inl, inr}
 use mathlib.Core.Bool.{true}
-use mathlib.Core.List.{List, [], _++_, append-assoc, append-nil}
+use mathlib.Core.List.{List}
 use Prim.Native.Nat.{ℕ, _+_, _^_, _≤_, _<_}
 use native.Mathlib.Decide.{decLt}
 use native.Mathlib.Omega.{arith}
-use lib.ListN.{length, length-append, length-take, List·getD-eq-default}
+use lib.ListN.{length, take, length-take, List·getD-eq-default}
 use Rattle.layout.specs.Bytes.{byteAt, part, put, zeros, AreBytes}
 use Rattle.layout.specs.Field.{numberAt, u16At, bytesOf}
+use Rattle.layout.specs.Row.{Field, Fits, fieldIn, rowBytes, widthOf}
 use Rattle.layout.specs.Check.{sealed}
-use Rattle.layout.proofs.Bytes.{length-put, byte-apart, bytes-put, byte-part, part-add, zeros-at, zeros-of}
-use Rattle.layout.proofs.Field.{field-bound, field-front, field-behind, field-part, length-bytes, bytes-bytes, number-bytes, bytes-number, field-put, field-apart}
+use Rattle.layout.proofs.Bytes.{length-put, byte-apart, bytes-put, byte-part, zeros-at, zeros-of}
+use Rattle.layout.proofs.Field.{field-bound, length-bytes, bytes-bytes, bytes-number, field-put, field-apart}
+use Rattle.layout.proofs.Row.{length-row, row-back, row-part}
 use Rattle.layout.proofs.Sealed.{sound-sealed, place-kept}
 use Rattle.book.specs.Parts.{Header, headerOf, curveCount, tradeBlocks}
-use Rattle.book.specs.Encode.{block, headerBytes, headerBlock}
+use Rattle.book.specs.Encode.{block, headerRow, headerBlock}
 use Rattle.book.proofs.Laid.{length-block, block-count, block-named, block-zeros, block-checked, block-placed, block-of}
 use Rattle.book.proofs.Verdicts.{HeaderSound}
 
@@ -33,14 +35,6 @@ bytes-part s at n bytes k = go (decLt k n)
         let m : length (part s at n) ≤ k = simp length-take (omega arith) in
         rw (List·getD-eq-default (part s at n) 0 m) (omega arith)
 
--- a field among others
-field-among : (n v : ℕ) (before behind : List ℕ) (k : ℕ) → k ≡ length before → v < 256 ^ n → numberAt n (before ++ bytesOf n v ++ behind) k ≡ v
-field-among n v before behind k e h =
-    let l = length-bytes n v in
-    let m : k ≡ length before + 0 = omega arith in
-    rw (append-assoc before (bytesOf n v) behind, m)
-    (field-behind n before (bytesOf n v ++ behind) 0 ∙ field-front n (bytesOf n v) behind 0 (omega arith) ∙ number-bytes n v h)
-
 -- ---- the header
 
 -- each field of a header keeps the width of its place
@@ -52,57 +46,37 @@ pub header-fits : (s : List ℕ) → AreBytes s → HeaderFits (headerOf s)
 header-fits s bytes = record { account-fits = field-bound 4 s 4 bytes; day-fits = field-bound 4 s 12 bytes }
 
 module _ (header : Header) (c t : ℕ) where
+  abbrev row : List Field
+  row = headerRow header c t
+
   abbrev named : List ℕ
-  named = headerBytes header c t
-
-  abbrev account : List ℕ
-  account = bytesOf 4 (header .account)
-
-  abbrev day : List ℕ
-  day = bytesOf 4 (header .day)
+  named = rowBytes row
 
   is-header : headerBlock header c t ≡ block 1 0 0 named
   unfolding headerBlock
   is-header = refl
 
-  pub length-headerBytes : length named ≡ 12
-  length-headerBytes =
-      simp length-append (omega (arith, length-bytes 4 (header .account), length-bytes 2 c, length-bytes 2 t, length-bytes 4 (header .day)))
+  length-named : length named ≡ 12
+  length-named = length-row row
 
   short : length named ≤ 504
-  short = omega (arith, length-headerBytes)
+  short = omega (arith, length-named)
 
   pub length-header : length (headerBlock header c t) ≡ 512
   length-header = rw is-header (length-block 1 0 0 named short)
 
-  named-part : part (headerBlock header c t) 4 12 ≡ named
-  named-part = rw is-header (rw length-headerBytes at (block-named 1 0 0 named short))
-
-  -- a field of the header is the field of its named bytes
-  field-in : (n k : ℕ) → k + n ≤ 12 → numberAt n (headerBlock header c t) (4 + k) ≡ numberAt n named k
-  field-in n k h = sym (field-part n (headerBlock header c t) 4 12 k h) ∙ rw named-part
+  -- its fields are read back
+  back : (k : ℕ) → Fits (fieldIn row k) → numberAt (fieldIn row k .0) (headerBlock header c t) (4 + widthOf (take k row)) ≡ fieldIn row k .1
+  back = row-back row (headerBlock header c t) 4 (rw is-header (rw length-named at (block-named 1 0 0 named short)))
 
   pub header-read : HeaderFits header → headerOf (headerBlock header c t) ≡ header
-  header-read fits =
-      let first : numberAt 4 (headerBlock header c t) 4 ≡ header .account =
-      field-in 4 0 (omega arith)
-      ∙ rw (append-assoc (account ++ bytesOf 2 c) (bytesOf 2 t) day, append-assoc account (bytesOf 2 c) (bytesOf 2 t ++ day))
-      (field-among 4 (header .account) [] (bytesOf 2 c ++ (bytesOf 2 t ++ day)) 0 refl (fits .account-fits)) in
-      let l : 8 ≡ length (account ++ bytesOf 2 c ++ bytesOf 2 t) =
-      simp length-append (omega (arith, length-bytes 4 (header .account), length-bytes 2 c, length-bytes 2 t)) in
-      let last : numberAt 4 (headerBlock header c t) 12 ≡ header .day =
-      field-in 4 8 (omega arith) ∙ rw append-nil at (field-among 4 (header .day) (account ++ bytesOf 2 c ++ bytesOf 2 t) [] 8 l (fits .day-fits)) in
-      rw (first, last)
+  header-read fits = rw (back 0 (fits .account-fits), back 3 (fits .day-fits))
 
   pub header-curves : c < 65536 → curveCount (headerBlock header c t) ≡ c
-  header-curves h =
-      field-in 2 4 (omega arith)
-      ∙ rw (append-assoc (account ++ bytesOf 2 c) (bytesOf 2 t) day) (field-among 2 c account (bytesOf 2 t ++ day) 4 (sym (length-bytes 4 (header .account))) h)
+  header-curves = back 1
 
   pub header-trades : t < 65536 → tradeBlocks (headerBlock header c t) ≡ t
-  header-trades h =
-      let l : 6 ≡ length (account ++ bytesOf 2 c) = omega (arith, length-append account (bytesOf 2 c), length-bytes 4 (header .account), length-bytes 2 c) in
-      field-in 2 6 (omega arith) ∙ field-among 2 t (account ++ bytesOf 2 c) day 6 l h
+  header-trades = back 2
 
   pub header-breaks-nothing : 1 ≤ c → c ≤ 8 → t < 65536 → HeaderSound (headerBlock header c t) (1 + c + t)
   header-breaks-nothing some most few =
@@ -116,7 +90,7 @@ module _ (header : Header) (c t : ℕ) where
           most = rw ec most;
           counts = rw (ec, et);
           second = rw is-header (block-count 1 0 0 named short);
-          behind = rw is-header (rw length-headerBytes at (block-zeros 1 0 0 named short));
+          behind = rw is-header (rw length-named at (block-zeros 1 0 0 named short));
         };
       }
 
@@ -124,19 +98,9 @@ module _ (header : Header) (c t : ℕ) where
 module _ (b : List ℕ) (bytes : AreBytes b) (h : length b ≡ 512) where
   sealed-header : byteAt b 0 ≡ 1 → u16At b 2 ≡ 0 → byteAt b 1 ≡ 0 → zeros b 16 508 ≡ true → sealed b ≡ headerBlock (headerOf b) (curveCount b) (tradeBlocks b)
   sealed-header kind number second behind =
-      let fields = named (headerOf b) (curveCount b) (tradeBlocks b) in
-      let l = length-headerBytes (headerOf b) (curveCount b) (tradeBlocks b) in
-      let e : part b 4 12 ≡ fields =
-      part-add b 4 8 4
-      ∙ rw (
-        part-add b 4 6 2,
-        part-add b 4 4 2,
-        bytes-number 4 b 4 bytes (omega arith),
-        bytes-number 2 b 8 bytes (omega arith),
-        bytes-number 2 b 10 bytes (omega arith),
-        bytes-number 4 b 12 bytes (omega arith),
-      ) in
-      block-of 1 0 0 fields (omega arith) b h kind second (number-part b 0 bytes h number) (rw l e) (rw l behind)
+      let row = headerRow (headerOf b) (curveCount b) (tradeBlocks b) in
+      let l = length-row row in
+      block-of 1 0 0 (rowBytes row) (omega arith) b h kind second (number-part b 0 bytes h number) (rw l (sym (row-part row b 4 bytes (omega arith)))) (rw l behind)
       ∙ sym (is-header (headerOf b) (curveCount b) (tradeBlocks b))
 
 module _ (b : List ℕ) (blocks : ℕ) (bytes : AreBytes b) (h : length b ≡ 512) (sound : HeaderSound b blocks) where

@@ -1,10 +1,11 @@
 -- The bytes of a book, from its header, its curve blocks and its records (document 01, "Blocks of the book"): a book that is accepted
 -- has no other bytes.
 use Prim.Native.Nat.{ℕ, _+_, _-_, _*_, _/_}
-use mathlib.Core.List.{List, _∷_, _++_, flatten}
+use mathlib.Core.List.{List, [], _∷_, _++_, flatten}
 use lib.ListN.{length, take, drop, replicate}
 use Rattle.laws.specs.Walk.{table}
 use Rattle.layout.specs.Field.{bytesOf}
+use Rattle.layout.specs.Row.{Field, rowBytes}
 use Rattle.layout.specs.Check.{sealed}
 use Rattle.book.specs.Parts.{Header, Parts}
 
@@ -15,12 +16,12 @@ block kind count number named =
     sealed (kind ∷ count ∷ bytesOf 2 number ++ named ++ replicate (508 - length named) 0)
 
 -- "4-7 account, 8-9 curves C (1 to 8), 10-11 trade blocks T"; "bytes 12-15 hold the valuation day"
-abbrev pub headerBytes : Header → ℕ → ℕ → List ℕ
-headerBytes header curves trades = bytesOf 4 (header .account) ++ bytesOf 2 curves ++ bytesOf 2 trades ++ bytesOf 4 (header .day)
+abbrev pub headerRow : Header → ℕ → ℕ → List Field
+headerRow header curves trades = (4, header .account) ∷ (2, curves) ∷ (2, trades) ∷ (4, header .day) ∷ []
 
 -- "Header (kind 1, block 0)"
 unfoldable pub headerBlock : Header → ℕ → ℕ → List ℕ
-headerBlock header curves trades = block 1 0 0 (headerBytes header curves trades)
+headerBlock header curves trades = block 1 0 0 (rowBytes (headerRow header curves trades))
 
 -- "Trades (kind 3): byte 1 is the count .. records of 56 bytes from 4."
 unfoldable pub tradeBlock : ℕ → List (List ℕ) → List ℕ

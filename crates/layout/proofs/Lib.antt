@@ -1,4 +1,5 @@
 pub mod Bytes
 pub mod Field
+pub mod Row
 pub mod Sealed
 pub mod Signed

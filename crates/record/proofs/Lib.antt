@@ -2,4 +2,3 @@ pub mod Limits
 pub mod Facts
 pub mod RoundTrip
 pub mod Widths
-mod Written

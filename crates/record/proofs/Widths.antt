@@ -7,7 +7,9 @@ use Rattle.decimal.specs.Product.{unit}
 use Rattle.record.specs.declared.Curves.{Curves}
 use Rattle.record.specs.declared.Fields.{Fields}
 use Rattle.record.specs.Uses.{isOutright, hasSettled, hasSecurity, hasCoupons, isIndexed}
+use Rattle.layout.proofs.Row.{_and_}
 use Rattle.ground.specs.Limits.{lastDay}
+use Rattle.record.specs.Bytes.{recordRow}
 use Rattle.record.specs.Rules.{breaksForm, breaksDays, breaksAmounts}
 use Rattle.record.proofs.Facts.{Kind, outright, pool, specified, Formed, formed, DaysKept, days-kept, Priced, priced}
 use Rattle.record.proofs.RoundTrip.{Narrow}
@@ -28,35 +30,35 @@ module _ {curves : Curves} (f : Fields) (few : curves .count < 256) (r : Formed 
   ahead o =
       either-way (hasSettled (f .form .kind) (f .form .phase)) (λ e. omega (arith, a .settled e)) (λ e. omega (arith, d .ahead o e, d .lent o .1))
 
+  -- in the order of `recordRow`
   narrowed : Narrow f
-  unfolding unit
+  unfolding unit recordRow
   narrowed =
       let o = isOutright (f .form .kind) in
       let paying = hasSecurity (f .form .security) in
       let coupons = hasCoupons (f .form .security) in
       let indexed = isIndexed (f .form .security) in
-      record {
-        kind = kinds (r .kinds) .0;
-        side = omega (arith, r .sides .high);
-        phase = kinds (r .kinds) .1;
-        securitycurve = either-way paying (λ e. omega (arith, r .held e .high)) (λ e. omega (arith, r .bare e));
-        cashcurve = omega (arith, r .cash .high);
-        security = omega (arith, r .securities);
-        blank = omega (arith, a .blank);
-        day1 = either-way o (λ e. omega (arith, d .bought e)) (λ e. omega (arith, ahead e));
-        day2 = either-way o (λ e. omega (arith, a .bought e .0)) (λ e. omega (arith, d .lent e .1));
-        first = either-way paying (λ e. omega (arith, d .paid e)) (λ e. omega (arith, a .bare e .0));
-        period = either-way coupons (λ e. omega (arith, d .coupons e .number .apart .high)) (λ e. omega (arith, a .flat e .0));
-        payments = either-way coupons (λ e. omega (arith, d .coupons e .number .some .high)) (λ e. omega (arith, a .flat e .1 .0));
-        term = either-way o (λ e. omega (arith, a .bought e .1 .0)) (λ e. omega (arith, d .lent e .0));
-        coupon = omega (arith, a .coupon);
-        nominal = omega (arith, a .nominal);
-        cash = omega (arith, a .cash);
-        price = either-way o (λ e. omega (arith, a .bought e .1 .1 .1)) (λ e. omega (arith, a .lent e .1));
-        accrued = omega (arith, a .accrued);
-        index = either-way indexed (λ e. omega (arith, a .indexed e .0 .high)) (λ e. omega (arith, a .plain e .0));
-        issue = either-way indexed (λ e. omega (arith, a .indexed e .1 .high)) (λ e. omega (arith, a .plain e .1));
-      }
+      kinds (r .kinds) .0
+      and omega (arith, r .sides .high)
+      and kinds (r .kinds) .1
+      and either-way paying (λ e. omega (arith, r .held e .high)) (λ e. omega (arith, r .bare e))
+      and omega (arith, r .cash .high)
+      and omega (arith, r .securities)
+      and omega (arith, a .blank)
+      and either-way o (λ e. omega (arith, d .bought e)) (λ e. omega (arith, ahead e))
+      and either-way o (λ e. omega (arith, a .bought e .0)) (λ e. omega (arith, d .lent e .1))
+      and either-way paying (λ e. omega (arith, d .paid e)) (λ e. omega (arith, a .bare e .0))
+      and either-way coupons (λ e. omega (arith, d .coupons e .number .apart .high)) (λ e. omega (arith, a .flat e .0))
+      and either-way coupons (λ e. omega (arith, d .coupons e .number .some .high)) (λ e. omega (arith, a .flat e .1 .0))
+      and either-way o (λ e. omega (arith, a .bought e .1 .0)) (λ e. omega (arith, d .lent e .0))
+      and omega (arith, a .coupon)
+      and omega (arith, a .nominal)
+      and omega (arith, a .cash)
+      and either-way o (λ e. omega (arith, a .bought e .1 .1 .1)) (λ e. omega (arith, a .lent e .1))
+      and omega (arith, a .accrued)
+      and either-way indexed (λ e. omega (arith, a .indexed e .0 .high)) (λ e. omega (arith, a .plain e .0))
+      and either-way indexed (λ e. omega (arith, a .indexed e .1 .high)) (λ e. omega (arith, a .plain e .1))
+      and tt
 
 pub rules-narrow : (curves : Curves) (f : Fields) → curves .count < 256 → breaksForm curves (f .form) ≡ false → breaksDays (f .form) (f .days) ≡ false
     → breaksAmounts (f .form) (f .days) (f .amounts) ≡ false → Narrow f

@@ -1,8 +1,9 @@
 -- The 56 bytes of a record (document 01, "Record"), read as fields and written from them.
 use Prim.Native.Nat.{ℕ}
-use mathlib.Core.List.{List, _++_}
+use mathlib.Core.List.{List, [], _∷_}
 use Rattle.layout.specs.Bytes.{byteAt}
-use Rattle.layout.specs.Field.{u16At, u32At, u64At, bytesOf}
+use Rattle.layout.specs.Field.{u16At, u32At, u64At}
+use Rattle.layout.specs.Row.{Field, rowBytes}
 use Rattle.record.specs.declared.Form.{Form}
 use Rattle.record.specs.declared.Days.{Days}
 use Rattle.record.specs.declared.Amounts.{Amounts}
@@ -45,36 +46,31 @@ amountsOf s = record {
 unfoldable pub fieldsOf : List ℕ → Fields
 fieldsOf s = record { form = formOf s; days = daysOf s; amounts = amountsOf s }
 
--- ---- the bytes of each field, one behind the other
+-- ---- the fields in a row, each with its width
 
-unfoldable pub formBytes : Form → List ℕ
-formBytes f =
-    bytesOf 1 (f .kind)
-    ++ bytesOf 1 (f .side)
-    ++ bytesOf 1 (f .phase)
-    ++ bytesOf 1 (f .securitycurve)
-    ++ bytesOf 1 (f .cashcurve)
-    ++ bytesOf 1 (f .security)
-    ++ bytesOf 2 (f .blank)
-
-unfoldable pub daysBytes : Days → List ℕ
-daysBytes d =
-    bytesOf 2 (d .day1)
-    ++ bytesOf 2 (d .day2)
-    ++ bytesOf 2 (d .first)
-    ++ bytesOf 2 (d .period)
-    ++ bytesOf 2 (d .payments)
-    ++ bytesOf 2 (d .term)
-
-unfoldable pub amountsBytes : Amounts → List ℕ
-amountsBytes a =
-    bytesOf 4 (a .coupon)
-    ++ bytesOf 8 (a .nominal)
-    ++ bytesOf 8 (a .cash)
-    ++ bytesOf 4 (a .price)
-    ++ bytesOf 4 (a .accrued)
-    ++ bytesOf 4 (a .index)
-    ++ bytesOf 4 (a .issue)
+unfoldable pub recordRow : Fields → List Field
+recordRow f =
+    (1, f .form .kind)
+    ∷ (1, f .form .side)
+    ∷ (1, f .form .phase)
+    ∷ (1, f .form .securitycurve)
+    ∷ (1, f .form .cashcurve)
+    ∷ (1, f .form .security)
+    ∷ (2, f .form .blank)
+    ∷ (2, f .days .day1)
+    ∷ (2, f .days .day2)
+    ∷ (2, f .days .first)
+    ∷ (2, f .days .period)
+    ∷ (2, f .days .payments)
+    ∷ (2, f .days .term)
+    ∷ (4, f .amounts .coupon)
+    ∷ (8, f .amounts .nominal)
+    ∷ (8, f .amounts .cash)
+    ∷ (4, f .amounts .price)
+    ∷ (4, f .amounts .accrued)
+    ∷ (4, f .amounts .index)
+    ∷ (4, f .amounts .issue)
+    ∷ []
 
 unfoldable pub recordBytes : Fields → List ℕ
-recordBytes f = formBytes (f .form) ++ daysBytes (f .days) ++ amountsBytes (f .amounts)
+recordBytes f = rowBytes (recordRow f)

@@ -19,9 +19,8 @@ use Rattle.trade.specs.declared.OutrightTrade.{OutrightTrade}
 use Rattle.trade.specs.declared.RepoTrade.{RepoTrade}
 use Rattle.trade.specs.declared.Trade.{Trade}
 use Rattle.trade.specs.declared.Trade.the-variants.{Outright, Pool, Specified}
-use Rattle.trade.specs.declared.write.SecurityPart.{SecurityPart}
-use Rattle.trade.specs.Read.{securityOf, outrightOf, repoOf, pickTrade, tradeOf}
-use Rattle.trade.specs.Write.{partOf, fieldsOfOutright, fieldsOfRepo, fieldsOfTrade}
+use Rattle.trade.specs.Read.{indexedBondOf, securityOf, outrightOf, repoOf, pickTrade, tradeOf}
+use Rattle.trade.specs.Write.{numberOf, filledBy, fieldsOfOutright, fieldsOfRepo, fieldsOfTrade}
 
 -- ---- from a trade to fields and back
 
@@ -52,67 +51,57 @@ pub record FormAndAmounts (curves : Curves) (f : Fields) : Type 0 where
   pub form : Formed curves (f .form)
   pub amounts : Priced (f .form) (f .days) (f .amounts)
 
--- the fields that a security fills, as the record has them
-abbrev partIn : Fields → SecurityPart
-partIn f = record {
-  number = f .form .security;
-  curve = f .form .securitycurve;
-  first = f .days .first;
-  nominal = f .amounts .nominal;
-  period = f .days .period;
-  payments = f .days .payments;
-  coupon = f .amounts .coupon;
-  index = f .amounts .index;
-  issue = f .amounts .issue;
-}
-
 module _ {curves : Curves} (f : Fields) (r : FormAndAmounts curves f) where
-  -- the security by its number
-  part-at : (number : ℕ) → f .form .security ≡ number → number ≤ 3 → partOf (securityOf f) ≡ partIn f
+  -- a security fills the fields that the record has
+  abbrev Filled : Security → Type 0
+  Filled s = (numberOf s ≡ f .form .security) × (filledBy s ≡ indexedBondOf f)
+
+  -- by its number
+  filled-at : (number : ℕ) → f .form .security ≡ number → number ≤ 3 → Filled (securityOf f)
   unfolding securityOf
-  part-at zero e h =
+  filled-at zero e h =
       let bare = r .amounts .bare (rw e) in
       let flat = r .amounts .flat (rw e) in
       let plain = r .amounts .plain (rw e) in
-      rw (e, r .form .bare (rw e), bare .0, bare .1, flat .0, flat .1 .0, flat .1 .1, plain .0, plain .1)
-  part-at (suc zero) e h =
+      (rw e, rw (e, r .form .bare (rw e), bare .0, bare .1, flat .0, flat .1 .0, flat .1 .1, plain .0, plain .1))
+  filled-at (suc zero) e h =
       let flat = r .amounts .flat (rw e) in
       let plain = r .amounts .plain (rw e) in
-      rw (e, flat .0, flat .1 .0, flat .1 .1, plain .0, plain .1)
-  part-at (suc (suc zero)) e h = let plain = r .amounts .plain (rw e) in rw (e, plain .0, plain .1)
-  part-at (suc (suc (suc zero))) e h = rw e
-  part-at (suc (suc (suc (suc n)))) e h = absurd (omega arith)
+      (rw e, rw (e, flat .0, flat .1 .0, flat .1 .1, plain .0, plain .1))
+  filled-at (suc (suc zero)) e h = let plain = r .amounts .plain (rw e) in (rw e, rw (e, plain .0, plain .1))
+  filled-at (suc (suc (suc zero))) e h = (rw e, rw e)
+  filled-at (suc (suc (suc (suc n)))) e h = absurd (omega arith)
 
-  part-back : partOf (securityOf f) ≡ partIn f
-  part-back = part-at (f .form .security) refl (r .form .securities)
+  filled : Filled (securityOf f)
+  filled = filled-at (f .form .security) refl (r .form .securities)
 
   -- a path of records is made field by field: at its one end the fields as written back, at the other the record's own
   outright-back : f .form .kind ≡ 1 → f .form .phase ≡ 0 → fieldsOfOutright (outrightOf f) ≡ f
   unfolding fieldsOfOutright
   outright-back kind phase =
-      let b = r .amounts .bought (rw kind) in
-      λ i. let p = part-back i in record {
+      let unused = r .amounts .bought (rw kind) in
+      λ i. let p = filled .1 i in let b = p .bond in record {
         form = record {
           kind = sym kind i;
           side = f .form .side;
           phase = sym phase i;
-          securitycurve = p .curve;
+          securitycurve = b .curve;
           cashcurve = f .form .cashcurve;
-          security = p .number;
+          security = filled .0 i;
           blank = sym (r .amounts .blank) i;
         };
         days = record {
           day1 = f .days .day1;
-          day2 = sym (b .0) i;
-          first = p .first;
-          period = p .period;
-          payments = p .payments;
-          term = sym (b .1 .0) i;
+          day2 = sym (unused .0) i;
+          first = b .first;
+          period = b .period;
+          payments = b .payments;
+          term = sym (unused .1 .0) i;
         };
         amounts = record {
-          coupon = p .coupon;
-          nominal = p .nominal;
-          cash = sym (b .1 .1 .0) i;
+          coupon = b .coupon;
+          nominal = b .nominal;
+          cash = sym (unused .1 .1 .0) i;
           price = f .amounts .price;
           accrued = f .amounts .accrued;
           index = p .index;
@@ -123,27 +112,27 @@ module _ {curves : Curves} (f : Fields) (r : FormAndAmounts curves f) where
   repo-back : (kind : ℕ) → f .form .kind ≡ kind → isOutright (f .form .kind) ≡ false → fieldsOfRepo kind (repoOf f) ≡ f
   unfolding fieldsOfRepo
   repo-back kind e repo =
-      λ i. let p = part-back i in record {
+      λ i. let p = filled .1 i in let b = p .bond in record {
         form = record {
           kind = sym e i;
           side = f .form .side;
           phase = f .form .phase;
-          securitycurve = p .curve;
+          securitycurve = b .curve;
           cashcurve = f .form .cashcurve;
-          security = p .number;
+          security = filled .0 i;
           blank = sym (r .amounts .blank) i;
         };
         days = record {
           day1 = f .days .day1;
           day2 = f .days .day2;
-          first = p .first;
-          period = p .period;
-          payments = p .payments;
+          first = b .first;
+          period = b .period;
+          payments = b .payments;
           term = f .days .term;
         };
         amounts = record {
-          coupon = p .coupon;
-          nominal = p .nominal;
+          coupon = b .coupon;
+          nominal = b .nominal;
           cash = f .amounts .cash;
           price = f .amounts .price;
           accrued = sym (r .amounts .lent repo .0) i;

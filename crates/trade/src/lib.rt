@@ -1,7 +1,6 @@
-// A trade as an enum of its kinds, with the security inside, made from a record's fields and turned back into them.
+// A trade as an enum of its kinds, with the security inside, made from a record's fields.
 pub mod price;
 pub mod read;
-pub mod write;
 
 use price::Clean;
 
