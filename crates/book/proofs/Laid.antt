@@ -8,7 +8,7 @@ use native.Mathlib.Nat.{zero-add}
 use native.Mathlib.Omega.{arith}
 use borrow.Author.Tests.{eq-eqb}
 use lib.ListN.{length, take, getD, replicate, length-append, length-replicate, getD-replicate, replicate-append-replicate, drop-of-length-le}
-use lib.Seq.{length-take-le, getD-take, take-at, drop-at, take-suc, getD-append-add}
+use lib.Seq.{getD-take, take-at, drop-at, take-suc, getD-append-add}
 use Rattle.layout.specs.Bytes.{byteAt, part, zeros}
 use Rattle.layout.specs.Field.{u16At, bytesOf}
 use Rattle.layout.specs.Check.{checkOf, sealed, breaksCheck, breaksPlace}
@@ -26,9 +26,6 @@ split-sealed b h =
     let l : 508 + length (bytesOf 4 (checkOf b)) ≤ length b = omega arith in
     let m : length b ≤ 508 + length (bytesOf 4 (checkOf b)) = omega arith in
     put-split b 508 (bytesOf 4 (checkOf b)) l ∙ rw (drop-of-length-le b m, append-nil)
-
-pub take-sealed : (b : List ℕ) → length b ≡ 512 → take 508 (sealed b) ≡ take 508 b
-take-sealed b h = rw (split-sealed b h) (take-at (take 508 b) (bytesOf 4 (checkOf b)) 508 (length-take-le 508 b (omega arith)))
 
 -- two blocks that are the same before the check are the same once sealed
 pub sealed-same : (b c : List ℕ) → length b ≡ 512 → length c ≡ 512 → take 508 b ≡ take 508 c → sealed b ≡ sealed c

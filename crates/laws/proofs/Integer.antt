@@ -124,9 +124,3 @@ within-abs a b t = (λ w. abs-le (a -ℤ b) t .1 (omega (int, plus a (negℤ b),
   where
     back : (up (a -ℤ b) ≤ down (a -ℤ b) + t) × (down (a -ℤ b) ≤ up (a -ℤ b) + t) → Within a b t
     back h = omega (int, plus a (negℤ b), up-neg b, down-neg b)
-
--- what is near a number of some size is little larger
-pub near-size : (a b : ℤ) (t m : ℕ) → Within a b t → natAbs b ≤ m → natAbs a ≤ m + t
-near-size a b t m w h =
-    let k = abs-le b m .0 h in
-    abs-le a (m + t) .1 (omega (int, k .0, k .1))

@@ -101,11 +101,6 @@ byte-put s at (b ∷ bs) (suc k) h l =
     let w : suc at + length bs ≤ length (set s at b) = rw length-set (omega arith) in
     rw e (byte-put (set s at b) (suc at) bs k w (omega arith))
 
-pub bytes-zeros : (n : ℕ) → AreBytes (replicate n 0)
-bytes-zeros zero k = omega arith
-bytes-zeros (suc n) zero = omega arith
-bytes-zeros (suc n) (suc k) = bytes-zeros n k
-
 pub bytes-set : (s : List ℕ) (at b : ℕ) → AreBytes s → b < 256 → AreBytes (set s at b)
 bytes-set [] at b h l k = h k
 bytes-set (x ∷ s) zero b h l zero = l
@@ -186,37 +181,12 @@ put-part s at n h =
     put-split s at (part s at n) (omega arith)
     ∙ rw (e, ← drop-drop n at s, take-append-drop n (drop at s)) (take-append-drop at s)
 
-pub put-again : (s : List ℕ) (at : ℕ) (bs : List ℕ) → at + length bs ≤ length s → put (put s at bs) at bs ≡ put s at bs
-put-again s at bs h =
-    ap (put (put s at bs) at) (sym (part-put s at bs h)) ∙ put-part (put s at bs) at (length bs) (rw length-put h)
-
 -- ---- two lists, one behind the other
-
-put-later : (x : ℕ) (s : List ℕ) (at : ℕ) (bs : List ℕ) → put (x ∷ s) (suc at) bs ≡ x ∷ put s at bs
-unfolding put
-put-later x s at [] = refl
-put-later x s at (b ∷ bs) = put-later x (set s at b) (suc at) bs
-
--- written into the second list
-pub put-behind : (xs s : List ℕ) (at : ℕ) (bs : List ℕ) → put (xs ++ s) (length xs + at) bs ≡ xs ++ put s at bs
-put-behind [] s at bs = rw zero-add
-put-behind (x ∷ xs) s at bs =
-    let e : suc (length xs) + at ≡ suc (length xs + at) = omega arith in
-    rw e (put-later x (xs ++ s) (length xs + at) bs ∙ ap (λ (l : List ℕ). x ∷ l) (put-behind xs s at bs))
 
 pub bytes-append : (s t : List ℕ) → AreBytes s → AreBytes t → AreBytes (s ++ t)
 bytes-append [] t hs ht k = ht k
 bytes-append (x ∷ s) t hs ht zero = hs 0
 bytes-append (x ∷ s) t hs ht (suc k) = bytes-append s t (λ j. hs (suc j)) ht k
-
--- written over the first
-pub put-over : (xs bs s : List ℕ) → length xs ≡ length bs → put (xs ++ s) 0 bs ≡ bs ++ s
-unfolding put
-put-over [] [] s h = refl
-put-over [] (b ∷ bs) s h = absurd (omega arith)
-put-over (x ∷ xs) [] s h = absurd (omega arith)
-put-over (x ∷ xs) (b ∷ bs) s h =
-    put-later b (xs ++ s) 0 bs ∙ ap (λ (l : List ℕ). b ∷ l) (put-over xs bs s (omega arith))
 
 pub part-behind : (xs s : List ℕ) (at n : ℕ) → part (xs ++ s) (length xs + at) n ≡ part s at n
 part-behind xs s at n = ap (take n) (drop-append-add xs s at)

@@ -10,10 +10,10 @@ use borrow.Author.Tests.{eq-eqb, eqb-true, not-false}
 use lib.Dec.{eqb}
 use lib.ListN.{length}
 use Rattle.laws.proofs.Bools.{both}
-use Rattle.layout.specs.Bytes.{byteAt, part, put, AreBytes}
+use Rattle.layout.specs.Bytes.{byteAt, part, AreBytes}
 use Rattle.layout.specs.Field.{numberAt, u16At, u32At, bytesOf}
 use Rattle.layout.specs.Check.{words, checkOf, sealed, breaksCheck, breaksPlace}
-use Rattle.layout.proofs.Bytes.{length-put, byte-apart, bytes-put, part-apart, put-again}
+use Rattle.layout.proofs.Bytes.{length-put, byte-apart, bytes-put, part-apart}
 use Rattle.layout.proofs.Field.{field-same, field-apart, field-put, put-field, length-bytes, bytes-bytes}
 
 -- ---- what the check reads
@@ -78,14 +78,6 @@ check-kept b sound = eqb-true (u32At b 508) (checkOf b) (not-false (eqb (u32At b
 pub sound-sealed : (b : List ℕ) → AreBytes b → 512 ≤ length b → breaksCheck b ≡ false → sealed b ≡ b
 unfolding sealed
 sound-sealed b bytes h sound = rw (← check-kept b sound) (put-field 4 b 508 bytes h)
-
-sealed-again : (b : List ℕ) → 512 ≤ length b → put (sealed b) 508 (bytesOf 4 (checkOf b)) ≡ sealed b
-unfolding sealed
-sealed-again b h = put-again b 508 (bytesOf 4 (checkOf b)) (rw length-bytes h)
-
-is-sealed : (b : List ℕ) → sealed b ≡ put b 508 (bytesOf 4 (checkOf b))
-unfolding sealed
-is-sealed b = refl
 
 -- ---- the place
 

@@ -8,7 +8,7 @@ use lib.ListN.{length, take, drop, replicate, length-append, length-replicate}
 use lib.Seq.{take-at, drop-at}
 use lib.Dec.{lit<}
 use Rattle.laws.proofs.Lists.{length-flatMap}
-use Rattle.layout.specs.Bytes.{byteAt, part, put}
+use Rattle.layout.specs.Bytes.{byteAt, put}
 use Rattle.layout.specs.Field.{u16At, numberAt, bytesOf, twos}
 use Rattle.layout.specs.Check.{sealed, breaksCheck, breaksPlace}
 use Rattle.layout.proofs.Bytes.{then, put-front}
@@ -50,10 +50,6 @@ module _ (m : Margin) (places : Places m) where
   unfolding reportBytes
   report-sound = sealed-sound (fieldBytes m) (rw length-fields (omega arith))
 
-  pub length-report : length (reportBytes m) ≡ 512
-  unfolding reportBytes
-  length-report = length-sealed (fieldBytes m) ∙ length-fields
-
   -- a field of it, before the check, with whatever lies behind
   pub field-report : (n : ℕ) (rest : List ℕ) (k : ℕ) → k + n ≤ 508 → numberAt n (reportBytes m ++ rest) k ≡ numberAt n (fieldBytes m) k
   unfolding reportBytes
@@ -73,10 +69,6 @@ module _ (m : Margin) (places : Places m) where
   pub report-place : (rest : List ℕ) → breaksPlace (reportBytes m ++ rest) 9 0 ≡ false
   unfolding breaksPlace
   report-place rest = rw (report-kind rest, report-number rest)
-
-  -- the report is the first 512 bytes of what is written
-  pub report-part : (rest : List ℕ) → part (reportBytes m ++ rest) 0 512 ≡ reportBytes m
-  report-part rest = take-at (reportBytes m) rest 512 length-report
 
 -- ---- "places of absent curves and currencies 0"
 
