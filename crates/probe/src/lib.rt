@@ -1,10 +1,8 @@
 // Inner functions of the engine, exported for the host's benchmark and tests. The engine does not use this crate.
 ghost use mathlib.Core.Path.{_≡_};
 ghost use Prim.Native.Nat.{_+_, _%_, _≤_};
-ghost use Rattle.decimal.specs.Product.{unit};
 ghost use Rattle.discount.specs.Discount.{million, factor, compound};
 use discount::factor::Factor;
-use discount::guess::guess;
 
 // Brings any number into the rates.
 fn rate_of(n: u64) -> u64
@@ -21,19 +19,6 @@ pub extern "C" fn probe_chain(x: u64, q: u64, k: u64) -> u64
     let from = Factor(x % 1_000_000_000_001);
     let factor = Factor(q % 1_000_000_000_001);
     from.compound(factor, k).0
-}
-
-// The guess of the day's factor at a rate; one at rate 0, where none is made. A guess promises no more than to be a factor: a test counts how often it is
-// right.
-#[no_mangle]
-pub extern "C" fn probe_guess(rate: u64) -> u64
-    ensures { λ r. ⌜ r ≤ unit ⌝ }
-{
-    let yearly = Factor::yearly(rate_of(rate));
-    if yearly.0 == Factor::UNIT {
-        return yearly.0;
-    }
-    guess(yearly.0)
 }
 
 // The factor of a rate and some days; of one day it is the day's factor itself.

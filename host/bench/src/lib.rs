@@ -15,7 +15,6 @@ pub use whole::{margin, sized_books, work, Work};
 mod ffi {
     unsafe extern "C" {
         pub safe fn probe_chain(x: u64, q: u64, k: u64) -> u64;
-        pub safe fn probe_guess(rate: u64) -> u64;
         pub safe fn probe_factor(rate: u64, days: u64) -> u64;
         pub safe fn probe_factors(rate: u64, days: u64, other_rate: u64, other_days: u64) -> u64;
     }
@@ -30,11 +29,6 @@ pub const LIMIT: u64 = 1_000_000;
 /// The product with `q`, `k` times, from `x`.
 pub fn chain(x: u64, q: u64, k: u64) -> u64 {
     ffi::probe_chain(x, q, k)
-}
-
-/// The guess of the day's factor at a rate.
-pub fn guess(rate: u64) -> u64 {
-    ffi::probe_guess(rate)
 }
 
 /// The factor of a rate and some days; of one day it is the day's factor itself.
@@ -60,7 +54,7 @@ pub fn product(a: u64, b: u64) -> u64 {
     a1 * b1 + (a1 * b0 + a0 * b / TWOS) / FIVES
 }
 
-/// The day's factor by bisection: what the engine's guess is compared with.
+/// The day's factor by bisection: what the engine's is compared with.
 pub fn daily_by_halves(rate: u64) -> u64 {
     let y = yearly(rate);
     let (mut low, mut high) = (0, UNIT + 1);

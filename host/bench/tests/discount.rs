@@ -17,17 +17,6 @@ fn numbers(mut seed: u64) -> impl FnMut() -> u64 {
 }
 
 #[test]
-fn the_guess_is_right_or_off_by_one_at_every_rate() {
-    let mut off = 0;
-    for rate in 0..=LIMIT {
-        let distance = guess(rate).abs_diff(factor(rate, 1));
-        assert!(distance <= 1, "rate {rate}: off by {distance}");
-        off += distance;
-    }
-    assert!(off < 20_000, "{off} guesses are off by one");
-}
-
-#[test]
 fn the_day_s_factor_is_the_one_that_bisection_finds() {
     let mut next = numbers(7);
     for rate in [0, 1, LIMIT]
