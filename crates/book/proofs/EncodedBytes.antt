@@ -1,17 +1,17 @@
 -- An encoding is bytes where its parts are.
-use mathlib.Core.Path.{_≡_}
 use mathlib.Core.List.{List, [], _∷_, _++_, flatten}
-use Prim.Native.Nat.{ℕ, zero, suc, _+_, _-_, _*_, _<_, _≤_}
-use native.Mathlib.Decide.{decLt}
+use Prim.Native.Nat.{ℕ, zero, suc, _+_, _-_, _*_, _<_}
 use native.Mathlib.Omega.{arith}
-use lib.ListN.{length, getD, replicate, List·getD-eq-default}
+use lib.ListN.{length, getD, replicate}
 use Rattle.layout.specs.Bytes.{AreBytes}
 use Rattle.layout.specs.Field.{bytesOf}
+use Rattle.layout.specs.Row.{rowBytes}
 use Rattle.layout.proofs.Bytes.{bytes-zeros, bytes-append}
 use Rattle.layout.proofs.Field.{bytes-bytes}
+use Rattle.layout.proofs.Row.{bytes-row}
 use Rattle.layout.proofs.Sealed.{bytes-sealed}
 use Rattle.book.specs.Parts.{Header}
-use Rattle.book.specs.Encode.{block, headerBlock, tradeBlock, blocksFor, recordsOfBlock, bookBlocks, encode}
+use Rattle.book.specs.Encode.{block, headerRow, headerBlock, tradeBlock, blocksFor, recordsOfBlock, bookBlocks, encode}
 use Rattle.book.proofs.Encoded.{length-nine, nine-at, each-block, length-blocks, block-header, block-curve, block-trade}
 
 -- every list of a list is bytes
@@ -37,12 +37,7 @@ bytes-block kind count number named k c h =
 
 bytes-header : (header : Header) (curves trades : ℕ) → AreBytes (headerBlock header curves trades)
 unfolding headerBlock
-bytes-header header curves trades =
-    let account = bytesOf 4 (header .account) in
-    bytes-block 1 0 0 _ (omega arith) (omega arith)
-    (bytes-append (account ++ bytesOf 2 curves ++ bytesOf 2 trades) (bytesOf 4 (header .day))
-    (bytes-append (account ++ bytesOf 2 curves) (bytesOf 2 trades) (bytes-append account (bytesOf 2 curves) (bytes-bytes 4 _) (bytes-bytes 2 curves)) (bytes-bytes 2 trades))
-    (bytes-bytes 4 _))
+bytes-header header curves trades = bytes-block 1 0 0 (rowBytes (headerRow header curves trades)) (omega arith) (omega arith) (bytes-row (headerRow header curves trades))
 
 module _ (header : Header) (cs rs : List (List ℕ)) (curves : AllBytes cs) (trades : AllBytes rs) where
   bytes-trades : (number j : ℕ) → AreBytes (tradeBlock number (recordsOfBlock rs j))

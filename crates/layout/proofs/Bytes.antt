@@ -101,6 +101,11 @@ byte-put s at (b ∷ bs) (suc k) h l =
     let w : suc at + length bs ≤ length (set s at b) = rw length-set (omega arith) in
     rw e (byte-put (set s at b) (suc at) bs k w (omega arith))
 
+pub bytes-zeros : (n : ℕ) → AreBytes (replicate n 0)
+bytes-zeros zero k = omega arith
+bytes-zeros (suc n) zero = omega arith
+bytes-zeros (suc n) (suc k) = bytes-zeros n k
+
 pub bytes-set : (s : List ℕ) (at b : ℕ) → AreBytes s → b < 256 → AreBytes (set s at b)
 bytes-set [] at b h l k = h k
 bytes-set (x ∷ s) zero b h l zero = l

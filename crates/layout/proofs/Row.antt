@@ -8,13 +8,18 @@ use Rattle.laws.specs.All.{All}
 use Rattle.layout.specs.Bytes.{part, AreBytes}
 use Rattle.layout.specs.Field.{numberAt, bytesOf}
 use Rattle.layout.specs.Row.{Field, Fits, fieldIn, rowBytes, widthOf, rowAt}
-use Rattle.layout.proofs.Bytes.{part-add}
-use Rattle.layout.proofs.Field.{field-front, field-behind, field-part, length-bytes, number-bytes, bytes-number}
+use Rattle.layout.proofs.Bytes.{part-add, bytes-zeros, bytes-append}
+use Rattle.layout.proofs.Field.{field-front, field-behind, field-part, length-bytes, bytes-bytes, number-bytes, bytes-number}
 
 pub length-row : (row : List Field) → length (rowBytes row) ≡ widthOf row
 unfolding rowBytes
 length-row [] = refl
 length-row (f ∷ row) = omega (arith, length-append (bytesOf (f .0) (f .1)) (rowBytes row), length-bytes (f .0) (f .1), length-row row)
+
+pub bytes-row : (row : List Field) → AreBytes (rowBytes row)
+unfolding rowBytes
+bytes-row [] = bytes-zeros 0
+bytes-row (f ∷ row) = bytes-append (bytesOf (f .0) (f .1)) (rowBytes row) (bytes-bytes (f .0) (f .1)) (bytes-row row)
 
 -- a field that fits its width is read back
 pub row-field : (row : List Field) (k : ℕ) → Fits (fieldIn row k) → numberAt (fieldIn row k .0) (rowBytes row) (widthOf (take k row)) ≡ fieldIn row k .1
