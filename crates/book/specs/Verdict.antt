@@ -3,6 +3,7 @@
 use Prim.Native.Nat.{ℕ, _+_, _/_}
 use mathlib.Core.Bool.{Bool, cond}
 use mathlib.Core.List.{List, [], _∷_}
+use mathlib.Core.Path.{_≡_}
 use lib.Dec.{eqb, leb}
 use lib.ListN.{length}
 use Rattle.laws.specs.Walk.{over}
@@ -61,3 +62,8 @@ blockVerdict s blocks k =
 
 unfoldable pub verdict : List ℕ → ℕ → Verdict
 verdict s used = unless (breaksLength used (length s)) Length 0 (firstOf (blockVerdict s (used / 512)) 0 (used / 512))
+
+-- bytes that start with a book whose blocks are accepted, whatever lies behind it
+pub record StartsWithBook (s : List ℕ) : Type 0 where
+  pub used : ℕ
+  pub accepted : verdict s used ≡ Accepted
