@@ -23,7 +23,7 @@ fn put_listing(book: &[u8], used: usize, out: &mut [u8]) -> usize
     match v {
         Verdict::Refused(g, k) => listing::write_refused(out, ground::number(g), k),
         Verdict::Accepted => {
-            let m = report::margin_of_book(book, used);
+            let m = report::margin_of_book(book);
             listing::write_listing(out, parts::curve_count(book), m)
         }
     }

@@ -19,7 +19,7 @@ use Rattle.flows.specs.Legs.{flowsOf}
 use Rattle.flows.proofs.Bounded.{AcceptedRecord, accepted, flows-few}
 use Rattle.book.specs.Parts.{curvesOf, curveCount, tradeCount, recordAt}
 use Rattle.book.proofs.Accepted.{Sound, accepted-record, trade-count-most}
-use Rattle.margin.specs.Exposure.{flowsOn}
+use Rattle.ladder.specs.Exposure.{flowsOn}
 use Rattle.ladder.specs.Ladder.{scheduleFlows, ladderFlows, LadderLimits}
 use Rattle.ladder.proofs.LadderFlows.{length-schedule}
 use Rattle.exposure.specs.Growth.{SchedulesInLimits, Grown}

@@ -14,9 +14,8 @@ use Rattle.flows.specs.Legs.{flowsOf}
 use Rattle.flows.proofs.Bounded.{FlowBounds, flows-bounded}
 use Rattle.book.specs.Parts.{curvesOf, tradeCount, recordAt}
 use Rattle.book.proofs.Accepted.{Sound, trade-count-most}
-use Rattle.margin.specs.Exposure.{flowsOn}
+use Rattle.ladder.specs.Exposure.{flowsOn, FlowsFit}
 use Rattle.ladder.specs.Totals.{FlowLimits, AllFlowLimits}
-use Rattle.margin.proofs.Accounts.{FlowsFit}
 use Rattle.exposure.specs.Exposures.{tradeAt, flowsUpTo, flowsIn, exposureAt}
 use Rattle.exposure.proofs.Collected.{more-flows, no-flows, on-few, few-flows, accepted-at}
 

@@ -25,7 +25,7 @@ use Rattle.legs.specs.Runs.{flowOf, legFlows}
 use Rattle.flows.specs.Legs.{anyAbove}
 use Rattle.legs.specs.Limits.{LegLimits}
 use Rattle.flows.proofs.Above.{any-leg}
-use Rattle.margin.specs.Exposure.{flowsOn}
+use Rattle.ladder.specs.Exposure.{flowsOn}
 use Rattle.ladder.specs.Ladder.{payments, payment, scheduleFlows, ladderFlows, ScheduleLimits}
 use Rattle.exposure.specs.Schedules.{scheduleOf, standsOn, withLeg, countWithLeg}
 

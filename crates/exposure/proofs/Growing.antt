@@ -14,7 +14,7 @@ use Rattle.legs.specs.declared.Legs.{Legs}
 use Rattle.legs.specs.Runs.{legFlows, legsFlows}
 use Rattle.flows.specs.Legs.{anyAbove}
 use Rattle.flows.proofs.Above.{any-legs}
-use Rattle.margin.specs.Exposure.{flowsOn}
+use Rattle.ladder.specs.Exposure.{flowsOn}
 use Rattle.ladder.specs.Ladder.{ladderFlows}
 use Rattle.exposure.specs.Schedules.{scheduleOf, standsOn, withLeg, countWithLeg}
 use Rattle.exposure.specs.Growth.{SchedulesInLimits, Grown, LegsSound}

@@ -10,7 +10,7 @@ use Rattle.trade.specs.declared.Trade.{Trade}
 use Rattle.trade.specs.Read.{tradeOf}
 use Rattle.flows.specs.Legs.{flowsOf}
 use Rattle.book.specs.Parts.{blockAt, curveCount, tradeCount, recordAt}
-use Rattle.margin.specs.Exposure.{Exposure, flowsOn}
+use Rattle.ladder.specs.Exposure.{Exposure, flowsOn}
 
 -- the trade at a position
 abbrev pub tradeAt : List ℕ → ℕ → Trade

@@ -8,7 +8,7 @@ use Rattle.legs.specs.declared.Legs.{Legs}
 use Rattle.legs.specs.Runs.{legsFlows}
 use Rattle.flows.specs.Legs.{anyAbove}
 use Rattle.legs.specs.Limits.{LegsLimits}
-use Rattle.margin.specs.Exposure.{flowsOn}
+use Rattle.ladder.specs.Exposure.{flowsOn}
 use Rattle.ladder.specs.Ladder.{ladderFlows, ScheduleLimits}
 
 -- the first n schedules are in their limits

@@ -1,4 +1,4 @@
--- A leg of a trade as a schedule of a curve's ladder (`Ladder` of the crate margin).
+-- A leg of a trade as a schedule of a curve's ladder (`Ladder` of the crate ladder).
 use mathlib.Core.Bool.{Bool, _&&_, not, cond}
 use mathlib.Core.List.{List, [], _∷_}
 use Prim.Native.Nat.{ℕ, _+_, _*_}

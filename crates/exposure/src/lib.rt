@@ -1,16 +1,20 @@
-// What an account has on a curve: the cash flow ladder, gathered from the trades of its book.
+// What an account has on a curve: its position, with the cash flow ladder gathered from the trades of its book.
 ghost use mathlib.Core.Path.{_≡_};
 ghost use Prim.Native.Nat.{_+_, _*_, _≤_};
 ghost use lib.ListN.{length};
 ghost use Rattle.exposure.specs.Schedules.{standsOn, withLeg, countWithLeg};
 ghost use Rattle.exposure.specs.Growth.{Grown, LegsSound};
 ghost use Rattle.legs.specs.Runs.{legsFlows};
-ghost use Rattle.ground.specs.declared.Verdict.the-variants.{Accepted};
-ghost use Rattle.book.specs.Parts.{tradeCount};
-ghost use Rattle.book.specs.Verdict.{verdict};
-ghost use Rattle.margin.specs.Exposure.{flowsOn};
+ghost use Rattle.curve.specs.Limits.{ProperComponents};
+ghost use Rattle.curve_block.specs.Parts.{componentsOf};
+ghost use Rattle.book.specs.Parts.{blockAt, curveCount, tradeCount};
+ghost use Rattle.book.specs.Verdict.{StartsWithBook};
+ghost use Rattle.ladder.specs.Exposure.{flowsOn, exposureOf, PositionLimits};
 ghost use Rattle.ladder.specs.Ladder.{ladderFlows, LadderLimits};
-ghost use Rattle.exposure.specs.Exposures.{flowsIn};
+ghost use Rattle.exposure.specs.Exposures.{flowsIn, exposureAt};
+use book::parts;
+use curve::Components;
+use ladder::Position;
 use legs::Leg;
 use legs::Legs;
 
@@ -52,20 +56,48 @@ fn push_legs(ladder: &mut [u64], schedules: usize, curve: u64, legs: Legs) -> us
     push_leg(ladder, two, curve, payments)
 }
 
-// The ladder of a curve of an accepted book, and how many schedules it has.
-pub fn gather(book: &[u8], used: usize, curve: u64, ladder: &mut [u64]) -> usize
-    requires { ⌜ (verdict (now book) used ≡ Accepted) × (tradeCount (now book) * 18 ≤ length (now ladder)) ⌝ }
+// The ladder of a curve of an accepted book, which has room for three legs of each trade, and how many schedules it has.
+fn gather(book: &[u8], curve: u64, ladder: &mut [u64]) -> usize
+    requires { ⌜ StartsWithBook (now book) × (tradeCount (now book) * 18 ≤ length (now ladder)) ⌝ }
     ensures flows { λ r. ⌜ ladderFlows curve (now (ladder .exit)) r ≡ flowsOn curve (flowsIn (now (book .entry))) ⌝ }
     ensures limits { λ r. ⌜ LadderLimits (now (ladder .exit)) r ⌝ }
 {
-    let count = book::parts::trade_count(book);
+    let count = parts::trade_count(book);
     let mut schedules: usize = 0;
     let mut i: usize = 0;
     while i < count {
-        let r = book::parts::record_at(book, i);
+        let r = parts::record_at(book, i);
         let legs = flows::walk::legs_of(trade::read::trade_of(record::bytes::fields_of(&r)));
         schedules = push_legs(ladder, schedules, curve, legs);
         i += 1;
     }
     schedules
+}
+
+// The components of a curve of an accepted book: each curve has scenarios of its own.
+fn components_at(book: &[u8], curve: usize) -> Components
+    requires { ⌜ StartsWithBook (now book) × (1 ≤ curve) × (curve ≤ curveCount (now book)) ⌝ }
+    ensures { λ r. ⌜ r ≡ componentsOf (blockAt (now (book .entry)) curve) ⌝ }
+    ensures { λ r. ⌜ ProperComponents r ⌝ }
+{
+    curve_block::components_of(parts::block_at(book, curve))
+}
+
+// The position on a curve of an accepted book, whose ladder is gathered.
+pub fn position_at(book: &[u8], curve: usize, ladder: &mut [u64]) -> Position
+    requires { ⌜ StartsWithBook (now book) × (1 ≤ curve) × (curve ≤ curveCount (now book)) × (tradeCount (now book) * 18 ≤ length (now ladder)) ⌝ }
+    ensures exposure { λ r. ⌜ exposureOf r (now (ladder .exit)) ≡ exposureAt (now (book .entry)) curve ⌝ }
+    ensures limits { λ r. ⌜ PositionLimits r (now (ladder .exit)) ⌝ }
+{
+    let schedules = gather(book, curve as u64, ladder);
+    let b = parts::block_at(book, curve);
+    let currency = curve_block::currency_of(b);
+    let components = components_at(book, curve);
+    Position {
+        id: curve as u64,
+        currency: currency,
+        curve: curve_block::curve_of(b),
+        components: components,
+        schedules: schedules,
+    }
 }

@@ -4,3 +4,4 @@ pub mod Totals
 pub mod Netting
 pub mod KeptFactors
 pub mod Held
+pub mod Sizes

@@ -3,3 +3,5 @@ pub mod Ladder
 pub mod Kept
 pub mod Held
 pub mod Netted
+pub mod Exposure
+pub mod Values

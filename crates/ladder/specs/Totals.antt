@@ -6,9 +6,7 @@ use Rattle.laws.specs.All.{All}
 use Rattle.ground.specs.Limits.{lastDay}
 use Rattle.decimal.specs.Product.{unit}
 use Rattle.discount.specs.declared.Flow.{Flow}
-use Rattle.discount.specs.Flows.{signed, total, sum, flowValue, flowTolerance}
-use Rattle.curve.specs.declared.Node.{Node}
-use Rattle.curve.specs.Rates.{rateAt}
+use Rattle.discount.specs.Flows.{signed, flowTolerance}
 use Rattle.ladder.specs.declared.total.Total.{Total}
 
 -- the total with one flow more: its value, rounded "before the sign", takes the sign here
@@ -25,10 +23,6 @@ plusFlows v t fs = foldl (λ t f. plusFlow t f (v f)) t fs
 
 abbrev pub noFlows : Total
 noFlows = record { sum = pos 0; tolerance = 0 }
-
--- the value of the flows at the rates that the nodes give, and their tolerance
-abbrev pub totalOn : List Node → List Flow → Total
-totalOn nodes fs = record { sum = total (flowValue (rateAt nodes)) fs; tolerance = sum flowTolerance fs }
 
 -- a flow in its limits
 pub record FlowLimits (f : Flow) : Type 0 where

@@ -5,17 +5,11 @@ use Prim.Native.Nat.{ℕ, zero, suc, _-_, _≤_, _<_}
 use native.Mathlib.Omega.{arith}
 use lib.ListN.{length, getD, take, replicate}
 use lib.Seq.{getD-take, length-take-le}
-use Rattle.margin.specs.Exposure.{Exposure}
-use Rattle.ladder.specs.Totals.{AllFlowLimits, mostFlows}
+use Rattle.ladder.specs.Exposure.{Exposure, FlowsFit}
 use Rattle.margin.specs.declared.CurveMargin.{CurveMargin}
 use Rattle.margin.specs.declared.CurrencyMargin.{CurrencyMargin}
 use Rattle.margin.specs.Margins.{curveMargin, currencyMargin, noCurve, assembled, marginOf, MarginLimits, PlacesLimits}
 use Rattle.margin.proofs.Sizes.{margin-limits}
-
--- an exposure whose flows are in their limits, and few enough
-pub record FlowsFit (e : Exposure) : Type 0 where
-  pub each : AllFlowLimits (e .flows)
-  pub few : length (e .flows) ≤ mostFlows
 
 abbrev pub AllFlowsFit : List Exposure → Type 0
 AllFlowsFit [] = Unit {0}
@@ -23,7 +17,7 @@ AllFlowsFit (e ∷ es) = FlowsFit e × AllFlowsFit es
 
 all-limits : (es : List Exposure) → AllFlowsFit es → (i : ℕ) → i < length (map curveMargin es) → MarginLimits (getD (map curveMargin es) i noCurve)
 all-limits [] h i l = absurd (omega arith)
-all-limits (e ∷ es) h zero l = margin-limits e (h .0 .each) (h .0 .few)
+all-limits (e ∷ es) h zero l = margin-limits e (h .0)
 all-limits (e ∷ es) h (suc i) l = all-limits es (h .1) i (omega arith)
 
 -- ---- the margin by its parts

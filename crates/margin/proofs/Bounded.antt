@@ -23,9 +23,10 @@ use Rattle.discount.specs.Discount.{million}
 use Rattle.discount.specs.declared.Flow.{Flow}
 use Rattle.discount.specs.Flows.{flowValue, flowExact}
 use Rattle.discount.proofs.FlowBounds.{Rated, flows-within}
-use Rattle.margin.specs.Exposure.{Exposure}
-use Rattle.margin.specs.Losses.{valueOn, lossAt, worstAt, worstLoss, toleranceOf}
-use Rattle.margin.specs.Margins.{curveMargin, sumIn, currencyMargin}
+use Rattle.ladder.specs.Exposure.{Exposure}
+use Rattle.ladder.specs.Values.{valueOn, toleranceOf}
+use Rattle.margin.specs.Losses.{lossAt, worstAt, worstLoss}
+use Rattle.margin.specs.Margins.{figuresAt, curveMargin, sumIn, currencyMargin}
 use Rattle.margin.specs.Demand.{CurveBounded, exactWorst, exactInitial, tolerancesIn, InitialBounded}
 use Rattle.margin.proofs.Sizes.{first-largest}
 
@@ -72,7 +73,7 @@ module _ (e : Exposure) (h : All Limits (e .nodes)) where
       (λ s m. loss-within s) s (numbered (scenarioCount (e .components)) s k)
 
   pub curve-bounded : CurveBounded e (curveMargin e)
-  unfolding curveMargin
+  unfolding curveMargin figuresAt
   curve-bounded =
       record {
         tolerance = refl;
@@ -92,7 +93,7 @@ AllLimits (e ∷ es) = All Limits (e .nodes) × AllLimits es
 module _ (currency : ℕ) where
   sums-within : (es : List Exposure) → AllLimits es
       → Within (sumIn currency (λ m. m .loss) (map curveMargin es)) (exactInitial currency es) (2 * tolerancesIn currency es)
-  unfolding sumIn exactInitial tolerancesIn curveMargin
+  unfolding sumIn exactInitial tolerancesIn curveMargin figuresAt
   sums-within [] h = omega (int, up-pos 0, down-pos 0)
   sums-within (e ∷ es) h = go (eqb (e .currency) currency) (sums-within es (h .1))
     where

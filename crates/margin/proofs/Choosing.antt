@@ -16,18 +16,17 @@ use Rattle.decimal.specs.Product.{unit}
 use Rattle.discount.specs.Flows.{flowValue}
 use Rattle.curve.specs.Scenarios.{scenarioCount, scenarioAt}
 use Rattle.curve.specs.Stress.{stressed, stressedCurve}
-use Rattle.margin.specs.declared.Position.{Position}
+use Rattle.ladder.specs.declared.Position.{Position}
 use Rattle.margin.specs.declared.losses.Loss.{Loss}
-use Rattle.margin.specs.Exposure.{Exposure}
-use Rattle.margin.specs.Losses.{valueOn, baseOf, valueAt, lossAt, worstAt}
+use Rattle.ladder.specs.Exposure.{Exposure, exposureOf, PositionLimits}
+use Rattle.ladder.specs.Values.{valueOn, baseOf}
+use Rattle.margin.specs.Losses.{valueAt, lossAt, worstAt}
 use Rattle.ladder.specs.Totals.{mostFlows}
-use Rattle.margin.specs.Positions.{exposureOf, PositionLimits}
 use Rattle.margin.specs.Worst.{worseOf, lossOf, ScenarioLoss, worstOf}
 use Rattle.screening.specs.Screening.{Least}
 use Rattle.margin.specs.Choice.{Estimates, slackOf, limitOf, WorstKept, sameRates}
 use Rattle.margin.proofs.Discarding.{kept-worst, same-stressed}
-use Rattle.ladder.proofs.LadderFlows.{ladder-limits}
-use Rattle.margin.proofs.Sizes.{value-size}
+use Rattle.ladder.proofs.Sizes.{value-size, position-fits}
 
 not-less : (z : ℤ) → ltZ z z ≡ false
 not-less z = go (ltZ z z) refl
@@ -65,7 +64,7 @@ module _ (p : Position) (ladder : List ℕ) (h : PositionLimits p ladder) where
 
   size : (s : ℕ) → natAbs (valueAt flowValue e s) ≤ mostFlows * unit
   size s =
-      value-size e (ladder-limits (p .id) ladder (p .schedules) (h .schedules)) (h .schedules .few (p .id)) (map (stressed (scenarioAt (p .components) s)) (e .nodes))
+      value-size e (position-fits p ladder h) (map (stressed (scenarioAt (p .components) s)) (e .nodes))
 
   -- an estimate is little larger than a value
   pub estimate-size : (values : List ℤ) (reach : ℕ) → Estimates e values reach → (s : ℕ) → s < scenarioCount (p .components)

@@ -23,11 +23,10 @@ use Rattle.ladder.specs.Totals.{AllFlowLimits}
 use Rattle.ladder.proofs.LadderFlows.{ladder-limits}
 use Rattle.ladder.proofs.Netting.{reach-most}
 use Rattle.screening.specs.Screening.{Screened}
-use Rattle.margin.specs.declared.Position.{Position}
-use Rattle.margin.specs.Exposure.{Exposure}
+use Rattle.ladder.specs.declared.Position.{Position}
+use Rattle.ladder.specs.Exposure.{Exposure, exposureOf, PositionLimits}
 use Rattle.margin.specs.Losses.{valueAt}
 use Rattle.margin.specs.Choice.{Estimates}
-use Rattle.margin.specs.Positions.{exposureOf, PositionLimits}
 
 dated : (fs : List Flow) → AllFlowLimits fs → OnDays fs
 dated [] h = tt

@@ -13,7 +13,7 @@ use Rattle.discount.specs.Flows.{flowValue}
 use Rattle.curve.specs.declared.Curve.{Curve}
 use Rattle.curve.specs.Limits.{zeroNode}
 use Rattle.curve.specs.Scenarios.{scenarioCount}
-use Rattle.margin.specs.Exposure.{Exposure}
+use Rattle.ladder.specs.Exposure.{Exposure}
 use Rattle.margin.specs.Losses.{valueAt}
 use Rattle.ladder.specs.Totals.{mostFlows}
 use Rattle.margin.specs.declared.losses.Loss.{Loss}

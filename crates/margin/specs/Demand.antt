@@ -8,8 +8,9 @@ use lib.IntN.{ℤ, pos, _+ℤ_}
 use Rattle.laws.specs.Distance.{Below, Within}
 use Rattle.curve.specs.Scenarios.{scenarioCount}
 use Rattle.discount.specs.Flows.{flowExact}
-use Rattle.margin.specs.Exposure.{Exposure}
-use Rattle.margin.specs.Losses.{baseOf, lossAt, worstLoss, toleranceOf}
+use Rattle.ladder.specs.Exposure.{Exposure}
+use Rattle.ladder.specs.Values.{baseOf, toleranceOf}
+use Rattle.margin.specs.Losses.{lossAt, worstLoss}
 use Rattle.margin.specs.declared.CurveMargin.{CurveMargin}
 
 -- "The exact base is the sum of their exact values at the curve's own rates"

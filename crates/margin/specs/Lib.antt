@@ -1,4 +1,3 @@
-pub mod Exposure
 pub mod Losses
 pub mod Worst
 pub mod Positions

@@ -7,24 +7,29 @@ use lib.IntN.{ℤ, pos, natAbs, _+ℤ_, _-ℤ_}
 use lib.ListN.{length, getD, replicate}
 use Rattle.decimal.specs.Product.{unit}
 use Rattle.discount.specs.Flows.{flowValue}
-use Rattle.margin.specs.Exposure.{Exposure}
-use Rattle.margin.specs.Losses.{baseOf, worstAt, worstLoss, toleranceOf}
+use Rattle.ladder.specs.Exposure.{Exposure}
+use Rattle.ladder.specs.Values.{baseOf, toleranceOf}
+use Rattle.margin.specs.Losses.{lossAt, worstAt}
 use Rattle.ladder.specs.Totals.{mostFlows}
 use Rattle.margin.specs.declared.margins.Sums.{Sums}
 use Rattle.margin.specs.declared.CurveMargin.{CurveMargin}
 use Rattle.margin.specs.declared.CurrencyMargin.{CurrencyMargin}
 use Rattle.margin.specs.declared.Margin.{Margin}
 
--- the figures of a curve
-unfoldable pub curveMargin : Exposure → CurveMargin
-curveMargin e =
+-- the figures of a curve, with the loss of a scenario
+unfoldable pub figuresAt : Exposure → ℕ → CurveMargin
+figuresAt e s =
     record {
       base = baseOf flowValue e;
-      loss = worstLoss flowValue e;
-      scenario = worstAt flowValue e;
+      loss = lossAt flowValue e s;
+      scenario = s;
       currency = e .currency;
       tolerance = toleranceOf e;
     }
+
+-- of the worst scenario
+unfoldable pub curveMargin : Exposure → CurveMargin
+curveMargin e = figuresAt e (worstAt flowValue e)
 
 -- the sum of a figure over the curves of a currency
 unfoldable pub sumIn : ℕ → (CurveMargin → ℤ) → List CurveMargin → ℤ

@@ -7,7 +7,7 @@ use lib.Signed.{ltZ}
 use Rattle.decimal.specs.Product.{unit}
 use Rattle.discount.specs.Flows.{flowValue}
 use Rattle.curve.specs.Scenarios.{scenarioCount}
-use Rattle.margin.specs.Exposure.{Exposure}
+use Rattle.ladder.specs.Exposure.{Exposure}
 use Rattle.margin.specs.Losses.{lossAt, worstAt}
 use Rattle.ladder.specs.Totals.{mostFlows}
 use Rattle.margin.specs.declared.losses.Loss.{Loss}

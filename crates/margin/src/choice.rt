@@ -5,13 +5,15 @@ ghost use lib.ListN.{length};
 ghost use Rattle.curve.specs.Limits.{Proper};
 ghost use Rattle.curve.specs.Scenarios.{scenarioCount};
 ghost use Rattle.discount.specs.Flows.{flowValue};
+ghost use Rattle.ladder.specs.Exposure.{exposureOf};
 ghost use Rattle.margin.specs.Choice.{Estimates, SomeKept, FirstKept, WorstKept, sameRates};
 ghost use Rattle.margin.specs.Losses.{lossAt};
-ghost use Rattle.margin.specs.Positions.{exposureOf, Based};
+ghost use Rattle.margin.specs.Positions.{Based};
 ghost use Rattle.margin.specs.Worst.{worseOf, lossOf, ScenarioLoss, worstOf};
 use super::ValuedPosition;
 use super::estimates::estimate;
 use super::losses::Loss;
+use super::losses::in_scenario;
 use super::losses::loss_of;
 use curve::Curve;
 use screening::least::least_of;
@@ -53,7 +55,9 @@ fn worse_with(valued: ValuedPosition, ladder: &[u64], tables: &[u64], worst: Los
     ensures { λ r. ⌜ r ≡ worseOf worst (lossOf (exposureOf (valued .position) (now (ladder .entry))) s) ⌝ }
 {
     let position = valued.position;
-    if same_rates(position.curve_in(s), position.curve_in(worst.scenario)) {
+    let here = in_scenario(position, s);
+    let there = in_scenario(position, worst.scenario);
+    if same_rates(here.curve, there.curve) {
         return worst;
     }
     let next = Loss {

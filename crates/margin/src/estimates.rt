@@ -2,9 +2,9 @@
 ghost use mathlib.Core.Path.{_≡_};
 ghost use lib.ListN.{length};
 ghost use Rattle.logarithm.specs.Logarithms.{Tables};
+ghost use Rattle.ladder.specs.Exposure.{exposureOf, PositionLimits};
 ghost use Rattle.margin.specs.Choice.{Estimates};
-ghost use Rattle.margin.specs.Positions.{exposureOf, PositionLimits};
-use super::Position;
+use ladder::Position;
 use ladder::net::net_days;
 use ladder::net::reach_of;
 use screening::screen::screen;

@@ -5,17 +5,7 @@ pub mod estimates;
 pub mod losses;
 pub mod margins;
 
-use curve::Components;
-use curve::Curve;
-
-// What an account has on a curve: the curve's id and currency, the curve with the components that stress it, and how many schedules its ladder has.
-pub struct Position {
-    pub id: u64,
-    pub currency: u64,
-    pub curve: Curve,
-    pub components: Components,
-    pub schedules: usize,
-}
+use ladder::Position;
 
 // A position with its base value.
 pub struct ValuedPosition {

@@ -3,14 +3,14 @@ ghost use mathlib.Core.Path.{_≡_};
 ghost use mathlib.Core.List.{_++_};
 ghost use Prim.Native.Nat.{_-_, _≤_};
 ghost use lib.ListN.{take, replicate};
+ghost use Rattle.ladder.specs.Exposure.{exposureOf, PositionLimits};
 ghost use Rattle.margin.specs.Margins.{curveMargin, currencyMargin, hasCurrency, noCurve, assembled, MarginLimits, plusCurve, SumsLimits, PlacesLimits};
-ghost use Rattle.margin.specs.Positions.{exposureOf, PositionLimits};
 use super::CurrencyMargin;
 use super::CurveMargin;
 use super::Margin;
-use super::Position;
 use super::ValuedPosition;
 use super::choice::worst_of;
+use ladder::Position;
 use ladder::valuing::value_of;
 use logarithm::tables::fill;
 
@@ -21,13 +21,7 @@ pub fn curve_margin(position: Position, ladder: &[u64]) -> CurveMargin
 {
     let mut tables = [0u64; 3694];
     fill(&mut tables);
-    let total = value_of(
-        position.id,
-        position.curve,
-        ladder,
-        position.schedules,
-        &tables,
-    );
+    let total = value_of(position, ladder, &tables);
     let base = total.sum;
     let valued = ValuedPosition {
         position: position,

@@ -21,8 +21,8 @@ pub fn preview(book: &[u8], used: usize, day: u64, r: [u8; 56], out: &mut [u8]) 
         Verdict::Accepted => {
             let mut copy = [0u8; 65536];
             copy_in(&mut copy, 0, &book[0..used]);
-            let used_after = edit::add(&mut copy, used, r);
-            report::fill_report(&copy, used_after, out)
+            edit::add(&mut copy, used, r);
+            report::fill_report(&copy, out)
         }
     }
 }

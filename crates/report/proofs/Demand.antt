@@ -20,7 +20,8 @@ use Rattle.book.specs.Parts.{curveCount}
 use Rattle.book.proofs.Accepted.{Sound, sound, curve-sound}
 use Rattle.margin.specs.declared.CurrencyMargin.{CurrencyMargin}
 use Rattle.margin.specs.Margins.{curveMargin, currencyMargin, noCurve, noCurrency}
-use Rattle.margin.proofs.Sizes.{value-fits, loss-fits}
+use Rattle.ladder.proofs.Sizes.{value-fits}
+use Rattle.margin.proofs.Sizes.{loss-fits}
 use Rattle.margin.proofs.Bounded.{AllLimits, curve-bounded, initial-bounded}
 use Rattle.report_block.specs.Report.{reportBytes}
 use Rattle.report_block.specs.Shown.{curveShown, currencyShown, shownInitial, CurveFits, CurrencyFits}

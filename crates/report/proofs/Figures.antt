@@ -16,10 +16,11 @@ use Rattle.book.proofs.Accepted.{Sound, curve-sound}
 use Rattle.ladder.specs.Totals.{mostFlows}
 use Rattle.margin.specs.declared.CurveMargin.{CurveMargin}
 use Rattle.margin.specs.declared.CurrencyMargin.{CurrencyMargin}
-use Rattle.margin.specs.Exposure.{Exposure}
-use Rattle.margin.specs.Margins.{curveMargin, sumIn, currencyMargin, noCurve, assembled}
-use Rattle.margin.proofs.Sizes.{margin-limits, margin-tolerance, first-largest}
-use Rattle.margin.proofs.Accounts.{FlowsFit, AllFlowsFit}
+use Rattle.ladder.specs.Exposure.{Exposure, FlowsFit}
+use Rattle.margin.specs.Margins.{figuresAt, curveMargin, sumIn, currencyMargin, noCurve, assembled}
+use Rattle.ladder.proofs.Sizes.{tolerance-most}
+use Rattle.margin.proofs.Sizes.{margin-limits, first-largest}
+use Rattle.margin.proofs.Accounts.{AllFlowsFit}
 use Rattle.report_block.proofs.Report.{Places}
 use Rattle.exposure.specs.Exposures.{exposureAt, exposures}
 use Rattle.exposure.proofs.Fitting.{exposure-fits}
@@ -57,17 +58,17 @@ module _ (s : List ℕ) (used : ℕ) (b : Sound s used) where
   -- ---- curve k of the book
 
   pub curve-sizes : (k : ℕ) → 1 ≤ k → k ≤ curveCount s → CurveSizes (curveMargin (exposureAt s k))
-  unfolding curveMargin exposureAt
+  unfolding curveMargin figuresAt exposureAt
   curve-sizes k l m =
       let f = exposure-fits s used b k in
-      let limits = margin-limits (exposureAt s k) (f .each) (f .few) in
+      let limits = margin-limits (exposureAt s k) f in
       let c = curve-sound s used b k l m in
       record {
         base = limits .base;
         loss = limits .loss;
         scenario = omega (arith, first-largest (exposureAt s k) .within, scenarios-most _ (c .components));
         currency = c .most;
-        tolerance = margin-tolerance (exposureAt s k) (f .each) (f .few);
+        tolerance = tolerance-most (exposureAt s k) f;
       }
 
   -- ---- a currency
@@ -77,8 +78,8 @@ module _ (s : List ℕ) (used : ℕ) (b : Sound s used) where
   currency-sizes currency =
       let all = exposures-fit s used b in
       let few : length (exposures s) ≤ 8 = omega (arith, length-exposures s, b .most) in
-      let lost = sum-size currency (λ m. m .loss) (2 * (mostFlows * unit)) (λ e f. margin-limits e (f .each) (f .few) .loss) (exposures s) all in
-      let based = sum-size currency (λ m. m .base) (mostFlows * unit) (λ e f. margin-limits e (f .each) (f .few) .base) (exposures s) all in
+      let lost = sum-size currency (λ m. m .loss) (2 * (mostFlows * unit)) (λ e f. margin-limits e f .loss) (exposures s) all in
+      let based = sum-size currency (λ m. m .base) (mostFlows * unit) (λ e f. margin-limits e f .base) (exposures s) all in
       let i = le-trans lost (mul-le-mul-right (2 * (mostFlows * unit)) few) in
       let v = le-trans based (mul-le-mul-right (mostFlows * unit) few) in
       record {

@@ -12,7 +12,7 @@ use Rattle.laws.proofs.Lists.{getD-map-in}
 use Rattle.book.specs.Parts.{curveCount}
 use Rattle.book.proofs.Accepted.{Sound}
 use Rattle.margin.specs.declared.CurveMargin.{CurveMargin}
-use Rattle.margin.specs.Exposure.{Exposure}
+use Rattle.ladder.specs.Exposure.{Exposure}
 use Rattle.margin.specs.Margins.{curveMargin, noCurve, PlacesLimits}
 use Rattle.margin.proofs.Accounts.{AllFlowsFit, places-limits}
 use Rattle.exposure.specs.Exposures.{exposureAt, exposures}

@@ -1,64 +1,30 @@
 // The margin entry: from a book to its report.
 use acceptance::Today;
 use book::parts;
-use curve::Components;
 use ground::Ground;
 use ground::Verdict;
-use margin::CurveMargin;
 use margin::Margin;
-use margin::Position;
 ghost use mathlib.Core.Path.{_≡_};
 ghost use Prim.Native.Nat.{_*_, _≤_};
 ghost use lib.ListN.{length};
 ghost use Rattle.ground.specs.declared.Verdict.the-variants.{Accepted};
 ghost use Rattle.ground.specs.Verdicts.{bytesAfter};
-ghost use Rattle.curve.specs.Limits.{ProperComponents};
-ghost use Rattle.curve_block.specs.Parts.{componentsOf};
-ghost use Rattle.book.specs.Parts.{blockAt, curveCount, tradeCount};
-ghost use Rattle.book.specs.Verdict.{verdict};
-ghost use Rattle.margin.specs.Margins.{curveMargin};
-ghost use Rattle.exposure.specs.Exposures.{exposureAt};
+ghost use Rattle.book.specs.Parts.{tradeCount};
+ghost use Rattle.book.specs.Verdict.{StartsWithBook};
 ghost use Rattle.report.specs.Bounded.{Bounded};
 ghost use Rattle.report.specs.Entry.{marginIn, reportVerdict, marginVerdict, reported, marginBytes};
 
-// The components of a curve of an accepted book: each curve has scenarios of its own.
-fn components_at(book: &[u8], used: usize, curve: usize) -> Components
-    requires { ⌜ (verdict (now book) used ≡ Accepted) × (1 ≤ curve) × (curve ≤ curveCount (now book)) ⌝ }
-    ensures { λ r. ⌜ r ≡ componentsOf (blockAt (now (book .entry)) curve) ⌝ }
-    ensures { λ r. ⌜ ProperComponents r ⌝ }
-{
-    curve_block::components_of(parts::block_at(book, curve))
-}
-
-// The figures of a curve of an accepted book, by way of its ladder, which has room for three legs of each trade.
-fn curve_figures(book: &[u8], used: usize, curve: usize, ladder: &mut [u64]) -> CurveMargin
-    requires { ⌜ (verdict (now book) used ≡ Accepted) × (1 ≤ curve) × (curve ≤ curveCount (now book)) × (tradeCount (now book) * 18 ≤ length (now ladder)) ⌝ }
-    ensures { λ r. ⌜ r ≡ curveMargin (exposureAt (now (book .entry)) curve) ⌝ }
-{
-    let n = exposure::gather(book, used, curve as u64, ladder);
-    let b = parts::block_at(book, curve);
-    let currency = curve_block::currency_of(b);
-    let components = components_at(book, used, curve);
-    let position = Position {
-        id: curve as u64,
-        currency: currency,
-        curve: curve_block::curve_of(b),
-        components: components,
-        schedules: n,
-    };
-    margin::margins::curve_margin(position, ladder)
-}
-
-// The margin of an accepted book, curve by curve in one ladder.
-fn margin_with(book: &[u8], used: usize, ladder: &mut [u64]) -> Margin
-    requires { ⌜ (verdict (now book) used ≡ Accepted) × (tradeCount (now book) * 18 ≤ length (now ladder)) ⌝ }
+// The margin of an accepted book, curve by curve in one ladder, which has room for three legs of each trade.
+fn margin_with(book: &[u8], ladder: &mut [u64]) -> Margin
+    requires { ⌜ StartsWithBook (now book) × (tradeCount (now book) * 18 ≤ length (now ladder)) ⌝ }
     ensures { λ r. ⌜ r ≡ marginIn (now (book .entry)) ⌝ }
 {
     let count = parts::curve_count(book);
     let mut curves = [margin::margins::no_curve(); 8];
     let mut k: usize = 0;
     while k < count {
-        let m = curve_figures(book, used, k + 1, ladder);
+        let position = exposure::position_at(book, k + 1, ladder);
+        let m = margin::margins::curve_margin(position, ladder);
         curves[k] = m;
         k += 1;
     }
@@ -66,28 +32,28 @@ fn margin_with(book: &[u8], used: usize, ladder: &mut [u64]) -> Margin
 }
 
 // The margin of an accepted book. With one block of trades its ladder is short: less is cleared.
-pub fn margin_of_book(book: &[u8], used: usize) -> Margin
-    requires { ⌜ verdict (now book) used ≡ Accepted ⌝ }
+pub fn margin_of_book(book: &[u8]) -> Margin
+    requires { ⌜ StartsWithBook (now book) ⌝ }
     ensures { λ r. ⌜ r ≡ marginIn (now (book .entry)) ⌝ }
 {
     if parts::trade_count(book) <= 9 {
         let mut few = [0u64; 162];
-        return margin_with(book, used, &mut few);
+        return margin_with(book, &mut few);
     }
     let mut ladder = [0u64; 20412];
-    margin_with(book, used, &mut ladder)
+    margin_with(book, &mut ladder)
 }
 
 // Writes the report of an accepted book, where there is space for it.
-pub fn fill_report(book: &[u8], used: usize, out: &mut [u8]) -> Verdict
-    requires { ⌜ verdict (now book) used ≡ Accepted ⌝ }
+pub fn fill_report(book: &[u8], out: &mut [u8]) -> Verdict
+    requires { ⌜ StartsWithBook (now book) ⌝ }
     ensures { λ r. ⌜ r ≡ reportVerdict (length (now (out .entry))) ⌝ }
     ensures { λ _. ⌜ now (out .exit) ≡ bytesAfter (reportVerdict (length (now (out .entry)))) (now (out .entry)) (reported (now (book .entry)) (now (out .entry))) ⌝ }
 {
     if ground::breaks_space(512, out.len()) {
         return Verdict::Refused(Ground::ReportSpace, 0);
     }
-    report_block::write_report(out, margin_of_book(book, used));
+    report_block::write_report(out, margin_of_book(book));
     Verdict::Accepted
 }
 
@@ -100,6 +66,6 @@ pub fn margin(book: &[u8], used: usize, day: u64, out: &mut [u8]) -> Verdict
     let v = acceptance::check(book, used, Today::Given(day));
     match v {
         Verdict::Refused(g, k) => Verdict::Refused(g, k),
-        Verdict::Accepted => fill_report(book, used, out),
+        Verdict::Accepted => fill_report(book, out),
     }
 }

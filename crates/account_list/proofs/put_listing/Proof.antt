@@ -9,7 +9,7 @@ use Rattle.account_list.proofs.put_listing.Statement.{statement}
 use Rattle.account_list.proofs.put_listing.Tie as tie
 
 margin-of-book-requires : tie.Need-margin-of-book-requires
-margin-of-book-requires c κs = book-accepted _ _ _ (sym (c .before .before .check .ensures) ∙ c .enum-told .given .1) .blocks
+margin-of-book-requires c κs = record { used = _; accepted = book-accepted _ _ _ (sym (c .before .before .check .ensures) ∙ c .enum-told .given .1) .blocks }
 
 -- an accepted book has its header, and at most eight curves
 curve-count-requires : tie.Need-curve-count-requires

@@ -16,15 +16,15 @@ use Rattle.exposure.proofs.gather.Statement.{statement}
 use Rattle.exposure.proofs.gather.Tie as tie
 
 abbrev Inv-loop : tie.InvT-loop
-Inv-loop book used curve ladder₀ count schedules₀ i₀ ladder schedules i =
+Inv-loop book curve ladder₀ count schedules₀ i₀ ladder schedules i =
     (i ≤ count) × (length ladder ≡ length ladder₀) × Collected book curve ladder schedules i
 
 abbrev μ-loop : tie.MeasureT-loop
-μ-loop book used curve ladder₀ count schedules₀ i₀ ladder schedules i = count - i
+μ-loop book curve ladder₀ count schedules₀ i₀ ladder schedules i = count - i
 
 -- at the entry: the book is sound
-here : (s : tie.Start Inv-loop μ-loop) → Sound (s .args .book .now) (s .args .used)
-here s = sound (s .args .book .now) (s .args .used) (s .pre .0)
+here : (s : tie.Start Inv-loop μ-loop) → Sound (s .args .book .now) (s .pre .0 .used)
+here s = sound (s .args .book .now) (s .pre .0 .used) (s .pre .0 .accepted)
 
 trade-count-requires : tie.Need-trade-count-requires Inv-loop μ-loop
 trade-count-requires c κs = let b = here (c .before .before) in omega (arith, b .blocks, b .lent)
@@ -41,14 +41,14 @@ record-at-requires c κs =
     let after-slice-known = c .before .before .before in
     let start = after-slice-known .before .before in
     let b = here start in
-    omega (arith, place-held (start .args .book .now) (start .args .used) b (c .before .loop .i) (at c) .0, b .blocks, b .lent)
+    omega (arith, place-held (start .args .book .now) (start .pre .0 .used) b (c .before .loop .i) (at c) .0, b .blocks, b .lent)
 
 fields-of-requires : tie.Need-fields-of-requires Inv-loop μ-loop
 fields-of-requires c κs =
     let turn = c .before .before in
     let after-slice-known = turn .before .before .before in
     let start = after-slice-known .before .before in
-    ap length (c .before .record-at .ensures) ∙ length-recordAt (start .args .book .now) (start .args .used) (here start) (turn .before .loop .i) (at turn)
+    ap length (c .before .record-at .ensures) ∙ length-recordAt (start .args .book .now) (start .pre .0 .used) (here start) (turn .before .loop .i) (at turn)
 
 -- after the trade is read: it is the one at the position
 module _ (c : tie.After-trade-of Inv-loop μ-loop) where
@@ -63,7 +63,7 @@ module _ (c : tie.After-trade-of Inv-loop μ-loop) where
       c .trade-of .ensures ∙ ap tradeOf (c .before .fields-of .ensures ∙ ap fieldsOf (c .before .before .before .record-at .ensures))
 
   can-be-valued : Valued (tradeAt (start .args .book .now) (turn .before .loop .i))
-  can-be-valued = accepted-at (start .args .book .now) (start .args .used) (here start) (turn .before .loop .i) (at turn) .valued
+  can-be-valued = accepted-at (start .args .book .now) (start .pre .0 .used) (here start) (turn .before .loop .i) (at turn) .valued
 
 legs-of-requires : tie.Need-legs-of-requires Inv-loop μ-loop
 legs-of-requires c κs = rw (trade-is c) (can-be-valued c)
@@ -103,7 +103,7 @@ returns c =
     let inv = c .before .loop .inv in
     let e : c .before .loop .i ≡ tradeCount s = omega (arith, c .before .before .trade-count .ensures) in
     let all : Collected s (start .args .curve) (c .before .loop .ladder) (c .before .loop .schedules) (tradeCount s) = rw (sym e) (inv .2) in
-    (all .flows, collected-all s (start .args .used) (here start) (start .args .curve) (c .before .loop .ladder) (c .before .loop .schedules) (omega (arith, inv .1, start .pre .1)) all)
+    (all .flows, collected-all s (start .pre .0 .used) (here start) (start .args .curve) (c .before .loop .ladder) (c .before .loop .schedules) (omega (arith, inv .1, start .pre .1)) all)
 
 pub gather-spec : {M : Type 1} → statement M
 gather-spec =

@@ -86,8 +86,11 @@ fill-report-requires c κs =
     let with-record = c .before .before .before in
     let copy = with-record .before .before .before in
     let a = start (passed copy) .args in
-    copy-accepted-with-record zeros zeros-room (a .book .now) (a .used) (a .r) (given (passed copy)) _ (is-copy copy) (bytes (passed copy)) (record-long (start (passed copy))) _ _
-    (with-record .add .ensures .0) (with-record .add .ensures .1)
+    record {
+      used = _;
+      accepted = copy-accepted-with-record zeros zeros-room (a .book .now) (a .used) (a .r) (given (passed copy)) _ (is-copy copy) (bytes (passed copy)) (record-long (start (passed copy))) _ _
+          (with-record .add .ensures .0) (with-record .add .ensures .1);
+    }
 
 returns-2 : tie.Need-returns-2
 returns-2 c =

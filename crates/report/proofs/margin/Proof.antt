@@ -8,7 +8,7 @@ use Rattle.report.proofs.margin.Statement.{statement}
 use Rattle.report.proofs.margin.Tie as tie
 
 fill-report-requires : tie.Need-fill-report-requires
-fill-report-requires c κs = book-accepted _ _ _ (sym (c .before .before .before .check .ensures) ∙ c .before .enum-told .given .1) .blocks
+fill-report-requires c κs = record { used = _; accepted = book-accepted _ _ _ (sym (c .before .before .before .check .ensures) ∙ c .before .enum-told .given .1) .blocks }
 
 returns : tie.Need-returns
 returns c =

@@ -8,8 +8,8 @@ use Rattle.report.proofs.margin_of_book.Statement.{statement}
 use Rattle.report.proofs.margin_of_book.Tie as tie
 
 -- at the entry: the book is sound
-here : (s : tie.Start) → Sound (s .args .book .now) (s .args .used)
-here s = sound (s .args .book .now) (s .args .used) (s .pre)
+here : (s : tie.Start) → Sound (s .args .book .now) (s .pre .used)
+here s = sound (s .args .book .now) (s .pre .used) (s .pre .accepted)
 
 trade-count-requires : tie.Need-trade-count-requires
 trade-count-requires c κs = let b = here (c .before) in omega (arith, b .blocks, b .lent)

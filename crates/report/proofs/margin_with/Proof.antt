@@ -16,15 +16,15 @@ use Rattle.report.proofs.margin_with.Statement.{statement}
 use Rattle.report.proofs.margin_with.Tie as tie
 
 abbrev Inv-loop : tie.InvT-loop
-Inv-loop book used ladder₀ count curves₀ k₀ ladder curves k =
+Inv-loop book ladder₀ count curves₀ k₀ ladder curves k =
     (k ≤ count) × (length ladder ≡ length ladder₀) × CurvesPlaced book curves k
 
 abbrev μ-loop : tie.MeasureT-loop
-μ-loop book used ladder₀ count curves₀ k₀ ladder curves k = count - k
+μ-loop book ladder₀ count curves₀ k₀ ladder curves k = count - k
 
 -- at the entry: the book is sound
-here : (s : tie.Start Inv-loop μ-loop) → Sound (s .args .book .now) (s .args .used)
-here s = sound (s .args .book .now) (s .args .used) (s .pre .0)
+here : (s : tie.Start Inv-loop μ-loop) → Sound (s .args .book .now) (s .pre .0 .used)
+here s = sound (s .args .book .now) (s .pre .0 .used) (s .pre .0 .accepted)
 
 curve-count-requires : tie.Need-curve-count-requires Inv-loop μ-loop
 curve-count-requires c κs = let b = here (c .before .before) in omega (arith, b .blocks, b .lent)
@@ -36,8 +36,8 @@ loop-holds c = (omega arith, refl, record { places = refl; each = λ i l. absurd
 abbrev entry : tie.After-curve-count Inv-loop μ-loop → tie.Start Inv-loop μ-loop
 entry c = c .before .before .before
 
-curve-figures-requires : tie.Need-curve-figures-requires Inv-loop μ-loop
-curve-figures-requires c κs =
+position-at-requires : tie.Need-position-at-requires Inv-loop μ-loop
+position-at-requires c κs =
     let l = c .before .before in
     let counted = l .before .before in
     let p = entry counted .pre in
@@ -50,15 +50,16 @@ below c =
     let b = here (entry counted) in
     omega (arith, counted .curve-count .ensures .0, b .most)
 
--- a turn, behind its call
-abbrev turn : tie.After-slice-known2 Inv-loop μ-loop → tie.In-loop Inv-loop μ-loop
-turn c = let called = c .before .before in called .before .before
+-- a turn, behind its calls
+abbrev turn : tie.After-curve-margin Inv-loop μ-loop → tie.In-loop Inv-loop μ-loop
+turn c = let lent = c .before .before in let found = lent .before .before in found .before .before
 
 loop-again : tie.Need-loop-again Inv-loop μ-loop
 loop-again c =
     let t = turn c in
-    let called = c .before .before in
-    (omega arith, search needs, placed-next _ _ _ (t .before .loop .inv .2) (called .curve-figures .result) (below t) (called .curve-figures .ensures))
+    let lent = c .before .before in
+    let found = lent .before .before in
+    (omega arith, search needs, placed-next _ _ _ (t .before .loop .inv .2) (c .curve-margin .result) (below t) (c .curve-margin .ensures ∙ ap curveMargin (found .position-at .ensures .0)))
 
 -- behind the loop: every curve has its place
 module _ (c : tie.After-loop Inv-loop μ-loop) where
@@ -75,7 +76,7 @@ module _ (c : tie.After-loop Inv-loop μ-loop) where
       placed-all _ _ _ placed count-is (omega (arith, count-is, here start .most))
 
   limits : PlacesLimits (c .before .loop .curves) (c .before .before .before .curve-count .result)
-  limits = placed-limits (start .args .book .now) (start .args .used) (here start) _ _ count-is all
+  limits = placed-limits (start .args .book .now) _ (here start) _ _ count-is all
 
 account-requires : tie.Need-account-requires Inv-loop μ-loop
 account-requires c κs = let b = here (start c) in omega (arith, b .blocks, b .lent)
@@ -101,7 +102,8 @@ margin-with-spec =
     (λ c κs. tt)
     loop-holds
     (λ c. search needs)
-    curve-figures-requires
+    position-at-requires
+    (λ c κs. search needs)
     (λ c. omega (arith, below (turn c)))
     (λ c. below (turn c))
     (λ c. search needs)

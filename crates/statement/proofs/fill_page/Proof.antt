@@ -12,8 +12,8 @@ use Rattle.statement.proofs.Limits.{length-pageOf}
 use Rattle.statement.proofs.fill_page.Statement.{statement}
 use Rattle.statement.proofs.fill_page.Tie as tie
 
-here : (s : tie.Start) → Sound (s .args .book .now) (s .args .used)
-here s = sound (s .args .book .now) (s .args .used) (s .pre)
+here : (s : tie.Start) → Sound (s .args .book .now) (s .pre .used)
+here s = sound (s .args .book .now) (s .pre .used) (s .pre .accepted)
 
 trade-count-requires : tie.Need-trade-count-requires
 trade-count-requires c κs =
@@ -47,7 +47,7 @@ module _ (c : tie.After-page-length) where
       let trades = c .before .before in
       let made = trades .before .before in
       let b = here start in
-      let e = length-pageOf (start .args .book .now) (start .args .used) b in
+      let e = length-pageOf (start .args .book .now) _ b in
       rw (e, ← made .margin-of-book .ensures, ← trades .trade-count .ensures, ← c .before .curve-count .ensures .0) (c .page-length .ensures)
 
 returns : tie.Need-returns

@@ -19,15 +19,15 @@ use Rattle.statement.proofs.put_trades.Statement.{statement}
 use Rattle.statement.proofs.put_trades.Tie as tie
 
 abbrev Inv-loop : tie.InvT-loop
-Inv-loop book used out₀ at count next₀ i₀ out next i =
+Inv-loop book out₀ at count next₀ i₀ out next i =
     (i ≤ count) × TextLeft out₀ at (linesOf recordLine 0 (records book)) out next (linesOf recordLine i (drop i (records book)))
 
 abbrev μ-loop : tie.MeasureT-loop
-μ-loop book used out₀ at count next₀ i₀ out next i = count - i
+μ-loop book out₀ at count next₀ i₀ out next i = count - i
 
 -- at the entry: the book is sound
-here : (s : tie.Start Inv-loop μ-loop) → Sound (s .args .book .now) (s .args .used)
-here s = sound (s .args .book .now) (s .args .used) (s .pre .0)
+here : (s : tie.Start Inv-loop μ-loop) → Sound (s .args .book .now) (s .pre .0 .used)
+here s = sound (s .args .book .now) (s .pre .0 .used) (s .pre .0 .accepted)
 
 trade-count-requires : tie.Need-trade-count-requires Inv-loop μ-loop
 trade-count-requires c κs = let b = here (c .before .before) in omega (arith, b .blocks, b .lent)
@@ -61,13 +61,13 @@ record-at-requires : tie.Need-record-at-requires Inv-loop μ-loop
 record-at-requires c κs =
     let s = start c in
     let b = here s in
-    omega (arith, place-held (book c) (s .args .used) b (i c) (below c) .0, b .blocks, b .lent)
+    omega (arith, place-held (book c) _ b (i c) (below c) .0, b .blocks, b .lent)
 
 fields-of-requires : tie.Need-fields-of-requires Inv-loop μ-loop
 fields-of-requires c κs =
     let read = c .before .before in
     let turn = read .before in
-    ap length (read .record-at .ensures) ∙ length-recordAt (book turn) (start turn .args .used) (here (start turn)) (i turn) (below turn)
+    ap length (read .record-at .ensures) ∙ length-recordAt (book turn) _ (here (start turn)) (i turn) (below turn)
 
 -- after the record is read: it is the one at the position
 fields-is : (c : tie.After-fields-of Inv-loop μ-loop) → let read = c .before .before .before in c .fields-of .result ≡ fieldsOf (recordAt (book (read .before)) (i (read .before)))
@@ -78,7 +78,7 @@ put-trade-requires c κs =
     let read = c .before .before .before in
     let turn = read .before in
     let s = start turn in
-    let limits = record-limits (book turn) (s .args .used) (here s) (i turn) (below turn) in
+    let limits = record-limits (book turn) _ (here s) (i turn) (below turn) in
     let long = length-trade-line (i turn) (fieldsOf (recordAt (book turn) (i turn))) limits in
     let room = text-room (recordLine (i turn) (recordAt (book turn) (i turn))) (rest turn) (rw (next turn) at (turn .before .loop .inv .1)) (s .pre .1) in
     (omega (arith, long, room), rw (fields-is c) limits)

@@ -7,7 +7,7 @@ use Rattle.statement.proofs.statement.Statement.{statement}
 use Rattle.statement.proofs.statement.Tie as tie
 
 fill-page-requires : tie.Need-fill-page-requires
-fill-page-requires c κs = book-accepted _ _ _ (sym (c .before .before .before .check .ensures) ∙ c .before .enum-told .given .1) .blocks
+fill-page-requires c κs = record { used = _; accepted = book-accepted _ _ _ (sym (c .before .before .before .check .ensures) ∙ c .before .enum-told .given .1) .blocks }
 
 returns : tie.Need-returns
 returns c =

@@ -27,11 +27,11 @@ module _ (s : tie.Start) where
   abbrev m : Margin
   m = s .args .m
 
-  here : Sound book (s .args .used)
-  here = sound book (s .args .used) (s .pre .0 .0)
+  here : Sound book (s .pre .0 .0 .used)
+  here = sound book (s .pre .0 .0 .used) (s .pre .0 .0 .accepted)
 
   limits : PageLimits (curveCount book) m (records book)
-  limits = subst (λ (x : Margin). PageLimits (curveCount book) x (records book)) (sym (s .pre .0 .1)) (page-limits book (s .args .used) here)
+  limits = subst (λ (x : Margin). PageLimits (curveCount book) x (records book)) (sym (s .pre .0 .1)) (page-limits book _ here)
 
   whole : page (curveCount book) m (records book) ≡ pageOf book
   unfolding pageOf

@@ -14,9 +14,9 @@ use Rattle.laws.proofs.Signed.{cast, back, compared}
 use Rattle.discount.specs.Flows.{flowValue}
 use Rattle.curve.specs.Scenarios.{scenarioCount}
 use Rattle.curve.proofs.Scenarios.{scenarios-most}
+use Rattle.ladder.specs.Exposure.{exposureOf}
 use Rattle.margin.specs.declared.losses.Loss.{Loss}
 use Rattle.margin.specs.Losses.{lossAt}
-use Rattle.margin.specs.Positions.{exposureOf}
 use Rattle.margin.specs.Choice.{FirstKept, WorstKept}
 use Rattle.margin.proofs.Stressing.{loss-read}
 use Rattle.margin.proofs.Discarding.{kept-first, kept-same, kept-next}
