@@ -20,8 +20,7 @@ use Rattle.flows.proofs.Bounded.{AcceptedRecord, accepted, flows-few}
 use Rattle.book.specs.Parts.{curvesOf, curveCount, tradeCount, recordAt}
 use Rattle.book.proofs.Accepted.{Sound, accepted-record, trade-count-most}
 use Rattle.ladder.specs.Exposure.{flowsOn}
-use Rattle.ladder.specs.Ladder.{scheduleFlows, ladderFlows, LadderLimits}
-use Rattle.ladder.proofs.LadderFlows.{length-schedule}
+use Rattle.ladder.specs.Ladder.{ladderFlows, LadderLimits}
 use Rattle.exposure.specs.Growth.{SchedulesInLimits, Grown}
 use Rattle.exposure.specs.Exposures.{tradeAt, flowsUpTo, flowsIn}
 use Rattle.exposure.proofs.Gathered.{on-append}
@@ -29,7 +28,7 @@ use Rattle.exposure.proofs.Gathered.{on-append}
 pub record Collected (s : List ℕ) (curve : ℕ) (ladder : List ℕ) (n i : ℕ) : Type 0 where
   pub few : n ≤ i * 3
   pub flows : ladderFlows curve ladder n ≡ flowsOn curve (flowsUpTo s i)
-  pub limits : SchedulesInLimits ladder n
+  pub limits : SchedulesInLimits curve ladder n
 
 pub more-flows : (s : List ℕ) (i : ℕ) → flowsUpTo s (i + 1) ≡ flowsUpTo s i ++ flowsOf (tradeAt s i)
 unfolding flowsUpTo
@@ -61,14 +60,6 @@ pub on-few : (curve : ℕ) (fs : List Flow) → length (flowsOn curve fs) ≤ le
 unfolding flowsOn
 on-few curve fs = select-few (λ (f : Flow). eqb (f .curve) curve) fs
 
--- a ladder has as many flows on one curve as on another
-same-length : (c d : ℕ) (l : List ℕ) (n : ℕ) → length (ladderFlows c l n) ≡ length (ladderFlows d l n)
-unfolding ladderFlows table flatMap
-same-length c d l zero = refl
-same-length c d l (suc n) =
-    omega
-    (arith, ap length (flat-more (λ k. k) (scheduleFlows c l) 0 n), ap length (flat-more (λ k. k) (scheduleFlows d l) 0 n), length-append (flatMap (scheduleFlows c l) (table (λ k. k) 0 n)) (scheduleFlows c l (0 + n)), length-append (flatMap (scheduleFlows d l) (table (λ k. k) 0 n)) (scheduleFlows d l (0 + n)), same-length c d l n, length-schedule c l (0 + n), length-schedule d l (0 + n))
-
 module _ (s : List ℕ) (used : ℕ) (b : Sound s used) where
   pub accepted-at : (i : ℕ) → i < tradeCount s → AcceptedRecord (curvesOf s) (fieldsOf (recordAt s i))
   accepted-at i l = accepted (curvesOf s) (fieldsOf (recordAt s i)) (1 + curveCount s + i / 9) (accepted-record s used b i l)
@@ -80,12 +71,10 @@ module _ (s : List ℕ) (used : ℕ) (b : Sound s used) where
       omega
       (arith, ap length more, length-append (flowsUpTo s i) (flowsOf (tradeAt s i)), few-flows i (omega arith), flows-few (fieldsOf (recordAt s i)) (accepted-at i (omega arith)))
 
-  pub collected-all : (curve : ℕ) (ladder : List ℕ) (n : ℕ) → tradeCount s * 18 ≤ length ladder → Collected s curve ladder n (tradeCount s) → LadderLimits ladder n
+  pub collected-all : (curve : ℕ) (ladder : List ℕ) (n : ℕ) → tradeCount s * 18 ≤ length ladder → Collected s curve ladder n (tradeCount s) → LadderLimits curve ladder n
   collected-all curve ladder n room h =
       record {
         places = omega (arith, h .few);
         each = h .limits;
-        few = λ c.
-            omega
-            (arith, same-length c curve ladder n, ap length (h .flows), on-few curve (flowsIn s), few-flows (tradeCount s) (omega arith), trade-count-most s used b);
+        few = omega (arith, ap length (h .flows), on-few curve (flowsIn s), few-flows (tradeCount s) (omega arith), trade-count-most s used b);
       }

@@ -14,7 +14,7 @@ use borrow.Author.Tests.{eqb-true, eqb-false, ltb-false, le-leb, not-true}
 use Rattle.laws.specs.Select.{select}
 use Rattle.laws.specs.Walk.{table}
 use Rattle.laws.proofs.Select.{select-append, select-all, select-none}
-use Rattle.laws.proofs.Tables.{table-same, flat-same, flat-more}
+use Rattle.laws.proofs.Tables.{table-same, flat-more}
 use Rattle.laws.proofs.Bools.{both, neither}
 use Rattle.decimal.specs.Product.{unit}
 use Rattle.layout.specs.Bytes.{put}
@@ -26,8 +26,9 @@ use Rattle.flows.specs.Legs.{anyAbove}
 use Rattle.legs.specs.Limits.{LegLimits}
 use Rattle.flows.proofs.Above.{any-leg}
 use Rattle.ladder.specs.Exposure.{flowsOn}
-use Rattle.ladder.specs.Ladder.{payments, payment, scheduleFlows, ladderFlows, ScheduleLimits}
-use Rattle.exposure.specs.Schedules.{scheduleOf, standsOn, withLeg, countWithLeg}
+use Rattle.ladder.specs.Ladder.{scheduleOf, legAt, ladderFlows, ScheduleLimits}
+use Rattle.exposure.specs.Schedules.{standsOn, withLeg, countWithLeg}
+use Rattle.exposure.specs.Growth.{SchedulesInLimits}
 
 -- ---- the flows of a leg that stand on a curve: all of them or none
 
@@ -73,40 +74,26 @@ module _ (curve : ℕ) (l : Leg) (ladder : List ℕ) (n : ℕ) (room : n * 6 + 6
   first-is : getD written (n * 6) 0 ≡ l .first
   first-is = ap (λ (k : ℕ). getD written k 0) (sym (add-zero (n * 6))) ∙ number 0 (omega arith)
 
-  new-payment : l .curve ≡ curve → (j : ℕ) → payment curve written n j ≡ flowOf l j
-  unfolding payment
-  new-payment e j =
-      rw (first-is, number 1 (omega arith), number 2 (omega arith), number 3 (omega arith), number 4 (omega arith), number 5 (omega arith), bit-back (l .received), add-one, e) refl
-
-  new-schedule : l .curve ≡ curve → scheduleFlows curve written n ≡ legFlows l
-  unfolding scheduleFlows legFlows
-  new-schedule e =
-      ap (λ (m : ℕ). table (payment curve written n) 0 m) (number 2 (omega arith))
-      ∙ table-same (payment curve written n) (flowOf l) 0 0 (l .count) (λ k h. new-payment e (0 + k))
+  new-leg : l .curve ≡ curve → legAt curve written n ≡ l
+  new-leg e =
+      rw (first-is, number 1 (omega arith), number 2 (omega arith), number 3 (omega arith), number 4 (omega arith), number 5 (omega arith), bit-back (l .received), ← e) refl
 
   old-number : (k : ℕ) → k < n * 6 → getD written k 0 ≡ getD ladder k 0
   old-number k h = byte-apart ladder (n * 6) (scheduleOf l) k (inl h)
 
-  old-payment : (i : ℕ) → i < n → (j : ℕ) → payment curve written i j ≡ payment curve ladder i j
-  unfolding payment
-  old-payment i h j =
+  old-leg : (i : ℕ) → i < n → legAt curve written i ≡ legAt curve ladder i
+  old-leg i h =
       rw (old-number (i * 6) (omega arith), old-number (i * 6 + 1) (omega arith), old-number (i * 6 + 2) (omega arith), old-number (i * 6 + 3) (omega arith), old-number (i * 6 + 4) (omega arith), old-number (i * 6 + 5) (omega arith)) refl
-
-  old-schedule : (i : ℕ) → i < n → scheduleFlows curve written i ≡ scheduleFlows curve ladder i
-  unfolding scheduleFlows
-  old-schedule i h =
-      ap (λ (m : ℕ). table (payment curve written i) 0 m) (old-number (i * 6 + 2) (omega arith))
-      ∙ table-same (payment curve written i) (payment curve ladder i) 0 0 (payments ladder i) (λ k m. old-payment i h (0 + k))
 
   -- ---- a leg that stands on the curve adds its flows, any other none
 
   more : l .curve ≡ curve → ladderFlows curve written (n + 1) ≡ ladderFlows curve ladder n ++ legFlows l
   unfolding ladderFlows
   more e =
-      ap (λ (m : ℕ). flatMap (scheduleFlows curve written) (table (λ k. k) 0 m)) (add-one n)
-      ∙ flat-more (λ k. k) (scheduleFlows curve written) 0 n
-      ∙ ap (λ (fs : List Flow). fs ++ scheduleFlows curve written (0 + n)) (flat-same (λ k. k) (scheduleFlows curve written) (scheduleFlows curve ladder) 0 n (λ k h. old-schedule k (omega arith)))
-      ∙ ap (λ (fs : List Flow). flatMap (scheduleFlows curve ladder) (table (λ k. k) 0 n) ++ fs) (ap (scheduleFlows curve written) (zero-add n) ∙ new-schedule e)
+      ap (λ (m : ℕ). flatMap legFlows (table (legAt curve written) 0 m)) (add-one n)
+      ∙ flat-more (legAt curve written) legFlows 0 n
+      ∙ ap (λ (ls : List Leg). flatMap legFlows ls ++ legFlows (legAt curve written (0 + n))) (table-same (legAt curve written) (legAt curve ladder) 0 0 n (λ k h. old-leg (0 + k) (omega arith)))
+      ∙ ap (λ (k : Leg). flatMap legFlows (table (legAt curve ladder) 0 n) ++ legFlows k) (ap (legAt curve written) (zero-add n) ∙ new-leg e)
 
   pub push-flows : ladderFlows curve (withLeg curve l ladder n) (countWithLeg curve l n) ≡ ladderFlows curve ladder n ++ flowsOn curve (legFlows l)
   unfolding withLeg countWithLeg legFlows table flowsOn select
@@ -123,43 +110,25 @@ module _ (curve : ℕ) (l : Leg) (ladder : List ℕ) (n : ℕ) (room : n * 6 + 6
 
   -- ---- and a ladder in its limits stays so
 
-  old-limits : (i : ℕ) → i < n → ScheduleLimits ladder i → ScheduleLimits written i
-  old-limits i h s =
-      let at0 = old-number (i * 6) (omega arith) in
-      let at1 = old-number (i * 6 + 1) (omega arith) in
-      let at2 = old-number (i * 6 + 2) (omega arith) in
-      let at3 = old-number (i * 6 + 3) (omega arith) in
-      let at4 = old-number (i * 6 + 4) (omega arith) in
-      record {
-        some = rw at2 (s .some);
-        most = rw at2 (s .most);
-        lastDay = rw (at0, at1, at2) (s .lastDay);
-        amount = rw (at2, at3) (s .amount);
-        lastAmount = rw at4 (s .lastAmount);
-      }
-
-  new-limits : (l .count ≡ 0 → ⊥) → LegLimits l → Amounts l → ScheduleLimits written n
-  new-limits some h a =
-      record {
-        some = rw (number 2 (omega arith)) (omega (arith, some));
-        most = rw (number 2 (omega arith)) (h .few);
-        lastDay = rw (first-is, number 1 (omega arith), number 2 (omega arith)) (h .reach);
-        amount = rw (number 2 (omega arith), number 3 (omega arith)) (a .each);
-        lastAmount = rw (number 4 (omega arith)) (a .last (omega (arith, some)));
-      }
-
-  pub push-limits : LegLimits l → Amounts l → ((i : ℕ) → i < n → ScheduleLimits ladder i)
-      → (i : ℕ) → i < countWithLeg curve l n → ScheduleLimits (withLeg curve l ladder n) i
+  pub push-limits : LegLimits l → Amounts l → SchedulesInLimits curve ladder n → SchedulesInLimits curve (withLeg curve l ladder n) (countWithLeg curve l n)
   unfolding withLeg countWithLeg
   push-limits h a old = go (standsOn curve l) refl
     where
-      go : (t : Bool) → standsOn curve l ≡ t → (i : ℕ) → i < cond t (n + 1) n → ScheduleLimits (cond t written ladder) i
-      go false e i k = old i k
-      go true e i k = last (ℕ-discrete i n)
+      go : (t : Bool) → standsOn curve l ≡ t → SchedulesInLimits curve (cond t written ladder) (cond t (n + 1) n)
+      go false e = old
+      go true e = λ i k. last i k (ℕ-discrete i n)
         where
-          last : Dec (i ≡ n) → ScheduleLimits written i
-          last (yes p) = rw p (new-limits (eqb-false (l .count) 0 (not-true _ (both (eqb (l .curve) curve) (not (eqb (l .count) 0)) e .1))) h a)
-          last (no p) = old-limits i (omega arith) (old i (omega arith))
+          stands : (eqb (l .curve) curve ≡ true) × (not (eqb (l .count) 0) ≡ true)
+          stands = both (eqb (l .curve) curve) (not (eqb (l .count) 0)) e
+
+          some : l .count ≡ 0 → ⊥
+          some = eqb-false (l .count) 0 (not-true _ (stands .1))
+
+          last : (i : ℕ) → i < n + 1 → Dec (i ≡ n) → ScheduleLimits (legAt curve written i)
+          last i k (yes p) =
+              rw (p, new-leg (eqb-true (l .curve) curve (stands .0)))
+              (record { some = omega (arith, some); days = h; each = a .each; last = a .last (omega (arith, some)) })
+          last i k (no p) = rw (old-leg i (omega arith)) (old i (omega arith))
 
   pub push-few : countWithLeg curve l n ≤ n + 1
   unfolding countWithLeg

@@ -15,8 +15,8 @@ use Rattle.legs.specs.Runs.{legFlows, legsFlows}
 use Rattle.flows.specs.Legs.{anyAbove}
 use Rattle.flows.proofs.Above.{any-legs}
 use Rattle.ladder.specs.Exposure.{flowsOn}
-use Rattle.ladder.specs.Ladder.{ladderFlows}
-use Rattle.exposure.specs.Schedules.{scheduleOf, standsOn, withLeg, countWithLeg}
+use Rattle.ladder.specs.Ladder.{scheduleOf, ladderFlows}
+use Rattle.exposure.specs.Schedules.{standsOn, withLeg, countWithLeg}
 use Rattle.exposure.specs.Growth.{SchedulesInLimits, Grown, LegsSound}
 use Rattle.exposure.proofs.Gathered.{on-append, amounts, push-flows, push-limits, push-few}
 
@@ -59,9 +59,9 @@ module _ (curve : ℕ) (legs : Legs) (ladder : List ℕ) (n : ℕ) (room : n * 6
       let f₁ : ladderFlows curve x₁ m₁ ≡ ladderFlows curve ladder n ++ flowsOn curve (legFlows (legs .first)) = rw (c₁, w₁) (push-flows curve (legs .first) ladder n r₁) in
       let f₂ : ladderFlows curve x₂ m₂ ≡ ladderFlows curve x₁ m₁ ++ flowsOn curve (legFlows (legs .second)) = rw (c₂, w₂) (push-flows curve (legs .second) x₁ m₁ s₂) in
       let f₃ : ladderFlows curve x₃ m₃ ≡ ladderFlows curve x₂ m₂ ++ flowsOn curve (legFlows (legs .payments)) = rw (c₃, w₃) (push-flows curve (legs .payments) x₂ m₂ r₃) in
-      let l₁ : SchedulesInLimits ladder n → SchedulesInLimits x₁ m₁ = rw (c₁, w₁) (push-limits curve (legs .first) ladder n r₁ (sound .reach .first) (amounts _ (within .0))) in
-      let l₂ : SchedulesInLimits x₁ m₁ → SchedulesInLimits x₂ m₂ = rw (c₂, w₂) (push-limits curve (legs .second) x₁ m₁ s₂ (sound .reach .second) (amounts _ (within .1))) in
-      let l₃ : SchedulesInLimits x₂ m₂ → SchedulesInLimits x₃ m₃ = rw (c₃, w₃) (push-limits curve (legs .payments) x₂ m₂ r₃ (sound .reach .payments) (amounts _ (within .2))) in
+      let l₁ : SchedulesInLimits curve ladder n → SchedulesInLimits curve x₁ m₁ = rw (c₁, w₁) (push-limits curve (legs .first) ladder n r₁ (sound .reach .first) (amounts _ (within .0))) in
+      let l₂ : SchedulesInLimits curve x₁ m₁ → SchedulesInLimits curve x₂ m₂ = rw (c₂, w₂) (push-limits curve (legs .second) x₁ m₁ s₂ (sound .reach .second) (amounts _ (within .1))) in
+      let l₃ : SchedulesInLimits curve x₂ m₂ → SchedulesInLimits curve x₃ m₃ = rw (c₃, w₃) (push-limits curve (legs .payments) x₂ m₂ r₃ (sound .reach .payments) (amounts _ (within .2))) in
       record {
         flows = rw (f₃, f₂, f₁, all-flows) (simp append-assoc);
         limits = λ h. l₃ (l₂ (l₁ h));

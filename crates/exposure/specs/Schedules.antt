@@ -1,14 +1,11 @@
--- A leg of a trade as a schedule of a curve's ladder (`Ladder` of the crate ladder).
+-- A curve's ladder with a leg of a trade more.
 use mathlib.Core.Bool.{Bool, _&&_, not, cond}
-use mathlib.Core.List.{List, [], _∷_}
+use mathlib.Core.List.{List}
 use Prim.Native.Nat.{ℕ, _+_, _*_}
 use lib.Dec.{eqb}
 use Rattle.layout.specs.Bytes.{put}
 use Rattle.legs.specs.declared.Leg.{Leg}
-
--- the six numbers of a schedule
-abbrev pub scheduleOf : Leg → List ℕ
-scheduleOf leg = leg .first ∷ leg .period ∷ leg .count ∷ leg .each ∷ leg .last ∷ cond (leg .received) 1 0 ∷ []
+use Rattle.ladder.specs.Ladder.{scheduleOf}
 
 -- a leg that has flows on the curve
 abbrev pub standsOn : ℕ → Leg → Bool

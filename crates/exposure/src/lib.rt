@@ -60,7 +60,7 @@ fn push_legs(ladder: &mut [u64], schedules: usize, curve: u64, legs: Legs) -> us
 fn gather(book: &[u8], curve: u64, ladder: &mut [u64]) -> usize
     requires { ⌜ StartsWithBook (now book) × (tradeCount (now book) * 18 ≤ length (now ladder)) ⌝ }
     ensures flows { λ r. ⌜ ladderFlows curve (now (ladder .exit)) r ≡ flowsOn curve (flowsIn (now (book .entry))) ⌝ }
-    ensures limits { λ r. ⌜ LadderLimits (now (ladder .exit)) r ⌝ }
+    ensures limits { λ r. ⌜ LadderLimits curve (now (ladder .exit)) r ⌝ }
 {
     let count = parts::trade_count(book);
     let mut schedules: usize = 0;

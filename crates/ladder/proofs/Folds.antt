@@ -9,7 +9,9 @@ use lib.ListN.{length}
 use Rattle.discount.specs.declared.Flow.{Flow}
 use Rattle.discount.specs.Flows.{sum}
 use Rattle.ladder.specs.declared.payments.Rung.{Rung}
-use Rattle.ladder.specs.Ladder.{payments, payment, ladderFlows, LadderLimits, RungLimits, nextRung}
+use Rattle.legs.specs.Runs.{flowOf}
+use Rattle.legs.specs.Limits.{LegLimits}
+use Rattle.ladder.specs.Ladder.{payments, legAt, ladderFlows, LadderLimits, RungLimits, nextRung}
 use Rattle.ladder.specs.Totals.{FlowLimits, AllFlowLimits, mostFlows, RoomFor}
 use Rattle.ladder.proofs.LadderFlows.{payment-limits, flowsFrom, flows-all, flows-end, flows-next, next-within}
 
@@ -22,7 +24,7 @@ module _ {A : Type 0} (step : A → Flow → A) (Room : ℕ → A → Type 0) (c
     pub room : Room (length (flowsFrom curve ladder schedules r)) a
     pub within : r .schedule < schedules → r .payment < payments ladder (r .schedule)
 
-  pub folded-none : LadderLimits ladder schedules → (a : A) → Room (length (ladderFlows curve ladder schedules)) a → Folded a a (record { schedule = 0; payment = 0 })
+  pub folded-none : LadderLimits curve ladder schedules → (a : A) → Room (length (ladderFlows curve ladder schedules)) a → Folded a a (record { schedule = 0; payment = 0 })
   folded-none h a k =
       record {
         fold = rw (flows-all curve ladder schedules) refl;
@@ -34,28 +36,28 @@ module _ {A : Type 0} {step : A → Flow → A} {Room : ℕ → A → Type 0} {c
   pub folded-all : schedules ≤ r .schedule → a ≡ foldl step a₀ (ladderFlows curve ladder schedules)
   folded-all l = sym (rw (flows-end curve ladder schedules r l) at (w .fold))
 
-  module _ (h : LadderLimits ladder schedules) (l : r .schedule < schedules) where
-    pub rung-limits : RungLimits ladder r
-    rung-limits = record { places = omega (arith, h .places); limits = h .each (r .schedule) l; within = w .within l }
+  module _ (h : LadderLimits curve ladder schedules) (l : r .schedule < schedules) where
+    pub rung-limits : RungLimits ladder r × LegLimits (legAt curve ladder (r .schedule))
+    rung-limits = let days = h .each (r .schedule) l .days in (record { places = omega (arith, h .places); few = days .few; within = w .within l }, days)
 
     pub rung-room : Room (suc (length (flowsFrom curve ladder schedules (nextRung ladder r)))) a
     rung-room = rw (flows-next curve ladder schedules r l (w .within l)) at (w .room)
 
     -- a turn: the rung's flow f, the next rung, and the room that is left there
-    pub flow-limits : {f : Flow} → f ≡ payment curve ladder (r .schedule) (r .payment) → FlowLimits f
-    flow-limits e = rw e (payment-limits ladder (r .schedule) (r .payment) (h .each (r .schedule) l) (w .within l) curve)
+    pub flow-limits : {f : Flow} → f ≡ flowOf (legAt curve ladder (r .schedule)) (r .payment) → FlowLimits f
+    flow-limits e = rw e (payment-limits (legAt curve ladder (r .schedule)) (r .payment) (h .each (r .schedule) l) (w .within l))
 
     pub fewer-left : {next : Rung} → next ≡ nextRung ladder r → length (flowsFrom curve ladder schedules next) < length (flowsFrom curve ladder schedules r)
     fewer-left e = rw (e, flows-next curve ladder schedules r l (w .within l)) (omega arith)
 
-    pub folded-next : {Left : ℕ → A → Type 0} {f : Flow} {next : Rung} → f ≡ payment curve ladder (r .schedule) (r .payment) → next ≡ nextRung ladder r
+    pub folded-next : {Left : ℕ → A → Type 0} {f : Flow} {next : Rung} → f ≡ flowOf (legAt curve ladder (r .schedule)) (r .payment) → next ≡ nextRung ladder r
         → ((n : ℕ) → Room (suc n) a → Left n (step a f)) → Folded step Left curve ladder schedules a₀ (step a f) next
     folded-next {Left} {f} {next} e g more =
         rw g
         (record {
           fold = w .fold ∙ (rw (flows-next curve ladder schedules r l (w .within l), e) refl);
           room = more _ rung-room;
-          within = next-within ladder schedules h r (w .within l);
+          within = next-within curve ladder schedules h r (w .within l);
         })
 
 -- ---- the fold that adds

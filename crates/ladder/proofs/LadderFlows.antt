@@ -1,80 +1,59 @@
 -- The flows of a ladder: each in its limits, and those from a rung on.
 use mathlib.Core.Path.{_≡_, refl, sym, ap, _∙_}
-use mathlib.Core.Bool.{Bool, true, false, cond, not}
+use mathlib.Core.Bool.{Bool, true, false, cond}
 use mathlib.Core.List.{List, [], _∷_, _++_, flatMap}
-use Prim.Native.Nat.{ℕ, zero, suc, _+_, _-_, _*_, _≤_, _<_}
-use native.Mathlib.Nat.{zero-add, mul-le-mul-right}
+use Prim.Native.Nat.{ℕ, zero, suc, _+_, _-_, _≤_, _<_}
+use native.Mathlib.Nat.{zero-add}
 use native.Mathlib.Numerals.{add-one}
 use native.Mathlib.Omega.{arith}
 use borrow.Author.Tests.{eq-eqb, ne-eqb, eqb-true, eqb-false}
 use lib.Dec.{eqb}
-use lib.ListN.{length, getD, drop, length-append, List·getD-append}
+use lib.ListN.{getD, drop, length-append, List·getD-append}
 use lib.Seq.{drop-nil, drop-cons, drop-at}
 use Rattle.laws.specs.Walk.{table}
 use Rattle.laws.proofs.All.{all-append, all-table}
-use Rattle.laws.proofs.Walk.{length-table, getD-table}
+use Rattle.laws.proofs.Walk.{getD-table}
 use Rattle.laws.proofs.Tables.{table-step, table-end}
 use Rattle.decimal.specs.Product.{unit}
 use Rattle.discount.specs.declared.Flow.{Flow}
+use Rattle.legs.specs.declared.Leg.{Leg}
+use Rattle.legs.specs.Runs.{flowOf, legFlows}
+use Rattle.legs.proofs.Numbered.{length-leg}
+use Rattle.legs.proofs.Reach.{span}
 use Rattle.ladder.specs.declared.payments.Rung.{Rung}
-use Rattle.ladder.specs.Ladder.{firstDay, period, payments, amount, lastAmount, received, payment, scheduleFlows, ladderFlows, ScheduleLimits, LadderLimits, nextRung}
+use Rattle.ladder.specs.Ladder.{payments, legAt, ladderFlows, ScheduleLimits, LadderLimits, nextRung}
 use Rattle.ladder.specs.Totals.{FlowLimits, AllFlowLimits}
 
--- ---- a payment
+-- ---- the flows of a leg
 
-module _ (curve : ℕ) (ladder : List ℕ) (i j : ℕ) where
-  -- the last one, and any other
-  abbrev paid : ℕ → Flow
-  paid a =
-      record { curve = curve; day = firstDay ladder i + j * period ladder i; received = not (eqb (received ladder i) 0); amount = a }
+pub payment-limits : (l : Leg) (k : ℕ) → ScheduleLimits l → k < l .count → FlowLimits (flowOf l k)
+payment-limits l k h m = record { amount = go (eqb (k + 1) (l .count)) refl; day = span l k (h .days) m }
+  where
+    go : (t : Bool) → eqb (k + 1) (l .count) ≡ t → cond t (l .last) (l .each) ≤ unit
+    go true e = h .last
+    go false e =
+        let other : (k + 1 ≡ l .count → ⊥) = eqb-false (k + 1) (l .count) e in
+        h .each (omega (arith, other))
 
-  pub payment-last : j + 1 ≡ payments ladder i → payment curve ladder i j ≡ paid (lastAmount ladder i)
-  unfolding payment
-  payment-last e = rw (eq-eqb (suc j) (payments ladder i) (sym (add-one j) ∙ e))
+payment-at : (l : Leg) (k : ℕ) (f : Flow) → k < l .count → getD (legFlows l) k f ≡ flowOf l k
+unfolding legFlows
+payment-at l k f h = getD-table (flowOf l) 0 (l .count) k f h ∙ ap (flowOf l) (zero-add k)
 
-  pub payment-other : (j + 1 ≡ payments ladder i → ⊥) → payment curve ladder i j ≡ paid (amount ladder i)
-  unfolding payment
-  payment-other n = rw (ne-eqb (suc j) (payments ladder i) (λ e. n (add-one j ∙ e)))
+leg-limits : (l : Leg) → ScheduleLimits l → AllFlowLimits (legFlows l)
+unfolding legFlows
+leg-limits l h = all-table FlowLimits (flowOf l) 0 (l .count) (λ k b m. payment-limits l k h (omega arith))
 
-module _ (ladder : List ℕ) (i j : ℕ) (h : ScheduleLimits ladder i) (k : j < payments ladder i) where
-  -- its day is at most the last one
-  pub day-most : firstDay ladder i + j * period ladder i ≤ 10950
-  day-most =
-      let m : j ≤ payments ladder i - 1 = omega arith in
-      omega (arith, h .lastDay, mul-le-mul-right (period ladder i) m)
-
-  pub payment-limits : (curve : ℕ) → FlowLimits (payment curve ladder i j)
-  unfolding payment
-  payment-limits curve = record { amount = go (eqb (suc j) (payments ladder i)) refl; day = day-most }
-    where
-      go : (t : Bool) → eqb (suc j) (payments ladder i) ≡ t → cond t (lastAmount ladder i) (amount ladder i) ≤ unit
-      go true e = h .lastAmount
-      go false e =
-          let other : (suc j ≡ payments ladder i → ⊥) = eqb-false (suc j) (payments ladder i) e in
-          h .amount (omega (arith, other))
+-- ---- those of a ladder
 
 module _ (curve : ℕ) (ladder : List ℕ) where
-  -- ---- a schedule
-
-  pub length-schedule : (i : ℕ) → length (scheduleFlows curve ladder i) ≡ payments ladder i
-  unfolding scheduleFlows
-  length-schedule i = length-table (payment curve ladder i) 0 (payments ladder i)
-
-  payment-at : (i j : ℕ) (f : Flow) → j < payments ladder i → getD (scheduleFlows curve ladder i) j f ≡ payment curve ladder i j
-  unfolding scheduleFlows
-  payment-at i j f h = getD-table (payment curve ladder i) 0 (payments ladder i) j f h ∙ ap (payment curve ladder i) (zero-add j)
-
-  -- ---- the ladder
-
-  limits-from : (i n : ℕ) → ((j : ℕ) → j < i + n → ScheduleLimits ladder j) → AllFlowLimits (flatMap (scheduleFlows curve ladder) (table (λ i. i) i n))
-  unfolding scheduleFlows table flatMap
+  limits-from : (i n : ℕ) → ((j : ℕ) → j < i + n → ScheduleLimits (legAt curve ladder j)) → AllFlowLimits (flatMap legFlows (table (legAt curve ladder) i n))
+  unfolding table flatMap
   limits-from i zero h = tt
   limits-from i (suc n) h =
-      all-append FlowLimits (scheduleFlows curve ladder i) _
-      (all-table FlowLimits (payment curve ladder i) 0 (payments ladder i) (λ j b k. payment-limits ladder i j (h i (omega arith)) (omega arith) curve))
+      all-append FlowLimits (legFlows (legAt curve ladder i)) _ (leg-limits (legAt curve ladder i) (h i (omega arith)))
       (limits-from (suc i) n (λ j k. h j (omega arith)))
 
-  pub ladder-limits : (schedules : ℕ) → LadderLimits ladder schedules → AllFlowLimits (ladderFlows curve ladder schedules)
+  pub ladder-limits : (schedules : ℕ) → LadderLimits curve ladder schedules → AllFlowLimits (ladderFlows curve ladder schedules)
   unfolding ladderFlows
   ladder-limits schedules h = limits-from 0 schedules (λ j k. h .each j (omega arith))
 
@@ -83,11 +62,13 @@ module _ (curve : ℕ) (ladder : List ℕ) where
 module _ (curve : ℕ) (ladder : List ℕ) (schedules : ℕ) where
   -- of the schedules from i on
   abbrev schedulesFrom : ℕ → List Flow
-  schedulesFrom i = flatMap (scheduleFlows curve ladder) (table (λ i. i) i (schedules - i))
+  schedulesFrom i = flatMap legFlows (table (legAt curve ladder) i (schedules - i))
 
-  schedules-next : (i : ℕ) → i < schedules → schedulesFrom i ≡ scheduleFlows curve ladder i ++ schedulesFrom (suc i)
+  schedules-next : (i : ℕ) → i < schedules → schedulesFrom i ≡ legFlows (legAt curve ladder i) ++ schedulesFrom (suc i)
   unfolding flatMap
-  schedules-next i h = rw (table-step (λ i. i) i schedules h, add-one)
+  schedules-next i h =
+      rw (table-step (legAt curve ladder) i schedules h)
+      (ap (λ (k : ℕ). legFlows (legAt curve ladder i) ++ flatMap legFlows (table (legAt curve ladder) k (schedules - k))) (add-one i))
 
   unfoldable pub flowsFrom : Rung → List Flow
   flowsFrom r = drop (r .payment) (schedulesFrom (r .schedule))
@@ -98,14 +79,14 @@ module _ (curve : ℕ) (ladder : List ℕ) (schedules : ℕ) where
 
   pub flows-end : (r : Rung) → schedules ≤ r .schedule → flowsFrom r ≡ []
   unfolding flowsFrom flatMap
-  flows-end r h = rw (table-end (λ i. i) (r .schedule) schedules h) (drop-nil (r .payment))
+  flows-end r h = rw (table-end (legAt curve ladder) (r .schedule) schedules h) (drop-nil (r .payment))
 
   pub flows-next : (r : Rung) → r .schedule < schedules → r .payment < payments ladder (r .schedule)
-      → flowsFrom r ≡ payment curve ladder (r .schedule) (r .payment) ∷ flowsFrom (nextRung ladder r)
+      → flowsFrom r ≡ flowOf (legAt curve ladder (r .schedule)) (r .payment) ∷ flowsFrom (nextRung ladder r)
   unfolding flowsFrom nextRung
   flows-next r h k =
       rw (schedules-next i h)
-      (drop-cons (here ++ rest) j f (omega (arith, length-append here rest, length-schedule curve ladder i))
+      (drop-cons (here ++ rest) j f (omega (arith, length-append here rest, length-leg l))
       ∙ ap (λ (g : Flow). g ∷ drop (suc j) (here ++ rest)) first
       ∙ ap (λ (fs : List Flow). f ∷ fs) (go (eqb (suc j) (payments ladder i)) refl))
     where
@@ -115,20 +96,23 @@ module _ (curve : ℕ) (ladder : List ℕ) (schedules : ℕ) where
       j : ℕ
       j = r .payment
 
+      l : Leg
+      l = legAt curve ladder i
+
       f : Flow
-      f = payment curve ladder i j
+      f = flowOf l j
 
       here : List Flow
-      here = scheduleFlows curve ladder i
+      here = legFlows l
 
       rest : List Flow
       rest = schedulesFrom (suc i)
 
       first : getD (here ++ rest) j f ≡ f
-      first = List·getD-append here rest f j (omega (arith, length-schedule curve ladder i)) ∙ payment-at curve ladder i j f k
+      first = List·getD-append here rest f j (omega (arith, length-leg l)) ∙ payment-at l j f k
 
       go : (t : Bool) → eqb (suc j) (payments ladder i) ≡ t → drop (suc j) (here ++ rest) ≡ flowsFrom (cond t (record { schedule = suc i; payment = 0 }) (record { schedule = i; payment = suc j }))
-      go true e = drop-at here rest (suc j) (length-schedule curve ladder i ∙ sym (eqb-true (suc j) (payments ladder i) e))
+      go true e = drop-at here rest (suc j) (length-leg l ∙ sym (eqb-true (suc j) (payments ladder i) e))
       go false e = ap (drop (suc j)) (sym (schedules-next i h))
 
 -- ---- the rung behind one
@@ -143,10 +127,10 @@ module _ (ladder : List ℕ) (r : Rung) where
   next-other n = rw (ne-eqb (suc (r .payment)) (payments ladder (r .schedule)) (λ e. n (add-one (r .payment) ∙ e)), add-one)
 
 -- it has a payment too, as far as the ladder goes
-pub next-within : (ladder : List ℕ) (schedules : ℕ) → LadderLimits ladder schedules → (r : Rung) → r .payment < payments ladder (r .schedule)
+pub next-within : (curve : ℕ) (ladder : List ℕ) (schedules : ℕ) → LadderLimits curve ladder schedules → (r : Rung) → r .payment < payments ladder (r .schedule)
     → nextRung ladder r .schedule < schedules → nextRung ladder r .payment < payments ladder (nextRung ladder r .schedule)
 unfolding nextRung
-next-within ladder schedules h r k = go (eqb (suc (r .payment)) (payments ladder (r .schedule))) refl
+next-within curve ladder schedules h r k = go (eqb (suc (r .payment)) (payments ladder (r .schedule))) refl
   where
     go : (t : Bool) → eqb (suc (r .payment)) (payments ladder (r .schedule)) ≡ t
         → let next : Rung = cond t (record { schedule = suc (r .schedule); payment = 0 }) (record { schedule = r .schedule; payment = suc (r .payment) }) in

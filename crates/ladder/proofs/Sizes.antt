@@ -52,7 +52,7 @@ value-fits z h = omega arith
 
 module _ (p : Position) (ladder : List ℕ) (h : PositionLimits p ladder) where
   pub position-fits : FlowsFit (exposureOf p ladder)
-  position-fits = record { each = ladder-limits (p .id) ladder (p .schedules) (h .schedules); few = h .schedules .few (p .id) }
+  position-fits = record { each = ladder-limits (p .id) ladder (p .schedules) (h .schedules); few = h .schedules .few }
 
   -- its base value, read back from its bits
   pub base-read : (z : ℤ) → z ≡ baseOf flowValue (exposureOf p ladder) → read z ≡ baseOf flowValue (exposureOf p ladder)

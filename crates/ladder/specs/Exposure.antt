@@ -43,4 +43,4 @@ exposureOf p ladder =
 pub record PositionLimits (p : Position) (ladder : List ℕ) : Type 0 where
   pub proper : Proper (p .curve)
   pub stress : ProperComponents (p .components)
-  pub schedules : LadderLimits ladder (p .schedules)
+  pub schedules : LadderLimits (p .id) ladder (p .schedules)

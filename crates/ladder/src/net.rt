@@ -13,7 +13,7 @@ use netting::value::reach;
 
 // Adds the payments of the first schedules to the net amounts of their days.
 pub fn net_days(curve: u64, ladder: &[u64], schedules: usize, nets: &mut [i64])
-    requires { ⌜ LadderLimits (now ladder) schedules × (length (now nets) ≡ dayCount) × NetsRoom (length (ladderFlows curve (now ladder) schedules)) (now nets) ⌝ }
+    requires { ⌜ LadderLimits curve (now ladder) schedules × (length (now nets) ≡ dayCount) × NetsRoom (length (ladderFlows curve (now ladder) schedules)) (now nets) ⌝ }
     ensures { λ _. ⌜ now (nets .exit) ≡ netted (ladderFlows curve (now (ladder .entry)) schedules) (now (nets .entry)) ⌝ }
 {
     let mut rung = Rung {
@@ -30,7 +30,7 @@ pub fn net_days(curve: u64, ladder: &[u64], schedules: usize, nets: &mut [i64])
 
 // How far the payments of the first schedules may be off, added up.
 pub fn reach_of(curve: u64, ladder: &[u64], schedules: usize) -> u64
-    requires { ⌜ LadderLimits (now ladder) schedules ⌝ }
+    requires { ⌜ LadderLimits curve (now ladder) schedules ⌝ }
     ensures { λ r. ⌜ r ≡ sum flowReach (ladderFlows curve (now (ladder .entry)) schedules) ⌝ }
 {
     let mut off: u64 = 0;

@@ -1,6 +1,8 @@
 // The payments of a cash flow ladder, one after the other.
 ghost use mathlib.Core.Path.{_≡_};
-ghost use Rattle.ladder.specs.Ladder.{payment, RungLimits, nextRung};
+ghost use Rattle.legs.specs.Limits.{LegLimits};
+ghost use Rattle.legs.specs.Runs.{flowOf};
+ghost use Rattle.ladder.specs.Ladder.{legAt, RungLimits, nextRung};
 use discount::Flow;
 
 // A payment's place in a ladder: its schedule, and which of its payments it is.
@@ -32,8 +34,8 @@ impl Rung {
 
 // The payment of a rung, on a curve.
 pub fn payment(curve: u64, ladder: &[u64], rung: Rung) -> Flow
-    requires { ⌜ RungLimits (now ladder) rung ⌝ }
-    ensures { λ r. ⌜ r ≡ payment curve (now (ladder .entry)) (rung .schedule) (rung .payment) ⌝ }
+    requires { ⌜ RungLimits (now ladder) rung × LegLimits (legAt curve (now ladder) (rung .schedule)) ⌝ }
+    ensures { λ r. ⌜ r ≡ flowOf (legAt curve (now (ladder .entry)) (rung .schedule)) (rung .payment) ⌝ }
 {
     let at = rung.schedule * 6;
     let day = ladder[at] + rung.payment * ladder[at + 1];

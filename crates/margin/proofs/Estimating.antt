@@ -64,5 +64,5 @@ module _ (p : Position) (ladder : List ℕ) (h : PositionLimits p ladder) where
               λ s k.
               let c = screened .cover s k in
               record { place = c .place; within = c .within; near = over _ _ _ (near (c .place) .high) (c .most) };
-          small = rw er (le-trans (reach-most fs limits) (mul-le-mul-right 200000 (h .schedules .few (p .id))));
+          small = rw er (le-trans (reach-most fs limits) (mul-le-mul-right 200000 (h .schedules .few)));
         }

@@ -8,7 +8,8 @@ use Rattle.laws.proofs.Signed.{back}
 use Rattle.decimal.specs.Product.{unit}
 use Rattle.netting.specs.Netting.{netOn, netWith}
 use Rattle.netting.proofs.NetAmounts.{net-read}
-use Rattle.ladder.specs.Ladder.{RungLimits}
+use Rattle.legs.specs.Limits.{LegLimits}
+use Rattle.ladder.specs.Ladder.{legAt, RungLimits}
 use Rattle.ladder.specs.Totals.{FlowLimits, RoomFor}
 use Rattle.ladder.proofs.LadderFlows.{flowsFrom}
 use Rattle.ladder.proofs.Folds.{Folded, folded-none, folded-next, folded-all, rung-limits, rung-room, flow-limits, fewer-left, room-less}
@@ -30,7 +31,7 @@ module _ (c : tie.Then1 Inv-loop μ-loop) where
   abbrev start : tie.Start Inv-loop μ-loop
   start = let after-shared-slice-known = c .before .before .before in after-shared-slice-known .before
 
-  here : RungLimits (start .args .ladder .now) (c .before .before .loop .rung)
+  here : RungLimits (start .args .ladder .now) (c .before .before .loop .rung) × LegLimits (legAt (start .args .curve) (start .args .ladder .now) (c .before .before .loop .rung .schedule))
   here = rung-limits (c .before .before .loop .inv) (start .pre .0) (c .if1 .taken)
 
 module _ (c : tie.After-payment Inv-loop μ-loop) where
@@ -97,7 +98,7 @@ net-days-spec =
     net-with-requires
     (λ c. omega (arith, limits (c .before .before) .day))
     (λ c. index (c .before .before))
-    (λ c κs. here (c .before .before .before))
+    (λ c κs. here (c .before .before .before) .0)
     loop-less
     loop-again
     same-length

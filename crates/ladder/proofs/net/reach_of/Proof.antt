@@ -6,7 +6,8 @@ use native.Mathlib.Omega.{arith}
 use lib.ListN.{length}
 use Rattle.decimal.specs.Product.{unit}
 use Rattle.netting.specs.Netting.{flowReach}
-use Rattle.ladder.specs.Ladder.{RungLimits}
+use Rattle.legs.specs.Limits.{LegLimits}
+use Rattle.ladder.specs.Ladder.{legAt, RungLimits}
 use Rattle.ladder.specs.Totals.{FlowLimits, RoomFor}
 use Rattle.ladder.proofs.LadderFlows.{flowsFrom}
 use Rattle.ladder.proofs.Folds.{Folded, folded-none, folded-next, folded-all, rung-limits, rung-room, flow-limits, fewer-left, sum-fold, room-none}
@@ -24,14 +25,14 @@ abbrev μ-loop : tie.MeasureT-loop
 loop-holds : tie.Need-loop-holds Inv-loop μ-loop
 loop-holds c =
     let s = c .before in
-    folded-none _ _ _ _ _ (s .pre) _ (room-none 200000 (s .pre .few (s .args .curve)))
+    folded-none _ _ _ _ _ (s .pre) _ (room-none 200000 (s .pre .few))
 
 -- in a turn
 module _ (c : tie.Then1 Inv-loop μ-loop) where
   abbrev start : tie.Start Inv-loop μ-loop
   start = let after-shared-slice-known = c .before .before .before in after-shared-slice-known .before
 
-  here : RungLimits (start .args .ladder .now) (c .before .before .loop .rung)
+  here : RungLimits (start .args .ladder .now) (c .before .before .loop .rung) × LegLimits (legAt (start .args .curve) (start .args .ladder .now) (c .before .before .loop .rung .schedule))
   here = rung-limits (c .before .before .loop .inv) (start .pre) (c .if1 .taken)
 
 limits : (c : tie.After-payment Inv-loop μ-loop) → FlowLimits (c .payment .result)
@@ -74,7 +75,7 @@ reach-of-spec =
     (λ c κs. here c)
     reach-requires
     add-off
-    (λ c κs. here (c .before .before))
+    (λ c κs. here (c .before .before) .0)
     loop-less
     loop-again
     returns)

@@ -6,7 +6,8 @@ use Rattle.curve.specs.Rates.{nodesOf, rateAt}
 use Rattle.discount.specs.Flows.{flowValue}
 use Rattle.ladder.specs.Kept.{KeptFactors}
 use Rattle.ladder.specs.Held.{held, ValuingLimits}
-use Rattle.ladder.specs.Ladder.{RungLimits}
+use Rattle.legs.specs.Limits.{LegLimits}
+use Rattle.ladder.specs.Ladder.{legAt, RungLimits}
 use Rattle.ladder.specs.Totals.{plusFlow, noFlows, FlowLimits}
 use Rattle.ladder.proofs.LadderFlows.{flowsFrom}
 use Rattle.ladder.proofs.Folds.{Folded, folded-none, folded-next, folded-all, rung-limits, rung-room, flow-limits, fewer-left}
@@ -32,14 +33,14 @@ unfolding held
 loop-holds c =
     let s = entry c in
     let h = s .pre .0 .schedules in
-    (folded-none _ _ _ _ _ h _ (limits-none (h .few (s .args .position .id)) (record { amount = omega arith; day = omega arith })), s .pre .2)
+    (folded-none _ _ _ _ _ h _ (limits-none (h .few) (record { amount = omega arith; day = omega arith })), s .pre .2)
 
 -- in a turn
 module _ (c : tie.Then1 Inv-loop μ-loop) where
   abbrev start : tie.Start Inv-loop μ-loop
   start = entry (c .before .before .before)
 
-  here : RungLimits (start .args .ladder .now) (c .before .before .loop .rung)
+  here : RungLimits (start .args .ladder .now) (c .before .before .loop .rung) × LegLimits (legAt (start .args .position .id) (start .args .ladder .now) (c .before .before .loop .rung .schedule))
   here = rung-limits (c .before .before .loop .inv .0) (start .pre .0 .schedules) (c .if1 .taken)
 
 limits : (c : tie.After-payment Inv-loop μ-loop) → FlowLimits (c .payment .result)
@@ -97,7 +98,7 @@ total-of-spec =
     loop-holds
     (λ c κs. here c)
     with-flow-requires
-    (λ c κs. let after-with-flow = c .before .before in here (after-with-flow .before .before .before))
+    (λ c κs. let after-with-flow = c .before .before in here (after-with-flow .before .before .before) .0)
     loop-less
     loop-again
     finished-requires

@@ -25,7 +25,7 @@ net-days-requires : tie.Need-net-days-requires
 net-days-requires c κs =
     let s = c .before .before .before in
     let h = s .pre .0 .schedules in
-    (h, length-replicate {A = ℤ} 10951 (pos 0), nets-none (length (flows s)) (h .few (s .args .position .id)))
+    (h, length-replicate {A = ℤ} 10951 (pos 0), nets-none (length (flows s)) (h .few))
 
 screen-requires : tie.Need-screen-requires
 screen-requires c κs =
@@ -38,7 +38,7 @@ screen-requires c κs =
       h .stress,
       s .pre .1,
       rw e (nets-length (flows s) (replicate 10951 (pos 0)) ∙ length-replicate {A = ℤ} 10951 (pos 0)),
-      rw e (nets-size (flows s) (ladder-limits (p .id) (s .args .ladder .now) (p .schedules) (h .schedules)) (h .schedules .few (p .id))),
+      rw e (nets-size (flows s) (ladder-limits (p .id) (s .args .ladder .now) (p .schedules) (h .schedules)) (h .schedules .few)),
       s .pre .2,
     )
 
