@@ -15,34 +15,24 @@ use Rattle.record.proofs.Facts.{Kind, outright, pool, specified, Formed, formed
 use Rattle.record.proofs.RoundTrip.{Narrow, bytes-fields-bytes, fields-bytes-fields}
 use Rattle.trade.specs.declared.Security.{Security}
 use Rattle.trade.specs.declared.Security.the-variants.{Nothing, Single, Coupons, Indexed}
-use Rattle.trade.specs.declared.OutrightTrade.{OutrightTrade}
-use Rattle.trade.specs.declared.RepoTrade.{RepoTrade}
 use Rattle.trade.specs.declared.Trade.{Trade}
 use Rattle.trade.specs.declared.Trade.the-variants.{Outright, Pool, Specified}
-use Rattle.trade.specs.Read.{indexedBondOf, securityOf, outrightOf, repoOf, pickTrade, tradeOf}
+use Rattle.trade.specs.Read.{indexedBondOf, pickSecurity, securityOf, outrightOf, repoOf, pickTrade, tradeOf}
 use Rattle.trade.specs.Write.{numberOf, filledBy, fieldsOfOutright, fieldsOfRepo, fieldsOfTrade}
 
 -- ---- from a trade to fields and back
 
-outright-security : (t : OutrightTrade) (s : Security) → t .security ≡ s → securityOf (fieldsOfOutright t) ≡ s
-unfolding fieldsOfOutright securityOf
-outright-security t Nothing e = rw e
-outright-security t (Single p) e = rw e
-outright-security t (Coupons b) e = rw e
-outright-security t (Indexed i) e = rw e
-
-repo-security : (kind : ℕ) (t : RepoTrade) (s : Security) → t .security ≡ s → securityOf (fieldsOfRepo kind t) ≡ s
-unfolding fieldsOfRepo securityOf
-repo-security kind t Nothing e = rw e
-repo-security kind t (Single p) e = rw e
-repo-security kind t (Coupons b) e = rw e
-repo-security kind t (Indexed i) e = rw e
+security-back : (s : Security) → pickSecurity (numberOf s) (record { curve = filledBy s .bond .curve; first = filledBy s .bond .first; nominal = filledBy s .bond .nominal }) (filledBy s .bond) (filledBy s) ≡ s
+security-back Nothing = refl
+security-back (Single p) = refl
+security-back (Coupons b) = refl
+security-back (Indexed i) = refl
 
 pub trade-fields-trade : (t : Trade) → tradeOf (fieldsOfTrade t) ≡ t
-unfolding tradeOf fieldsOfOutright fieldsOfRepo
-trade-fields-trade (Outright t) = rw (outright-security t (t .security) refl)
-trade-fields-trade (Pool t) = rw (repo-security 2 t (t .security) refl)
-trade-fields-trade (Specified t) = rw (repo-security 3 t (t .security) refl)
+unfolding tradeOf securityOf fieldsOfOutright fieldsOfRepo
+trade-fields-trade (Outright t) = rw (security-back (t .security))
+trade-fields-trade (Pool t) = rw (security-back (t .security))
+trade-fields-trade (Specified t) = rw (security-back (t .security))
 
 -- ---- from fields to a trade and back
 
