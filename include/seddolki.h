@@ -14,12 +14,22 @@
  * the current day as `day`, in days since 1 January 2000 too, and refuse a book
  * that is for another day. Edits keep the day that the book has.
  *
+ * Lent bytes must not change while a call runs. A call looks at a book first
+ * and then reads it again, so a change in between, by another thread or, where
+ * a file is mapped, by another process, may crash the program. Read a book's
+ * file into memory that nothing else writes, and lend that copy, never a
+ * mapping of the file.
+ *
+ * Bytes that a call writes must not overlap the others of the same call: where
+ * they do, nothing of what this file says holds. A page over its book is written
+ * past its end and crashes the program.
+ *
  * Every function returns; none allocates, keeps a pointer, reads or writes a
  * file, or holds state between calls. Calls on different bytes may run at
  * the same time. No call needs more than 512 KiB of stack. A pointer must be
- * valid for its length; bytes that are written must not overlap the others
- * of the same call. Any value of `used`, `position`, `amount`, `rate`, `day`,
- * `curve`, `cash` and of the components may be passed.
+ * valid for its length, and with a length of 0 it may be NULL. Any value of
+ * `used`, `position`, `amount`, `rate`, `day`, `curve`, `cash` and of the
+ * components may be passed.
  *
  * Every function that is lent a book looks at all of it first, and refuses
  * it by the first of grounds 1 to 12 that applies; then, where it is given the
@@ -155,8 +165,9 @@ seddolki_answer seddolki_margin(const uint8_t *book, size_t len, size_t used, ui
  * Adds a record behind the last trade, in a new block where the last is full
  * or there is none.
  *
- * Done: value is the new used length. Written are the header, the block that
- * took the record, and nothing else: bytes behind the book keep their values.
+ * Done: value is the new used length. Written are the block that took the
+ * record and, where that is a new one, the header, and nothing else: bytes
+ * behind the book keep their values.
  * Refused: 1 to 12 and 19 for the book, 8 to 12 for the record, then 15.
  * Nothing is written. `record` is never written.
  */
@@ -495,7 +506,7 @@ typedef struct {
  * A coupon bond: bytes 12 to 31 of a record as they stand. It pays as such a
  * record does, on day 1 at the earliest and MAX_DAY at the latest, and no
  * payment is above MAX_AMOUNT. What is wrong in a day, the period or the
- * payments is ground 9, in anything else 10.
+ * payments is ground 9, a payment above MAX_AMOUNT 12, anything else 10.
  */
 typedef struct {
     seddolki_u16 first_payment_day; /* 0: 1 to MAX_DAY */
