@@ -123,7 +123,6 @@ fn total_of(position: Position, ladder: &[u64], tables: &[u64], factors: &mut [u
     ensures { λ r. ⌜ r ≡ totalOf (exposureOf position (now (ladder .entry))) ⌝ }
 {
     let id = position.id;
-    let curve = position.curve;
     let schedules = position.schedules;
     let none = Total {
         sum: 0,
@@ -145,10 +144,10 @@ fn total_of(position: Position, ladder: &[u64], tables: &[u64], factors: &mut [u
     };
     while rung.schedule < schedules {
         let f = payment(id, ladder, rung);
-        valuing = valuing.with_flow(curve, f, tables, factors);
+        valuing = valuing.with_flow(position.curve, f, tables, factors);
         rung = rung.next(ladder);
     }
-    valuing.finished(curve)
+    valuing.finished(position.curve)
 }
 
 // The base value of a position and its tolerance.

@@ -17,16 +17,16 @@ use Rattle.ladder.proofs.valuing.total_of.Statement.{statement}
 use Rattle.ladder.proofs.valuing.total_of.Tie as tie
 
 abbrev Inv-loop : tie.InvT-loop
-Inv-loop ladder tables factors₀ id curve schedules valuing₀ rung₀ factors valuing rung =
-    Folded (λ t f. plusFlow t f (flowValue (rateAt (nodesOf curve)) f)) (λ n t. ValuingLimits n valuing) id ladder schedules noFlows (held (nodesOf curve) valuing) rung
-    × KeptFactors (nodesOf curve) factors
+Inv-loop position ladder tables factors₀ id schedules valuing₀ rung₀ factors valuing rung =
+    Folded (λ t f. plusFlow t f (flowValue (rateAt (nodesOf (position .curve))) f)) (λ n t. ValuingLimits n valuing) id ladder schedules noFlows (held (nodesOf (position .curve)) valuing) rung
+    × KeptFactors (nodesOf (position .curve)) factors
 
 abbrev μ-loop : tie.MeasureT-loop
-μ-loop ladder tables factors₀ id curve schedules valuing₀ rung₀ factors valuing rung = length (flowsFrom id ladder schedules rung)
+μ-loop position ladder tables factors₀ id schedules valuing₀ rung₀ factors valuing rung = length (flowsFrom id ladder schedules rung)
 
 -- the entry's record
-abbrev entry : tie.After-curve Inv-loop μ-loop → tie.Start Inv-loop μ-loop
-entry c = let lent = c .before in lent .before .before .before
+abbrev entry : tie.After-slice-known Inv-loop μ-loop → tie.Start Inv-loop μ-loop
+entry c = c .before .before .before
 
 loop-holds : tie.Need-loop-holds Inv-loop μ-loop
 unfolding held
