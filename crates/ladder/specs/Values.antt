@@ -23,6 +23,6 @@ module _ (v : (ℕ → ℕ) → Flow → ℕ) where
 abbrev pub toleranceOf : Exposure → ℕ
 toleranceOf e = sum flowTolerance (e .flows)
 
--- both
-abbrev pub totalOf : Exposure → Total
-totalOf e = record { sum = baseOf flowValue e; tolerance = toleranceOf e }
+-- both, of the flows at the rates that the nodes give
+abbrev pub totalOn : List Node → List Flow → Total
+totalOn nodes fs = record { sum = valueOn flowValue nodes fs; tolerance = sum flowTolerance fs }

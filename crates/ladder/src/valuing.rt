@@ -1,4 +1,4 @@
-// The value of a position. The fine factor settles the values of most flows; of the others the factor is worked out.
+// The value of a ladder at the rates of a curve. The fine factor settles the values of most flows; of the others the factor is worked out.
 ghost use mathlib.Core.Path.{_≡_};
 ghost use mathlib.Core.Bool.{true};
 ghost use Rattle.curve.specs.Limits.{Proper};
@@ -8,9 +8,8 @@ ghost use Rattle.logarithm.specs.Logarithms.{Tables};
 ghost use Rattle.ladder.specs.Totals.{plusFlow, FlowLimits, TotalRoom};
 ghost use Rattle.ladder.specs.Kept.{KeptFactors};
 ghost use Rattle.ladder.specs.Held.{held, ValuingLimits, WithFlow};
-ghost use Rattle.ladder.specs.Exposure.{exposureOf, PositionLimits};
-ghost use Rattle.ladder.specs.Values.{totalOf};
-use super::Position;
+ghost use Rattle.ladder.specs.Ladder.{ladderFlows, LadderLimits};
+ghost use Rattle.ladder.specs.Values.{totalOn};
 use super::kept::entry_of;
 use super::kept::kept_value;
 use super::payments::Rung;
@@ -117,13 +116,18 @@ impl Valuing {
     }
 }
 
-// The base value of a position and its tolerance, with factors kept.
-fn total_of(position: Position, ladder: &[u64], tables: &[u64], factors: &mut [u64]) -> Total
-    requires { ⌜ PositionLimits position (now ladder) × Tables (now tables) × KeptFactors (nodesOf (position .curve)) (now factors) ⌝ }
-    ensures { λ r. ⌜ r ≡ totalOf (exposureOf position (now (ladder .entry))) ⌝ }
+// The total of the first schedules, with factors kept.
+fn total_of(
+    id: u64,
+    curve: Curve,
+    ladder: &[u64],
+    schedules: usize,
+    tables: &[u64],
+    factors: &mut [u64],
+) -> Total
+    requires { ⌜ Proper curve × LadderLimits id (now ladder) schedules × Tables (now tables) × KeptFactors (nodesOf curve) (now factors) ⌝ }
+    ensures { λ r. ⌜ r ≡ totalOn (nodesOf curve) (ladderFlows id (now (ladder .entry)) schedules) ⌝ }
 {
-    let id = position.id;
-    let schedules = position.schedules;
     let none = Total {
         sum: 0,
         tolerance: 0,
@@ -144,17 +148,17 @@ fn total_of(position: Position, ladder: &[u64], tables: &[u64], factors: &mut [u
     };
     while rung.schedule < schedules {
         let f = payment(id, ladder, rung);
-        valuing = valuing.with_flow(position.curve, f, tables, factors);
+        valuing = valuing.with_flow(curve, f, tables, factors);
         rung = rung.next(ladder);
     }
-    valuing.finished(position.curve)
+    valuing.finished(curve)
 }
 
-// The base value of a position and its tolerance.
-pub fn value_of(position: Position, ladder: &[u64], tables: &[u64]) -> Total
-    requires { ⌜ PositionLimits position (now ladder) × Tables (now tables) ⌝ }
-    ensures { λ r. ⌜ r ≡ totalOf (exposureOf position (now (ladder .entry))) ⌝ }
+// The total of the first schedules at the rates of a curve.
+pub fn value_of(id: u64, curve: Curve, ladder: &[u64], schedules: usize, tables: &[u64]) -> Total
+    requires { ⌜ Proper curve × LadderLimits id (now ladder) schedules × Tables (now tables) ⌝ }
+    ensures { λ r. ⌜ r ≡ totalOn (nodesOf curve) (ladderFlows id (now (ladder .entry)) schedules) ⌝ }
 {
     let mut factors = [0u64; 10951];
-    total_of(position, ladder, tables, &mut factors)
+    total_of(id, curve, ladder, schedules, tables, &mut factors)
 }

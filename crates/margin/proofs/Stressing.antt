@@ -1,23 +1,25 @@
 -- The loss of a scenario as the code takes it, and the figures of a curve.
-use mathlib.Core.Path.{_≡_, _∙_, ap}
+use mathlib.Core.Path.{_≡_, refl, _∙_, ap}
 use mathlib.Core.Bool.{Bool, true, false}
-use mathlib.Core.List.{List}
+use mathlib.Core.List.{List, map}
 use Prim.Native.Nat.{ℕ, _^_, _<_}
 use lib.IntN.{ℤ, natAbs, _-ℤ_}
 use lib.Signed.{ltZ}
 use Rattle.laws.proofs.Signed.{read, read-is}
 use Rattle.discount.specs.Flows.{flowValue}
 use Rattle.curve.specs.Scenarios.{scenarioAt}
-use Rattle.curve.proofs.Stress.{proper-stressed, nodes-stressed}
+use Rattle.curve.specs.declared.Curve.{Curve}
+use Rattle.curve.specs.Rates.{nodesOf}
+use Rattle.curve.specs.Stress.{stressed, stressedCurve}
+use Rattle.curve.proofs.Stress.{nodes-stressed}
 use Rattle.ladder.specs.declared.Position.{Position}
 use Rattle.ladder.specs.declared.total.Total.{Total}
 use Rattle.ladder.specs.Exposure.{Exposure, exposureOf, PositionLimits}
-use Rattle.ladder.specs.Values.{valueOn, baseOf, totalOf}
-use Rattle.ladder.proofs.Sizes.{position-fits, base-read}
+use Rattle.ladder.specs.Values.{valueOn, baseOf, totalOn}
+use Rattle.ladder.proofs.Sizes.{value-size, value-fits, position-fits, base-read}
 use Rattle.margin.specs.declared.losses.Loss.{Loss}
-use Rattle.margin.specs.Losses.{lossAt}
+use Rattle.margin.specs.Losses.{valueAt, lossAt}
 use Rattle.margin.specs.Margins.{figuresAt}
-use Rattle.margin.specs.Positions.{positionIn}
 use Rattle.margin.specs.Worst.{worseOf, LossLimits, lossOf}
 use Rattle.margin.proofs.Sizes.{loss-size, loss-fits}
 
@@ -36,14 +38,11 @@ module _ (a b : Loss) (h : LossLimits a × LossLimits b) where
   unfolding worseOf
   worse-self e = rw (compared a b h false e)
 
--- ---- a position: the code's difference, where q is the position in a scenario, and t its total
+-- ---- a position: the code's difference, where d is the curve stressed and t the total on it
 
 module _ (p : Position) (ladder : List ℕ) (h : PositionLimits p ladder) where
   abbrev e : Exposure
   e = exposureOf p ladder
-
-  pub limits-in : (s : ℕ) → PositionLimits (positionIn p s) ladder
-  limits-in s = record { proper = proper-stressed _ _ (h .proper); stress = h .stress; schedules = h .schedules }
 
   pub losses-limits : (s : ℕ) (w : Loss) → w .amount ≡ lossAt flowValue e s → LossLimits w
   losses-limits s w q = record { amount = rw q (loss-size e (position-fits p ladder h) s) }
@@ -55,16 +54,20 @@ module _ (p : Position) (ladder : List ℕ) (h : PositionLimits p ladder) where
   pub loss-read : (s : ℕ) (r : ℤ) → r ≡ lossAt flowValue e s → read r ≡ lossAt flowValue e s
   loss-read s r q = rw q (read-is (lossAt flowValue e s) (losses-fit s))
 
-  pub code-loss : (base : ℤ) (s : ℕ) (q : Position) (t : Total) → base ≡ baseOf flowValue e → q ≡ positionIn p s → t ≡ totalOf (exposureOf q ladder)
-      → read base -ℤ read (t .sum) ≡ lossAt flowValue e s
+  pub code-loss : (base : ℤ) (s : ℕ) (d : Curve) (t : Total) → base ≡ baseOf flowValue e → d ≡ stressedCurve (scenarioAt (p .components) s) (p .curve)
+      → t ≡ totalOn (nodesOf d) (e .flows) → read base -ℤ read (t .sum) ≡ lossAt flowValue e s
   unfolding lossAt
-  code-loss base s q t eb eq et =
-      let there = base-read (positionIn p s) ladder (limits-in s) (t .sum) (ap (λ (t : Total). t .sum) et ∙ ap (λ (q : Position). baseOf flowValue (exposureOf q ladder)) eq) in
-      rw (base-read p ladder h base eb, there) (ap (λ ns. baseOf flowValue e -ℤ valueOn flowValue ns (e .flows)) (nodes-stressed (scenarioAt (p .components) s) (p .curve) (h .proper)))
+  code-loss base s d t eb ed et =
+      let v : t .sum ≡ valueAt flowValue e s =
+      ap (λ (t : Total). t .sum) et
+      ∙ ap (λ (d : Curve). valueOn flowValue (nodesOf d) (e .flows)) ed
+      ∙ ap (λ ns. valueOn flowValue ns (e .flows)) (nodes-stressed (scenarioAt (p .components) s) (p .curve) (h .proper)) in
+      let fit = value-fits (valueAt flowValue e s) (value-size e (position-fits p ladder h) (map (stressed (scenarioAt (p .components) s)) (e .nodes))) in
+      rw (v, base-read p ladder h base eb, read-is (valueAt flowValue e s) fit) refl
 
   -- ---- the figures of a curve, by what the code holds of them
 
-  module _ (t : Total) (et : t ≡ totalOf e) where
+  module _ (t : Total) (et : t ≡ totalOn (e .nodes) (e .flows)) where
     pub base-is : read (t .sum) ≡ baseOf flowValue e
     base-is = base-read p ladder h (t .sum) (ap (λ (t : Total). t .sum) et)
 

@@ -13,7 +13,7 @@ ghost use Rattle.margin.specs.Worst.{worseOf, lossOf, ScenarioLoss, wors
 use super::ValuedPosition;
 use super::estimates::estimate;
 use super::losses::Loss;
-use super::losses::in_scenario;
+use super::losses::curve_in;
 use super::losses::loss_of;
 use curve::Curve;
 use screening::least::least_of;
@@ -55,9 +55,7 @@ fn worse_with(valued: ValuedPosition, ladder: &[u64], tables: &[u64], worst: Los
     ensures { λ r. ⌜ r ≡ worseOf worst (lossOf (exposureOf (valued .position) (now (ladder .entry))) s) ⌝ }
 {
     let position = valued.position;
-    let here = in_scenario(position, s);
-    let there = in_scenario(position, worst.scenario);
-    if same_rates(here.curve, there.curve) {
+    if same_rates(curve_in(position, s), curve_in(position, worst.scenario)) {
         return worst;
     }
     let next = Loss {

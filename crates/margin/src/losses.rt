@@ -2,30 +2,26 @@
 ghost use mathlib.Core.Path.{_≡_};
 ghost use Prim.Native.Nat.{_<_};
 ghost use Rattle.curve.specs.Limits.{Proper, ProperComponents};
-ghost use Rattle.curve.specs.Scenarios.{scenarioCount};
+ghost use Rattle.curve.specs.Scenarios.{scenarioCount, scenarioAt};
+ghost use Rattle.curve.specs.Stress.{stressedCurve};
 ghost use Rattle.discount.specs.Flows.{flowValue};
 ghost use Rattle.ladder.specs.Exposure.{exposureOf};
 ghost use Rattle.margin.specs.Losses.{lossAt};
-ghost use Rattle.margin.specs.Positions.{positionIn, Based};
+ghost use Rattle.margin.specs.Positions.{Based};
 ghost use Rattle.margin.specs.Worst.{worseOf, LossLimits};
 use super::ValuedPosition;
+use curve::Curve;
 use ladder::Position;
 use ladder::valuing::value_of;
 
-// The position in scenario s.
-pub fn in_scenario(position: Position, s: u64) -> Position
+// The curve of a position in scenario s.
+pub fn curve_in(position: Position, s: u64) -> Curve
     requires { ⌜ Proper (position .curve) × ProperComponents (position .components) × (s < scenarioCount (position .components)) ⌝ }
-    ensures { λ r. ⌜ r ≡ positionIn position s ⌝ }
+    ensures { λ r. ⌜ r ≡ stressedCurve (scenarioAt (position .components) s) (position .curve) ⌝ }
 {
     let curve = position.curve;
     let components = position.components;
-    Position {
-        id: position.id,
-        currency: position.currency,
-        curve: curve.stressed(components.scenario(s)),
-        components: components,
-        schedules: position.schedules,
-    }
+    curve.stressed(components.scenario(s))
 }
 
 // The loss of scenario s: the base less the value at the stressed nodes.
@@ -33,8 +29,9 @@ pub fn loss_of(valued: ValuedPosition, ladder: &[u64], tables: &[u64], s: u64) -
     requires { ⌜ Based valued (now ladder) (now tables) × (s < scenarioCount (valued .position .components)) ⌝ }
     ensures { λ r. ⌜ r ≡ lossAt flowValue (exposureOf (valued .position) (now (ladder .entry))) s ⌝ }
 {
-    let stressed = in_scenario(valued.position, s);
-    let total = value_of(stressed, ladder, tables);
+    let position = valued.position;
+    let stressed = curve_in(position, s);
+    let total = value_of(position.id, stressed, ladder, position.schedules, tables);
     valued.base - total.sum
 }
 

@@ -21,7 +21,13 @@ pub fn curve_margin(position: Position, ladder: &[u64]) -> CurveMargin
 {
     let mut tables = [0u64; 3694];
     fill(&mut tables);
-    let total = value_of(position, ladder, &tables);
+    let total = value_of(
+        position.id,
+        position.curve,
+        ladder,
+        position.schedules,
+        &tables,
+    );
     let base = total.sum;
     let valued = ValuedPosition {
         position: position,

@@ -7,7 +7,7 @@ use Rattle.ladder.proofs.valuing.value_of.Tie as tie
 total-of-requires : tie.Need-total-of-requires
 total-of-requires c κs =
     let p = c .before .before .before .pre in
-    (p .0, p .1, kept-none _)
+    (p .0, p .1, p .2, kept-none _)
 
 returns : tie.Need-returns
 returns c = c .before .total-of .ensures

@@ -13,16 +13,16 @@ use Rattle.margin.proofs.choice.worse_with.Statement.{statement}
 use Rattle.margin.proofs.choice.worse_with.Tie as tie
 
 -- the entry's record
-abbrev start : tie.After-in-scenario → tie.Start
+abbrev start : tie.After-curve-in → tie.Start
 start c = let given = c .before in given .before .before .before
 
-in-scenario-requires : tie.Need-in-scenario-requires
-in-scenario-requires c κs =
+curve-in-requires : tie.Need-curve-in-requires
+curve-in-requires c κs =
     let p = c .before .before .before .pre in
     (p .0 .limits .proper, p .0 .limits .stress, p .2)
 
-in-scenario-requires-2 : tie.Need-in-scenario-requires-2
-in-scenario-requires-2 c κs = let p = start c .pre in (p .0 .limits .proper, p .0 .limits .stress, p .1 .within)
+curve-in-requires-2 : tie.Need-curve-in-requires-2
+curve-in-requires-2 c κs = let p = start c .pre in (p .0 .limits .proper, p .0 .limits .stress, p .1 .within)
 
 -- both curves are the curve stressed
 same-rates-requires : tie.Need-same-rates-requires
@@ -30,9 +30,9 @@ unfolding stressedCurve
 same-rates-requires c κs =
     let here = c .before in
     let proper = start here .pre .0 .limits .proper in (
-      rw (here .in-scenario .ensures) (proper-stressed _ _ proper),
-      rw (c .in-scenario2 .ensures) (proper-stressed _ _ proper),
-      rw (here .in-scenario .ensures, c .in-scenario2 .ensures),
+      rw (here .curve-in .ensures) (proper-stressed _ _ proper),
+      rw (c .curve-in2 .ensures) (proper-stressed _ _ proper),
+      rw (here .curve-in .ensures, c .curve-in2 .ensures),
     )
 
 returns : tie.Need-returns
@@ -41,7 +41,7 @@ returns c =
     let here = there .before in
     let s = start here in
     let a = s .args in
-    let e = rw (c .before .same-rates .ensures, here .in-scenario .ensures, there .in-scenario2 .ensures) at (c .if1 .taken) in
+    let e = rw (c .before .same-rates .ensures, here .curve-in .ensures, there .curve-in2 .ensures) at (c .if1 .taken) in
     same-worse (a .valued .position) (a .ladder .now) (s .pre .0 .limits) (a .worst) (s .pre .1) (a .s) e
 
 loss-of-requires : tie.Need-loss-of-requires
@@ -68,4 +68,4 @@ returns-2 c = rw (c .worse .ensures, loss-is (c .before))
 pub worse-with-spec : {M : Type 1} → statement M
 worse-with-spec =
     tie.close
-    (tie.spec in-scenario-requires in-scenario-requires-2 same-rates-requires returns loss-of-requires worse-requires returns-2)
+    (tie.spec curve-in-requires curve-in-requires-2 same-rates-requires returns loss-of-requires worse-requires returns-2)

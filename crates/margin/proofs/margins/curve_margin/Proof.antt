@@ -14,7 +14,7 @@ start c = c .before .before .before
 value-of-requires : tie.Need-value-of-requires
 value-of-requires c κs =
     let filled = c .before .before in
-    (start filled .pre, filled .fill .ensures)
+    (start filled .pre .proper, start filled .pre .schedules, filled .fill .ensures)
 
 worst-of-requires : tie.Need-worst-of-requires
 worst-of-requires c κs =

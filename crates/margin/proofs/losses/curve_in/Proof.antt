@@ -1,8 +1,8 @@
--- `margin::losses::in_scenario` meets its contract.
+-- `margin::losses::curve_in` meets its contract.
 use borrow.Author.Needs.{needs}
 use Rattle.curve.proofs.Scenarios.{scenario-limits}
-use Rattle.margin.proofs.losses.in_scenario.Statement.{statement}
-use Rattle.margin.proofs.losses.in_scenario.Tie as tie
+use Rattle.margin.proofs.losses.curve_in.Statement.{statement}
+use Rattle.margin.proofs.losses.curve_in.Tie as tie
 
 stressed-requires : tie.Need-stressed-requires
 stressed-requires c κs =
@@ -12,5 +12,5 @@ stressed-requires c κs =
 returns : tie.Need-returns
 returns c = rw (c .stressed .ensures, c .before .scenario .ensures)
 
-pub in-scenario-spec : {M : Type 1} → statement M
-in-scenario-spec = tie.close (tie.spec (λ c κs. search needs) stressed-requires returns)
+pub curve-in-spec : {M : Type 1} → statement M
+curve-in-spec = tie.close (tie.spec (λ c κs. search needs) stressed-requires returns)
