@@ -25,7 +25,7 @@ ghost use Rattle.curve.specs.Lengthen.{atRate};
 ghost use Rattle.curve.specs.Limits.{Proper};
 ghost use Rattle.curve.specs.Rates.{nodesOf};
 ghost use Rattle.legs.specs.Runs.{legFlows};
-ghost use Rattle.book.specs.Verdict.{verdict};
+ghost use Rattle.book.specs.Verdict.{StartsWithBook};
 ghost use Rattle.bond.specs.Limits.{Extends};
 ghost use Rattle.bond.specs.Value.{breaksRateRange, rateFor};
 ghost use Rattle.bootstrap.specs.Bought.{bondPayments};
@@ -81,8 +81,8 @@ fn extended(c: Curve, q: Quote) -> Decision
 }
 
 // On an accepted book.
-fn quoted(book: &[u8], used: usize, q: Quote) -> Decision
-    requires { ⌜ verdict (now book) used ≡ Accepted ⌝ }
+fn quoted(book: &[u8], q: Quote) -> Decision
+    requires { ⌜ StartsWithBook (now book) ⌝ }
     ensures { λ r. ⌜ r ≡ decisionOf (inBookVerdict (now (book .entry)) q) (newNode (curveAt (now (book .entry)) (q .curve)) q) ⌝ }
 {
     let v = quote_verdict(curves_of(book), q);
@@ -99,6 +99,6 @@ pub fn decided(book: &[u8], used: usize, day: u64, q: Quote) -> Decision
     let v = acceptance::check(book, used, Today::Given(day));
     match v {
         Verdict::Refused(g, k) => Decision::Refused(g, k),
-        Verdict::Accepted => quoted(book, used, q),
+        Verdict::Accepted => quoted(book, q),
     }
 }

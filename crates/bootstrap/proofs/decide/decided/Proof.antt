@@ -7,7 +7,7 @@ use Rattle.bootstrap.proofs.decide.decided.Statement.{statement}
 use Rattle.bootstrap.proofs.decide.decided.Tie as tie
 
 quoted-requires : tie.Need-quoted-requires
-quoted-requires c κs = book-accepted _ _ _ (sym (c .before .before .check .ensures) ∙ c .enum-told .given .1) .blocks
+quoted-requires c κs = record { used = _; accepted = book-accepted _ _ _ (sym (c .before .before .check .ensures) ∙ c .enum-told .given .1) .blocks }
 
 returns : tie.Need-returns
 unfolding bootstrapVerdict

@@ -12,7 +12,7 @@ use Rattle.bootstrap.proofs.decide.quoted.Statement.{statement}
 use Rattle.bootstrap.proofs.decide.quoted.Tie as tie
 
 curves-of-requires : tie.Need-curves-of-requires
-curves-of-requires c κs = let b = sound _ _ (c .before .pre) in omega (arith, b .blocks, b .lent)
+curves-of-requires c κs = let b = sound _ _ (c .before .pre .accepted) in omega (arith, b .blocks, b .lent)
 
 -- the quote's own verdict
 judged : (c : tie.After-quote-verdict) → let s = c .before .before .before in c .quote-verdict .result ≡ quoteVerdict (curvesOf (s .args .book .now)) (s .args .q)
@@ -25,8 +25,8 @@ module _ (c : tie.After-enum-told) where
   accepted : quoteVerdict (curvesOf (start .args .book .now)) (start .args .q) ≡ Accepted
   accepted = sym (judged (c .before .before)) ∙ c .enum-told .given .1
 
-  book : Sound (start .args .book .now) (start .args .used)
-  book = sound _ _ (start .pre)
+  book : Sound (start .args .book .now) (start .pre .used)
+  book = sound _ _ (start .pre .accepted)
 
   id : InLimits 1 (start .args .q .curve) (curveCount (start .args .book .now))
   id = id-in-book (start .args .book .now) (start .args .q) accepted
@@ -38,7 +38,7 @@ extended-requires : tie.Need-extended-requires
 extended-requires c κs =
     let told = c .before .before in
     let s = start told in
-    let curve = curve-sound (s .args .book .now) (s .args .used) (book told) (s .args .q .curve) (id told .low) (id told .high) .curve in
+    let curve = curve-sound (s .args .book .now) (s .pre .used) (book told) (s .args .q .curve) (id told .low) (id told .high) .curve in
     (rw (c .curve-of .ensures, c .before .block-at .ensures .0) curve, quote-kept _ (s .args .q) (accepted told))
 
 returns : tie.Need-returns
