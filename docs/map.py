@@ -8,8 +8,8 @@ WIDE, HIGH, GAP, STEP = 168, 58, 16, 92
 COLOURS = {
     "#e8e8e8": "laws ground",
     "#dcecf9": "layout curve_block curve_edit trade_edit record trade legs flows book acceptance edit reader bootstrap calls",
-    "#e2f0d9": "decimal discount curve logarithm sieve fine netting estimate ladder margin exposure bond",
-    "#fdebd0": "report_block report preview statement page page_line text listing account_list seddolki list figures probe",
+    "#e2f0d9": "decimal discount curve logarithm cheap fine netting estimate ladder margin exposure bond",
+    "#fdebd0": "report_block report preview statement page text listing seddolki list figures probe",
 }
 LEGEND = {"#e8e8e8": "facts and answers", "#dcecf9": "the book's bytes and trades", "#e2f0d9": "money", "#fdebd0": "what a caller gets"}
 

@@ -8,7 +8,7 @@ use Rattle.ground.specs.declared.Ground.the-variants.{ValuationDay}
 use Rattle.ground.specs.declared.Verdict.{Verdict}
 use Rattle.ground.specs.Verdicts.{orElse, Rule, firstBroken}
 use Rattle.book.specs.Parts.{Parts, partsOf}
-use Rattle.book.specs.Verdict.{verdict}
+use Rattle.book.specs.Verdict.{blocksVerdict}
 use Rattle.acceptance.specs.declared.Today.{Today}
 use Rattle.acceptance.specs.declared.Today.the-variants.{Given, NotGiven}
 
@@ -26,4 +26,4 @@ partsVerdict p today = firstBroken 0 (bookRules p today)
 
 -- 19 is "tested after all rules on the book's blocks"
 unfoldable pub bookVerdict : List ℕ → ℕ → Today → Verdict
-bookVerdict s used today = orElse (verdict s used) (partsVerdict (partsOf s) today)
+bookVerdict s used today = orElse (blocksVerdict s used) (partsVerdict (partsOf s) today)

@@ -25,7 +25,7 @@ fn breaks_valuation_day(day: u64, today: Today) -> bool
 pub fn check(book: &[u8], used: usize, today: Today) -> Verdict
     ensures { λ r. ⌜ r ≡ bookVerdict (now (book .entry)) used today ⌝ }
 {
-    let v = book::check(book, used);
+    let v = book::blocks_verdict(book, used);
     if !v.is_accepted() {
         return v;
     }

@@ -8,7 +8,7 @@ use Rattle.decimal.specs.Product.{unit}
 use Rattle.curve.specs.declared.Node.{Node}
 use Rattle.curve.specs.declared.Curve.{Curve}
 use Rattle.curve.specs.Lengthen.{lengthenedCurve, atRate}
-use Rattle.curve.specs.Limits.{highestRate, Proper}
+use Rattle.curve.specs.Limits.{highestRate, ProperCurve}
 use Rattle.curve.specs.Rates.{nodesOf}
 use Rattle.curve.proofs.Lengthened.{limits-at-rate, nodes-lengthened, proper-lengthened}
 use Rattle.legs.specs.Runs.{flowOf, legFlows}
@@ -29,7 +29,7 @@ module _ {e : Extension} (p : Prepared e) where
       (arith, p .worth, p .reached .most, m .few, value-most l m (nodesOf (e .curve)) 0 (e .within), value-most l m nodes (e .within) (l .count - e .within))
 
   module _ {rate : ℕ} {n : Node} {longer : Curve} (node : n ≡ atRate (e .node) rate) (long : longer ≡ lengthenedCurve n (e .curve)) where
-    pub longer-proper : rate ≤ highestRate → Proper longer
+    pub longer-proper : rate ≤ highestRate → ProperCurve longer
     longer-proper h =
         let x = p .extends in
         rw (long, node) (proper-lengthened (atRate (e .node) rate) (e .curve) (x .curve) (x .place) (limits-at-rate (x .node) h) (x .behind))

@@ -20,7 +20,7 @@ use Rattle.discount.proofs.Sums.{sum-append, sum-same}
 use Rattle.curve.specs.declared.Node.{Node}
 use Rattle.curve.specs.declared.Curve.{Curve}
 use Rattle.curve.specs.Lengthen.{endDay}
-use Rattle.curve.specs.Limits.{Proper}
+use Rattle.curve.specs.Limits.{ProperCurve}
 use Rattle.curve.specs.Rates.{nodesOf, rateAt}
 use Rattle.curve.proofs.Lengthened.{rate-up-to-end}
 use Rattle.curve.proofs.Rates.{curve-rate-limit}
@@ -99,12 +99,12 @@ payment-kept h e g = rw e (payment-most _ h _, payment-day-most _ h _ g)
 -- ---- on a curve
 
 -- its rates can be discounted at
-pub rate-most : (c : Curve) (t : ℕ) → Proper c → rateAt (nodesOf c) t ≤ million
+pub rate-most : (c : Curve) (t : ℕ) → ProperCurve c → rateAt (nodesOf c) t ≤ million
 unfolding million
 rate-most c t p = curve-rate-limit c p t
 
 -- the payments up to its last node are worth what they were, whatever node stands behind it
-pub value-up-to-end : (n : Node) (c : Curve) (l : Leg) {k : ℕ} → Proper c → endDay c < n .day → PaymentsUpTo l (endDay c) k
+pub value-up-to-end : (n : Node) (c : Curve) (l : Leg) {k : ℕ} → ProperCurve c → endDay c < n .day → PaymentsUpTo l (endDay c) k
     → bondValue (nodesOf c ++ n ∷ []) (table (flowOf l) 0 k) ≡ bondValue (nodesOf c) (table (flowOf l) 0 k)
 unfolding bondValue
 value-up-to-end n c l {k} p h r =

@@ -6,7 +6,7 @@ use Rattle.ground.specs.Limits.{lastDay}
 use Rattle.decimal.specs.Product.{unit}
 use Rattle.curve.specs.declared.Node.{Node}
 use Rattle.curve.specs.declared.Curve.{Curve}
-use Rattle.curve.specs.Limits.{Limits, Proper}
+use Rattle.curve.specs.Limits.{NodeLimits, ProperCurve}
 use Rattle.curve.specs.Lengthen.{endDay}
 use Rattle.curve.specs.Rates.{nodesOf}
 use Rattle.legs.specs.declared.Leg.{Leg}
@@ -30,9 +30,9 @@ pub record PaymentsUpTo (l : Leg) (day n : ℕ) : Type 0 where
 
 -- the node stands behind the curve's last, and the curve has a place for it
 pub record Extends (c : Curve) (n : Node) (l : Leg) : Type 0 where
-  pub curve : Proper c
+  pub curve : ProperCurve c
   pub place : c .count < 24
-  pub node : Limits n
+  pub node : NodeLimits n
   pub behind : endDay c < n .day
   pub payments : PaymentLimits l
 

@@ -5,8 +5,8 @@ use decimal::round::discounted;
 use discount::Flow;
 use discount::pair::factors;
 use discount::value::present_value;
-use fine::settle::Settled;
-use fine::settle::settled_value;
+use fine::value::FineValue;
+use fine::value::fine_value_at;
 use legs::Leg;
 ghost use mathlib.Core.Path.{_≡_};
 ghost use mathlib.Core.Bool.{true};
@@ -16,7 +16,7 @@ ghost use Rattle.ground.specs.Limits.{lastDay};
 ghost use Rattle.decimal.specs.Product.{unit};
 ghost use Rattle.discount.specs.Flows.{flowValue};
 ghost use Rattle.logarithm.specs.Logarithms.{Tables};
-ghost use Rattle.curve.specs.Limits.{highestRate, Proper};
+ghost use Rattle.curve.specs.Limits.{highestRate, ProperCurve};
 ghost use Rattle.curve.specs.Rates.{nodesOf, rateAt};
 ghost use Rattle.legs.specs.Runs.{flowOf, legFlows};
 ghost use Rattle.bond.specs.Limits.{PaymentLimits, PaymentsUpTo, Extends, Prepared};
@@ -56,29 +56,29 @@ fn payments_up_to(l: Leg, day: u64) -> u64
     k
 }
 
-// The value of a payment where the tables settle it.
-fn settled_payment(c: Curve, f: Flow, tables: &[u64]) -> Settled
-    requires { ⌜ Proper c × (f .amount ≤ unit) × (f .day ≤ lastDay) × Tables (now tables) ⌝ }
+// The value of a payment where it is known from the tables.
+fn fine_value_of(c: Curve, f: Flow, tables: &[u64]) -> FineValue
+    requires { ⌜ ProperCurve c × (f .amount ≤ unit) × (f .day ≤ lastDay) × Tables (now tables) ⌝ }
     ensures { λ r. ⌜ (r .known ≡ true → r .value ≡ flowValue (rateAt (nodesOf c)) f) ⌝ }
 {
-    settled_value(tables, f.amount, c.rate_at(f.day), f.day)
+    fine_value_at(tables, f.amount, c.rate_at(f.day), f.day)
 }
 
 // The value of a payment.
 fn value_of(c: Curve, f: Flow, tables: &[u64]) -> u64
-    requires { ⌜ Proper c × (f .amount ≤ unit) × (f .day ≤ lastDay) × Tables (now tables) ⌝ }
+    requires { ⌜ ProperCurve c × (f .amount ≤ unit) × (f .day ≤ lastDay) × Tables (now tables) ⌝ }
     ensures { λ r. ⌜ r ≡ flowValue (rateAt (nodesOf c)) f ⌝ }
 {
-    let settled = settled_payment(c, f, tables);
-    if settled.known {
-        return settled.value;
+    let found = fine_value_of(c, f, tables);
+    if found.known {
+        return found.value;
     }
     present_value(f.amount, c.rate_at(f.day), f.day)
 }
 
 // The value of two payments by their factors, which are found side by side: that takes little longer than one.
 fn value_by_factors(c: Curve, f: Flow, g: Flow) -> u64
-    requires { ⌜ Proper c × (f .amount ≤ unit) × (g .amount ≤ unit) ⌝ }
+    requires { ⌜ ProperCurve c × (f .amount ≤ unit) × (g .amount ≤ unit) ⌝ }
     ensures { λ r. ⌜ r ≡ flowValue (rateAt (nodesOf c)) f + flowValue (rateAt (nodesOf c)) g ⌝ }
 {
     let both = factors(c.rate_at(f.day), f.day, c.rate_at(g.day), g.day);
@@ -89,11 +89,11 @@ fn value_by_factors(c: Curve, f: Flow, g: Flow) -> u64
 
 // The value of two payments.
 fn value_of_two(c: Curve, f: Flow, g: Flow, tables: &[u64]) -> u64
-    requires { ⌜ Proper c × (f .amount ≤ unit) × (g .amount ≤ unit) × (f .day ≤ lastDay) × (g .day ≤ lastDay) × Tables (now tables) ⌝ }
+    requires { ⌜ ProperCurve c × (f .amount ≤ unit) × (g .amount ≤ unit) × (f .day ≤ lastDay) × (g .day ≤ lastDay) × Tables (now tables) ⌝ }
     ensures { λ r. ⌜ r ≡ flowValue (rateAt (nodesOf c)) f + flowValue (rateAt (nodesOf c)) g ⌝ }
 {
-    let first = settled_payment(c, f, tables);
-    let second = settled_payment(c, g, tables);
+    let first = fine_value_of(c, f, tables);
+    let second = fine_value_of(c, g, tables);
     if first.known & second.known {
         return first.value + second.value;
     }
@@ -102,7 +102,7 @@ fn value_of_two(c: Curve, f: Flow, g: Flow, tables: &[u64]) -> u64
 
 // The value of the payments from one up to, not including, another: two at a time, and the last alone where one is left.
 fn value_between(c: Curve, l: Leg, from: u64, to: u64, tables: &[u64]) -> u64
-    requires { ⌜ Proper c × PaymentLimits l × (from ≤ to) × (to ≤ l .count) × Tables (now tables) ⌝ }
+    requires { ⌜ ProperCurve c × PaymentLimits l × (from ≤ to) × (to ≤ l .count) × Tables (now tables) ⌝ }
     ensures { λ r. ⌜ r ≡ bondValue (nodesOf c) (table (flowOf l) from (to - from)) ⌝ }
 {
     let mut sum: u64 = 0;

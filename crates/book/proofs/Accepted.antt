@@ -16,7 +16,7 @@ use Rattle.curve_block.specs.Verdict.{curveVerdict}
 use Rattle.curve_block.proofs.Accepted.{SoundCurve, accepted-curve}
 use Rattle.book.specs.Parts.{blockAt, curveCount, tradeBlocks, curvesOf, recordCount, recordPlace, tradeCount, recordAt}
 use Rattle.book.specs.Rules.{breaksLength}
-use Rattle.book.specs.Verdict.{bytesVerdict, firstOf, blockVerdict, verdict}
+use Rattle.book.specs.Verdict.{bytesVerdict, firstOf, blockVerdict, blocksVerdict}
 use Rattle.book.specs.Encode.{blocksFor}
 use Rattle.book.proofs.First.{first-at}
 use Rattle.book.proofs.Sound.{Long, long}
@@ -35,9 +35,9 @@ pub record Sound (s : List ℕ) (used : ℕ) : Type 0 where
   pub trades : (j : ℕ) → j < tradeBlocks s →
       TradesSound (curvesOf s) (blockAt s (1 + curveCount s + j)) (1 + curveCount s + j) (eqb (1 + curveCount s + j + 1) (1 + curveCount s + tradeBlocks s))
 
-module _ (s : List ℕ) (used : ℕ) (h : verdict s used ≡ Accepted) where
+module _ (s : List ℕ) (used : ℕ) (h : blocksVerdict s used ≡ Accepted) where
   pub length-passed : (breaksLength used (length s) ≡ false) × (firstOf (blockVerdict s (used / 512)) 0 (used / 512) ≡ Accepted)
-  unfolding verdict
+  unfolding blocksVerdict
   length-passed = unless-accepted (breaksLength used (length s)) Length 0 _ h
 
   fits : Long used (length s)

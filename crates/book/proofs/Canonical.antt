@@ -8,7 +8,7 @@ use Rattle.laws.proofs.Tables.{table-same, table-part}
 use Rattle.ground.specs.declared.Verdict.the-variants.{Accepted}
 use Rattle.layout.specs.Bytes.{AreBytes}
 use Rattle.book.specs.Parts.{blockAt, headerOf, curveCount, tradeBlocks, curveBlocks, curvesOf, recordCount, recordIn, tradeCount, recordAt, records}
-use Rattle.book.specs.Verdict.{verdict}
+use Rattle.book.specs.Verdict.{blocksVerdict}
 use Rattle.book.specs.Encode.{headerBlock, tradeBlock, blocksFor, recordsOfBlock, encode}
 use Rattle.book.proofs.Places.{head-fields, head-curves, head-trades, length-curveBlocks, curve-block, length-records, record-of}
 use Rattle.book.proofs.Verdicts.{any-block}
@@ -85,8 +85,8 @@ module _ (s : List ℕ) (used : ℕ) (bytes : AreBytes s) (b : Sound s used) whe
             rw (record-of s i j) (any-block (curvesOf s) (recordAt s i) (1 + curveCount s + i / 9) k (accepted-record s used b i j));
       }
 
--- every byte of an accepted book is settled by its header, its curve blocks and its records
-module _ (s : List ℕ) (used : ℕ) (bytes : AreBytes s) (h : verdict s used ≡ Accepted) where
+-- every byte of an accepted book is determined by its header, its curve blocks and its records
+module _ (s : List ℕ) (used : ℕ) (bytes : AreBytes s) (h : blocksVerdict s used ≡ Accepted) where
   pub accepted-encoded : take used s ≡ encode (headerOf s) (curveBlocks s) (records s)
   accepted-encoded = sound-encoded s used bytes (sound s used h)
 

@@ -6,7 +6,7 @@ use lib.ListN.{length, take, drop, take-append-drop}
 use Rattle.ground.specs.declared.Verdict.the-variants.{Accepted}
 use Rattle.layout.specs.Bytes.{AreBytes}
 use Rattle.book.specs.Parts.{Parts, headerOf, curveCount, curveBlocks, tradeCount, records, partsOf}
-use Rattle.book.specs.Verdict.{verdict}
+use Rattle.book.specs.Verdict.{blocksVerdict}
 use Rattle.book.specs.Encode.{bookOf}
 use Rattle.book.proofs.Places.{length-curveBlocks, length-records}
 use Rattle.book.proofs.Accepted.{sound}
@@ -24,7 +24,7 @@ module _ (s t : List ℕ) where
   pub same-trade-count : SameBook s t → tradeCount t ≡ tradeCount s
   same-trade-count same = sym (length-records t) ∙ ap (λ (p : Parts). length (p .trades)) same ∙ length-records s
 
-  module _ (used : ℕ) (bytes : AreBytes s) (ok : verdict s used ≡ Accepted) (same : take used t ≡ take used s) where
+  module _ (used : ℕ) (bytes : AreBytes s) (ok : blocksVerdict s used ≡ Accepted) (same : take used t ≡ take used s) where
     abbrev book : List ℕ
     book = bookOf (partsOf s)
 
@@ -37,9 +37,9 @@ module _ (s t : List ℕ) where
     pub same-book : SameBook s t
     same-book = ap partsOf lent ∙ parts-encoded (headerOf s) (curveBlocks s) (records s) (sound-encodable s used bytes (sound s used ok)) rest
 
-    pub copy-accepted : verdict t used ≡ Accepted
+    pub copy-accepted : blocksVerdict t used ≡ Accepted
     copy-accepted =
         let b = sound s used ok in
-        ap (λ (x : List ℕ). verdict x used) lent
-        ∙ ap (verdict (book ++ rest)) (sym (length-accepted s used bytes ok))
+        ap (λ (x : List ℕ). blocksVerdict x used) lent
+        ∙ ap (blocksVerdict (book ++ rest)) (sym (length-accepted s used bytes ok))
         ∙ encoded-accepted (headerOf s) (curveBlocks s) (records s) (sound-encodable s used bytes b) rest (sound-acceptable s used bytes b)

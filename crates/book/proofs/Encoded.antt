@@ -15,7 +15,7 @@ use Rattle.laws.proofs.Tables.{Each, length-flatten, part-flatten, flatten-part
 use Rattle.ground.specs.declared.Verdict.the-variants.{Accepted}
 use Rattle.curve_block.specs.Verdict.{curveVerdict}
 use Rattle.book.specs.Parts.{Header, Parts, blockAt, headerOf, curveCount, tradeBlocks, curveBlocks, curvesIn, curvesOf, tradeCount, recordAt, records, partsOf}
-use Rattle.book.specs.Verdict.{bytesVerdict, blockVerdict, verdict}
+use Rattle.book.specs.Verdict.{bytesVerdict, blockVerdict, blocksVerdict}
 use Rattle.book.specs.Encode.{headerBlock, tradeBlock, blocksFor, recordsOfBlock, tradeBlocksOf, bookBlocks, encode}
 use Rattle.book.proofs.First.{first-of}
 use Rattle.book.proofs.Sound.{length-sound}
@@ -235,7 +235,7 @@ module _ (header : Header) (cs rs : List (List ℕ)) (fine : Encodable header cs
           ∙ rw (curves-of-encoded, at-trade j l) (accepted-trades _ _ _ _ (trade-sound j l)))
 
       -- an encoding of curve blocks and records that are accepted is accepted
-      pub encoded-accepted : verdict s (length (encode header cs rs)) ≡ Accepted
+      pub encoded-accepted : blocksVerdict s (length (encode header cs rs)) ≡ Accepted
       encoded-accepted =
           let n = length-encode in
           let m = length-append (encode header cs rs) rest in

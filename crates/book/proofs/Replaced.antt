@@ -18,7 +18,7 @@ use Rattle.curve_block.specs.Parts.{currencyOf}
 use Rattle.curve_block.specs.Verdict.{curveVerdict}
 use Rattle.book.specs.Parts.{blockAt, headerOf, curveCount, tradeBlocks, curveBlocks, curvesIn, curvesOf, tradeCount, recordAt, records, partsOf}
 use Rattle.book.specs.Edited.{withCurve}
-use Rattle.book.specs.Verdict.{blockVerdict, verdict}
+use Rattle.book.specs.Verdict.{blockVerdict, blocksVerdict}
 use Rattle.book.proofs.First.{first-of}
 use Rattle.book.proofs.Places.{length-curveBlocks, curve-block, no-curve-block, no-trades, last-trades, block-put, block-apart}
 use Rattle.book.proofs.Verdicts.{curve-place, verdict-blocks}
@@ -26,14 +26,14 @@ use Rattle.book.proofs.Accepted.{Sound, length-passed, block-passed, so
 
 -- t is s with b for curve block k
 pub record Replaced (s t : List ℕ) (used k : ℕ) (b : List ℕ) : Type 0 where
-  pub accepted : verdict t used ≡ Accepted
+  pub accepted : blocksVerdict t used ≡ Accepted
   pub parts : partsOf t ≡ withCurve (partsOf s) k b
   pub block : blockAt t k ≡ b
   pub others : (j : ℕ) → j * 512 < used → (j ≡ k → ⊥) → blockAt t j ≡ blockAt s j
 
 -- a block that may take its place
 pub record Replaceable (s : List ℕ) (used k : ℕ) (b : List ℕ) : Type 0 where
-  pub book : verdict s used ≡ Accepted
+  pub book : blocksVerdict s used ≡ Accepted
   pub first : 1 ≤ k
   pub last : k ≤ curveCount s
   pub long : length b ≡ 512

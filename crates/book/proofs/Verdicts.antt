@@ -18,7 +18,7 @@ use Rattle.record.specs.Bytes.{fieldsOf}
 use Rattle.flows.specs.Verdict.{recordRules, recordVerdict}
 use Rattle.book.specs.Parts.{blockAt, curveCount, curvesOf, recordCount, recordIn}
 use Rattle.book.specs.Rules.{breaksLength}
-use Rattle.book.specs.Verdict.{bytesVerdict, firstOf, headerRules, headerVerdict, recordsVerdict, tradesRules, tradesVerdict, blockVerdict, verdict}
+use Rattle.book.specs.Verdict.{bytesVerdict, firstOf, headerRules, headerVerdict, recordsVerdict, tradesRules, tradesVerdict, blockVerdict, blocksVerdict}
 use Rattle.book.proofs.First.{first-passed, first-stopped, first-at, first-of}
 use Rattle.book.proofs.Sound.{Headed, headed, header-sound, Traded, traded, trade-block-sound}
 
@@ -91,8 +91,8 @@ pub header-passes : (s : List ℕ) (n : ℕ) → 0 < n → isAccepted (headerVer
 header-passes s n h e = rw sub-zero at (first-passed (blockVerdict s n) 0 n h (rw (first-block s n) e))
 
 -- a book of a sound length is judged by its blocks
-pub verdict-blocks : (s : List ℕ) (used : ℕ) → breaksLength used (length s) ≡ false → verdict s used ≡ firstOf (blockVerdict s (used / 512)) 0 (used / 512)
-unfolding verdict
+pub verdict-blocks : (s : List ℕ) (used : ℕ) → breaksLength used (length s) ≡ false → blocksVerdict s used ≡ firstOf (blockVerdict s (used / 512)) 0 (used / 512)
+unfolding blocksVerdict
 verdict-blocks s used h = rw h
 
 -- a record that is accepted in one block is accepted in any

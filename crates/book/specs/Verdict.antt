@@ -60,10 +60,10 @@ blockVerdict s blocks k =
     (cond (leb k (curveCount s)) (curveVerdict (blockAt s k) k)
     (tradesVerdict (curvesOf s) (blockAt s k) k (eqb (k + 1) blocks)))
 
-unfoldable pub verdict : List ℕ → ℕ → Verdict
-verdict s used = unless (breaksLength used (length s)) Length 0 (firstOf (blockVerdict s (used / 512)) 0 (used / 512))
+unfoldable pub blocksVerdict : List ℕ → ℕ → Verdict
+blocksVerdict s used = unless (breaksLength used (length s)) Length 0 (firstOf (blockVerdict s (used / 512)) 0 (used / 512))
 
 -- bytes that start with a book whose blocks are accepted, whatever lies behind it
 pub record StartsWithBook (s : List ℕ) : Type 0 where
   pub used : ℕ
-  pub accepted : verdict s used ≡ Accepted
+  pub accepted : blocksVerdict s used ≡ Accepted

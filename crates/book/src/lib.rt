@@ -10,10 +10,10 @@ ghost use mathlib.Core.Path.{_≡_};
 ghost use Prim.Native.Nat.{_-_, _*_, _≤_};
 ghost use lib.ListN.{length};
 ghost use Rattle.book.specs.Parts.{curvesOf};
-ghost use Rattle.book.specs.Verdict.{firstOf, blockVerdict, verdict};
+ghost use Rattle.book.specs.Verdict.{firstOf, blockVerdict, blocksVerdict};
 
 // The first refusal of the blocks behind the header.
-fn blocks_verdict(book: &[u8], curves: Curves, n: usize) -> Verdict
+fn block_by_block(book: &[u8], curves: Curves, n: usize) -> Verdict
     requires { ⌜ (n ≤ 128) × (n * 512 ≤ length (now book)) ⌝ }
     requires { ⌜ curves ≡ curvesOf (now book) ⌝ }
     ensures { λ r. ⌜ r ≡ firstOf (blockVerdict (now (book .entry)) n) 1 (n - 1) ⌝ }
@@ -29,10 +29,10 @@ fn blocks_verdict(book: &[u8], curves: Curves, n: usize) -> Verdict
     Verdict::Accepted
 }
 
-// The verdict on a lent book and its used length, by grounds 1 to 12: whatever is lent has an answer. The curves are looked at only once the header has
+// The verdict on a lent book's length and blocks, grounds 1 to 12: whatever is lent has an answer. The curves are looked at only once the header has
 // said that they are there.
-pub fn check(book: &[u8], used: usize) -> Verdict
-    ensures { λ r. ⌜ r ≡ verdict (now (book .entry)) used ⌝ }
+pub fn blocks_verdict(book: &[u8], used: usize) -> Verdict
+    ensures { λ r. ⌜ r ≡ blocksVerdict (now (book .entry)) used ⌝ }
 {
     if rules::breaks_length(used, book.len()) {
         return Verdict::Refused(Ground::Length, 0);
@@ -42,5 +42,5 @@ pub fn check(book: &[u8], used: usize) -> Verdict
     if !first.is_accepted() {
         return first;
     }
-    blocks_verdict(book, parts::curves_of(book), n)
+    block_by_block(book, parts::curves_of(book), n)
 }

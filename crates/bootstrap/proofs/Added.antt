@@ -11,7 +11,7 @@ use Rattle.layout.specs.Bytes.{part, onBlock, AreBytes}
 use Rattle.layout.proofs.Bytes.{length-put, length-part, onBlock-lent}
 use Rattle.layout.proofs.Sealed.{length-sealed}
 use Rattle.curve.specs.declared.Node.{Node}
-use Rattle.curve.specs.Limits.{Limits}
+use Rattle.curve.specs.Limits.{NodeLimits}
 use Rattle.curve.specs.Rates.{nodesOf}
 use Rattle.curve.proofs.Lengthened.{limits-at-rate}
 use Rattle.curve_block.specs.Parts.{nodeCount, curveOf}
@@ -19,7 +19,7 @@ use Rattle.curve_edit.specs.Lengthen.{withNode}
 use Rattle.curve_edit.proofs.Lengthened.{Addable}
 use Rattle.record.proofs.Limits.{InLimits}
 use Rattle.book.specs.Parts.{blockAt, curveCount, curvesOf}
-use Rattle.book.specs.Verdict.{verdict}
+use Rattle.book.specs.Verdict.{blocksVerdict}
 use Rattle.acceptance.specs.declared.Today.the-variants.{Given}
 use Rattle.acceptance.specs.Verdict.{bookVerdict}
 use Rattle.acceptance.proofs.Laws.{book-accepted}
@@ -48,7 +48,7 @@ module _ (s : List ℕ) (used day : ℕ) (q : Quote) (h : bootstrapVerdict s use
   unfolding bootstrapVerdict
   accepted-on-day = orElse-accepted (bookVerdict s used (Given day)) _ h .0
 
-  pub blocks-accepted : verdict s used ≡ Accepted
+  pub blocks-accepted : blocksVerdict s used ≡ Accepted
   blocks-accepted = book-accepted s used (Given day) accepted-on-day .blocks
 
   behind-book : (quoteVerdict (curvesOf s) q ≡ Accepted) × (extensionVerdict (curveAt s (q .curve)) q ≡ Accepted)
@@ -100,7 +100,7 @@ module _ (s : List ℕ) (used day : ℕ) (q : Quote) (h : bootstrapVerdict s use
         above = found-above nodes (openNode q) (bondFlows q) (q .cash);
       }
 
-  node-limits : Limits (newNode (curveAt s (q .curve)) q)
+  node-limits : NodeLimits (newNode (curveAt s (q .curve)) q)
   unfolding newNode
   node-limits = limits-at-rate (extended .node) (smallest-found .limit)
 

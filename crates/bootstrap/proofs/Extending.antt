@@ -7,7 +7,7 @@ use lib.Dec.{eqb, ltb}
 use Rattle.laws.proofs.Bools.{neither}
 use Rattle.curve.specs.declared.Node.{Node}
 use Rattle.curve.specs.declared.Curve.{Curve}
-use Rattle.curve.specs.Limits.{Proper}
+use Rattle.curve.specs.Limits.{ProperCurve}
 use Rattle.curve.specs.Lengthen.{endDay}
 use Rattle.legs.specs.declared.Leg.{Leg}
 use Rattle.bond.specs.declared.value.Extension.{Extension}
@@ -17,7 +17,7 @@ use Rattle.bootstrap.specs.Bought.{bondPayments}
 use Rattle.bootstrap.specs.Refusals.{openNode, breaksCurveEnd}
 use Rattle.bootstrap.specs.Limits.{QuoteLimits}
 
-pub extends : (c : Curve) (q : Quote) → Proper c → QuoteLimits q → breaksCurveEnd c (openNode q .day) ≡ false → Extends c (openNode q) (bondPayments q)
+pub extends : (c : Curve) (q : Quote) → ProperCurve c → QuoteLimits q → breaksCurveEnd c (openNode q .day) ≡ false → Extends c (openNode q) (bondPayments q)
 unfolding breaksCurveEnd
 extends c q p l h =
     let day = openNode q .day in

@@ -10,7 +10,7 @@ use Rattle.ground.specs.Limits.{lastDay}
 use Rattle.ground.specs.declared.Verdict.the-variants.{Accepted}
 use Rattle.ground.specs.Verdicts.{firstBroken}
 use Rattle.ground.proofs.Verdicts.{orElse-accepted, unbroken}
-use Rattle.curve.specs.Limits.{Limits}
+use Rattle.curve.specs.Limits.{NodeLimits}
 use Rattle.curve_block.specs.Rules.{componentSound}
 use Rattle.curve_block.proofs.Accepted.{component-kept}
 use Rattle.record.specs.declared.Curves.{Curves}
@@ -49,11 +49,11 @@ module _ (curves : Curves) (q : Quote) (h : quoteVerdict curves q ≡ Accepted) 
 
   few-payments : bondPayments q .count ≤ 120
   unfolding tradeOf securityOf outrightLegs signedLeg signsOf bondFields
-  few-payments = bond-limits q (bond-accepted .valued) .few
+  few-payments = bond-limits q (bond-accepted .trade) .few
 
   in-reach : openNode q .day ≤ lastDay
   unfolding tradeOf securityOf outrightLegs signedLeg signsOf bondFields
-  in-reach = bond-limits q (bond-accepted .valued) .reach
+  in-reach = bond-limits q (bond-accepted .trade) .reach
 
   payments-kept : PaymentLimits (bondPayments q)
   payments-kept =
@@ -61,11 +61,11 @@ module _ (curves : Curves) (q : Quote) (h : quoteVerdict curves q ≡ Accepted) 
         some = some-payments;
         few = few-payments;
         reach = in-reach;
-        each = each-small q (bond-accepted .valued);
-        last = last-small q (bond-accepted .valued) some-payments;
+        each = each-small q (bond-accepted .trade);
+        last = last-small q (bond-accepted .trade) some-payments;
       }
 
-  node-kept : Limits (openNode q)
+  node-kept : NodeLimits (openNode q)
   unfolding breaksComponents
   node-kept =
       let a = componentSound (q .first) in
@@ -82,7 +82,7 @@ module _ (curves : Curves) (q : Quote) (h : quoteVerdict curves q ≡ Accepted) 
       }
 
   pub quote-kept : QuoteLimits q
-  quote-kept = record { valued = bond-accepted .valued; payments = payments-kept; node = node-kept }
+  quote-kept = record { trade = bond-accepted .trade; payments = payments-kept; node = node-kept }
 
 -- in a book
 pub id-in-book : (s : List ℕ) (q : Quote) → quoteVerdict (curvesOf s) q ≡ Accepted → InLimits 1 (q .curve) (curveCount s)

@@ -13,7 +13,7 @@ use Rattle.flows.specs.Capped.{cappedLeg}
 use Rattle.flows.specs.Counted.{countedLegs}
 use Rattle.flows.specs.Legs.{bondLeg, outrightLegs, legsOf, anyAbove, breaksFlowLimit}
 use Rattle.legs.specs.Runs.{signedLeg, legFlows, legsFlows}
-use Rattle.flows.specs.Limits.{BondLimits, Valued}
+use Rattle.flows.specs.Limits.{BondLimits, SoundTrade}
 use Rattle.legs.specs.Signs.{signsOf}
 use Rattle.flows.proofs.Above.{any-leg, any-legs}
 use Rattle.flows.proofs.Bounds.{millionths-bound}
@@ -36,7 +36,7 @@ pub legs-limited : (q : Quote) → breaksFlowLimit (bondTrade q) ≡ anyAbove (l
 unfolding breaksFlowLimit
 legs-limited q = ap anyAbove (sym (flows-counted (bondTrade q)) ∙ ap legsFlows (all-counted q))
 
-module _ (q : Quote) (v : Valued (bondTrade q)) where
+module _ (q : Quote) (v : SoundTrade (bondTrade q)) where
   pub bond-limits : BondLimits (couponBondOf (bondFields q))
   unfolding bondFields tradeOf securityOf
   bond-limits = v .limits .security

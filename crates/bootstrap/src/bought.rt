@@ -6,7 +6,7 @@ use record::Fields;
 use record::Form;
 ghost use mathlib.Core.Path.{_≡_};
 ghost use Prim.Native.Nat.{_≤_};
-ghost use Rattle.flows.specs.Limits.{Valued};
+ghost use Rattle.flows.specs.Limits.{SoundTrade};
 ghost use Rattle.bootstrap.specs.Bought.{bondFields, bondTrade, bondPayments};
 
 pub fn bond_fields(q: Quote) -> Fields
@@ -38,7 +38,7 @@ pub fn bond_fields(q: Quote) -> Fields
 
 // The payments of a bond that keeps the rules.
 pub fn payments_of(q: Quote) -> Leg
-    requires { ⌜ Valued (bondTrade q) × (1 ≤ bondPayments q .count) ⌝ }
+    requires { ⌜ SoundTrade (bondTrade q) × (1 ≤ bondPayments q .count) ⌝ }
     ensures { λ r. ⌜ r ≡ bondPayments q ⌝ }
 {
     let l = flows::trade_legs::capped_legs(trade::read::trade_of(bond_fields(q)));

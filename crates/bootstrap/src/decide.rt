@@ -22,7 +22,7 @@ ghost use Rattle.ground.specs.declared.Verdict.the-variants.{Accepted};
 ghost use Rattle.ground.specs.Verdicts.{unless};
 ghost use Rattle.logarithm.specs.Logarithms.{Tables};
 ghost use Rattle.curve.specs.Lengthen.{atRate};
-ghost use Rattle.curve.specs.Limits.{Proper};
+ghost use Rattle.curve.specs.Limits.{ProperCurve};
 ghost use Rattle.curve.specs.Rates.{nodesOf};
 ghost use Rattle.legs.specs.Runs.{legFlows};
 ghost use Rattle.book.specs.Verdict.{StartsWithBook};
@@ -67,7 +67,7 @@ fn priced(c: Curve, n: Node, l: Leg, cash: u64, tables: &[u64]) -> Decision
 
 // On a curve of the book, of a quote that keeps its own rules: grounds 17 and 18, or the node at the smallest rate.
 fn extended(c: Curve, q: Quote) -> Decision
-    requires { ⌜ Proper c × QuoteLimits q ⌝ }
+    requires { ⌜ ProperCurve c × QuoteLimits q ⌝ }
     ensures { λ r. ⌜ r ≡ decisionOf (extensionVerdict c q) (newNode c q) ⌝ }
 {
     let l = payments_of(q);

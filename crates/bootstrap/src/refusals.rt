@@ -9,7 +9,7 @@ use ground::Verdict;
 use record::Curves;
 use record::LARGEST;
 ghost use mathlib.Core.Path.{_≡_};
-ghost use Rattle.curve.specs.Limits.{Proper};
+ghost use Rattle.curve.specs.Limits.{ProperCurve};
 ghost use Rattle.bootstrap.specs.Refusals.{breaksComponents, breaksCash, quoteVerdict, breaksCurveEnd};
 
 // Ground 6 of the new node's components.
@@ -28,7 +28,7 @@ fn breaks_cash(cash: u64) -> bool
 
 // Ground 17.
 pub fn breaks_curve_end(c: Curve, day: u64) -> bool
-    requires { ⌜ Proper c ⌝ }
+    requires { ⌜ ProperCurve c ⌝ }
     ensures { λ r. ⌜ r ≡ breaksCurveEnd c day ⌝ }
 {
     (c.count == 24) | !(c.end_day() < day)

@@ -10,9 +10,9 @@ use Rattle.logarithm.specs.Logarithms.{scale}
 use Rattle.logarithm.proofs.Exponents.{scale-pos}
 use Rattle.logarithm.proofs.Ratios.{logged-none, logged-wide}
 use Rattle.logarithm.proofs.Rows.{exponent-le}
-use Rattle.sieve.specs.Cheap.{whole, cheapLog, cheapPower, cheapFactor}
-use Rattle.sieve.proofs.CheapLogs.{cheap-log-near, cheap-log-le}
-use Rattle.sieve.proofs.Powers.{whole-pos, power-low, power-high}
+use Rattle.cheap.specs.Cheap.{whole, cheapLog, cheapPower, cheapFactor}
+use Rattle.cheap.proofs.CheapLogs.{cheap-log-near, cheap-log-le}
+use Rattle.cheap.proofs.Powers.{whole-pos, power-low, power-high}
 use Rattle.bucket.specs.Convexity.{Apart, Straight, logsApart, logOff, exponentsApart, exponentOff, squared, bent, convexity}
 use Rattle.bucket.proofs.Tangents.{above-tangent, under-tangent}
 use Rattle.bucket.proofs.Chords.{tangent-near, logs-under, logs-over, Cut, exponents-above, exponents-below, exponents-apart, Above, powers-near, powers-above, powers-below}

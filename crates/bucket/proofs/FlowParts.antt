@@ -10,10 +10,10 @@ use Rattle.decimal.specs.HalfUp.{discounted}
 use Rattle.decimal.proofs.Products.{unit-pos}
 use Rattle.decimal.proofs.HalfUp.{discounted-low, discounted-high}
 use Rattle.discount.specs.Discount.{factor, presentValue}
-use Rattle.sieve.specs.Cheap.{whole, cheapFactor}
-use Rattle.sieve.proofs.Powers.{whole-pos, whole-is}
-use Rattle.sieve.proofs.Bound.{cheap-near, cheap-le}
-use Rattle.netting.specs.Netting.{distanceUp, moved, reach, cheapOn}
+use Rattle.cheap.specs.Cheap.{whole, cheapFactor}
+use Rattle.cheap.proofs.Powers.{whole-pos, whole-is}
+use Rattle.cheap.proofs.Bound.{cheap-near, cheap-le}
+use Rattle.netting.specs.Netting.{distanceUp, moved, deviation, cheapOn}
 use Rattle.netting.proofs.NettedValue.{distance-up, not-over, not-under}
 use Rattle.netting.proofs.Sizes.{distance-size}
 use Rattle.bucket.specs.declared.buckets.Bucket.{Bucket}
@@ -21,13 +21,13 @@ use Rattle.bucket.specs.Mapped.{NearLine, BucketLimits, lastPart, excess
 
 -- ---- a value p of an amount a at a cheap factor c, in parts of z
 
-pub record Valued (z a c p : ℕ) : Type 0 where
+pub record NearValue (z a c p : ℕ) : Type 0 where
   pub over : p * (z * 2) ≤ a * c * 2 + a * 786 + z
   pub under : a * c * 2 ≤ p * (z * 2) + a * 786 + z
 
-valued : (a r days : ℕ) → r ≤ 1000000 → days ≤ 10950 → Valued whole a (cheapFactor r days) (presentValue a r days)
+near-value : (a r days : ℕ) → r ≤ 1000000 → days ≤ 10950 → NearValue whole a (cheapFactor r days) (presentValue a r days)
 unfolding presentValue
-valued a r days l k =
+near-value a r days l k =
     let f : ℕ = factor r days in
     let c : ℕ = cheapFactor r days in
     let d : ℕ = distanceUp days in
@@ -106,7 +106,7 @@ unfolding chordRoom
 room-is a n h = le-div-iff-mul-le {k = 2 * whole} {x = n} {y = 1603 * a + 786 + 6 * whole} (omega (arith, whole-pos)) .1 h
 
 module _ (z a a₀ a₁ m c₀ c₁ c p₀ p₁ p q : ℕ) (sum : a₀ + a₁ ≡ a) (few : 786 * m ≤ a + 786)
-    (v₀ : Valued z a₀ c₀ p₀) (v₁ : Valued z a₁ c₁ p₁) (v : Valued z a c p) (w : Valued z m c₀ q) where
+    (v₀ : NearValue z a₀ c₀ p₀) (v₁ : NearValue z a₁ c₁ p₁) (v : NearValue z a c p) (w : NearValue z m c₀ q) where
   values-over : a₀ * c₀ + a₁ * c₁ ≤ a * c + a * 15 + m * c₀ + z → (p₀ + p₁) * (2 * z) ≤ (p + q) * (2 * z) + (1603 * a + 786 + 6 * z)
   values-over h = omega (arith, v₀ .over, v₁ .over, v .under, w .under)
 
@@ -198,30 +198,30 @@ module _ (rate : ℕ → ℕ) (rated : (d : ℕ) → rate d ≤ 1000000) (a day 
   pub flow-over : p₀ + p₁ ≤ p + q + chordRoom a
   flow-over =
       apart a (p₀ + p₁) (p + q)
-      (values-over whole a a₀ a₁ m c₀ c₁ c p₀ p₁ p q sum few-excess (valued a₀ _ _ (rated _) (lim .first)) (valued a₁ _ _ (rated _) (lim .last)) (valued a _ _ (rated _) on) (valued m _ _ (rated _) (lim .first)) worth-over)
+      (values-over whole a a₀ a₁ m c₀ c₁ c p₀ p₁ p q sum few-excess (near-value a₀ _ _ (rated _) (lim .first)) (near-value a₁ _ _ (rated _) (lim .last)) (near-value a _ _ (rated _) on) (near-value m _ _ (rated _) (lim .first)) worth-over)
 
   pub flow-under : p ≤ p₀ + p₁ + q + chordRoom a
   flow-under =
       apart a p (p₀ + p₁ + q)
-      (values-under whole a a₀ a₁ m c₀ c₁ c p₀ p₁ p q sum few-excess (valued a₀ _ _ (rated _) (lim .first)) (valued a₁ _ _ (rated _) (lim .last)) (valued a _ _ (rated _) on) (valued m _ _ (rated _) (lim .first)) worth-under)
+      (values-under whole a a₀ a₁ m c₀ c₁ c p₀ p₁ p q sum few-excess (near-value a₀ _ _ (rated _) (lim .first)) (near-value a₁ _ _ (rated _) (lim .last)) (near-value a _ _ (rated _) on) (near-value m _ _ (rated _) (lim .first)) worth-under)
 
-  -- the reaches of the flow, of its parts and of its excess are in the allowance too
-  reach-most : (x days : ℕ) → days ≤ 10950 → reach x days * (2 * whole) ≤ 786 * x + 3 * whole
-  unfolding reach moved
-  reach-most x days l = omega (arith, div-mul-le-self (2 * x * distanceUp days + 3 * whole) (2 * whole), mul-le-mul-left x (distance-size days l))
+  -- the deviations of the flow, of its parts and of its excess are in the allowance too
+  deviation-most : (x days : ℕ) → days ≤ 10950 → deviation x days * (2 * whole) ≤ 786 * x + 3 * whole
+  unfolding deviation moved
+  deviation-most x days l = omega (arith, div-mul-le-self (2 * x * distanceUp days + 3 * whole) (2 * whole), mul-le-mul-left x (distance-size days l))
 
   room-most : chordRoom a * (2 * whole) ≤ 1603 * a + 786 + 6 * whole
   unfolding chordRoom
   room-most = div-mul-le-self (1603 * a + 786 + 6 * whole) (2 * whole)
 
   abbrev allRoom : ℕ
-  allRoom = chordRoom a + reach a day + reach a₀ (k .first) + reach a₁ (k .last) + reach m (k .first)
+  allRoom = chordRoom a + deviation a day + deviation a₀ (k .first) + deviation a₁ (k .last) + deviation m (k .first)
 
   pub all-allowed : allRoom ≤ allowance a
   all-allowed = go allRoom found
     where
       found : allRoom * (2 * whole) ≤ 3176 * a + 1572 + 18 * whole
-      found = omega (arith, room-most, reach-most a day on, reach-most a₀ (k .first) (lim .first), reach-most a₁ (k .last) (lim .last), reach-most m (k .first) (lim .first), few-excess, sum)
+      found = omega (arith, room-most, deviation-most a day on, deviation-most a₀ (k .first) (lim .first), deviation-most a₁ (k .last) (lim .last), deviation-most m (k .first) (lim .first), few-excess, sum)
 
       go : (n : ℕ) → n * (2 * whole) ≤ 3176 * a + 1572 + 18 * whole → n ≤ allowance a
       go n l = allowed a n (rw whole-is at l)

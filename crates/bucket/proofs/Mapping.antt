@@ -10,12 +10,12 @@ use Rattle.laws.specs.Distance.{Below, Within}
 use Rattle.laws.proofs.Integer.{int, plus, up-pos, down-pos, up-neg, down-neg}
 use Rattle.discount.specs.declared.Flow.{Flow}
 use Rattle.discount.specs.Flows.{signed, total, sum, flowValue}
-use Rattle.sieve.specs.Cheap.{cheapFactor}
-use Rattle.netting.specs.Netting.{noNets, netOn, netted, listed, worth, netValue, cheapOn, reach, flowReach, OnDays}
+use Rattle.cheap.specs.Cheap.{cheapFactor}
+use Rattle.netting.specs.Netting.{noNets, netOn, netted, listed, worth, netValue, cheapOn, deviation, flowDeviation, OnDays}
 use Rattle.netting.proofs.Worths.{none-worth}
 use Rattle.netting.proofs.NettedValue.{flow-within, netted-within}
 use Rattle.bucket.specs.declared.buckets.Bucket.{Bucket}
-use Rattle.bucket.specs.Mapped.{excessFlow, allowance, mapped, isReceived, flowOf, netFlows}
+use Rattle.bucket.specs.Mapped.{excessFlow, allowance, mapped, isReceived, netFlow, netFlows}
 use Rattle.bucket.proofs.NearLines.{Meets}
 use Rattle.bucket.proofs.FlowParts.{chordRoom, last-le, few-excess, flow-over, flow-under, all-allowed}
 
@@ -39,14 +39,14 @@ net-signed (negsuc n) = refl
 module _ (rate : ℕ → ℕ) (rated : (d : ℕ) → rate d ≤ 1000000) where
   -- the value of net amounts and of the flows that they are
   net-flows-within : (nets : List ℤ) (ds : List ℕ) → OnDays (netFlows nets ds)
-      → Within (netValue (cheapOn rate) nets ds) (total (flowValue rate) (netFlows nets ds)) (sum flowReach (netFlows nets ds))
+      → Within (netValue (cheapOn rate) nets ds) (total (flowValue rate) (netFlows nets ds)) (sum flowDeviation (netFlows nets ds))
   unfolding netValue total sum
   net-flows-within nets [] on = omega (int, up-pos 0, down-pos 0)
   net-flows-within nets (d ∷ ds) on =
       let z = netOn nets d in
       let c : ℕ = cheapFactor (rate d) d in
-      let v : ℤ = signed (isReceived z) (flowValue rate (flowOf d z)) in
-      let one : Within (worth c z) v (reach (natAbs z) d) =
+      let v : ℤ = signed (isReceived z) (flowValue rate (netFlow d z)) in
+      let one : Within (worth c z) v (deviation (natAbs z) d) =
       rw (+ℤ-idl (signed (isReceived z) (natAbs z)), net-signed z, none-worth c, +ℤ-idl v) at (flow-within (natAbs z) (rate d) d (rated d) (on .0) (pos 0) (isReceived z)) in
       let rest = net-flows-within nets ds (on .1) in
       omega (int, one, rest, plus (worth c z) (netValue (cheapOn rate) nets ds), plus v (total (flowValue rate) (netFlows nets ds)))
@@ -65,7 +65,7 @@ module _ (rate : ℕ → ℕ) (rated : (d : ℕ) → rate d ≤ 1000000) where
         let k = buckets (f .day) in
         mapped-sum (f .received) _ _ (flowValue rate (excessFlow k f)) (flowValue rate f) (room f) _ _ _ (flow-over rate rated (f .amount) (f .day) (on .0) k (m .limits) (m .line)) (flow-under rate rated (f .amount) (f .day) (on .0) k (m .limits) (m .line)) (total-mapped fs (on .1))
 
-    all-sums : (fs : List Flow) → OnDays fs → sum room fs + sum flowReach fs + sum flowReach (mapped buckets fs) ≤ sum (λ f. allowance (f .amount)) fs
+    all-sums : (fs : List Flow) → OnDays fs → sum room fs + sum flowDeviation fs + sum flowDeviation (mapped buckets fs) ≤ sum (λ f. allowance (f .amount)) fs
     unfolding sum mapped
     all-sums [] on = omega arith
     all-sums (f ∷ fs) on =

@@ -67,8 +67,8 @@ isReceived (pos n) = true
 isReceived (negsuc n) = false
 
 -- a net amount of a day; on which curve does not matter
-abbrev pub flowOf : ℕ → ℤ → Flow
-flowOf day net = record { curve = 0; day = day; received = isReceived net; amount = natAbs net }
+abbrev pub netFlow : ℕ → ℤ → Flow
+netFlow day net = record { curve = 0; day = day; received = isReceived net; amount = natAbs net }
 
 abbrev pub netFlows : List ℤ → List ℕ → List Flow
-netFlows nets days = map (λ day. flowOf day (netOn nets day)) days
+netFlows nets days = map (λ day. netFlow day (netOn nets day)) days

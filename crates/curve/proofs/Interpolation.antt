@@ -8,8 +8,8 @@ use lib.IntN.{ℤ, pos, natAbs, _+ℤ_, _-ℤ_, _*ℤ_}
 use lib.Signed.{quotZ}
 use Rattle.laws.proofs.Signed.{cast, read, cast-is, read-is, abs-sub, abs-mul-le, abs-quot, sub-up, sub-down, mul-neg, quot-neg}
 use Rattle.curve.specs.declared.Node.{Node}
-use Rattle.curve.specs.Rates.{interpolated, Between}
-use Rattle.curve.specs.Limits.{highestRate, Limits}
+use Rattle.curve.specs.Rates.{interpolated, BetweenNodes}
+use Rattle.curve.specs.Limits.{highestRate, NodeLimits}
 use Rattle.curve.proofs.Line.{line, part-le, line-up, line-down, line-high, line-start, line-monotone}
 
 abbrev rise : Node → Node → ℤ
@@ -24,7 +24,7 @@ run a b = pos (b .day) -ℤ pos (a .day)
 abbrev between : Node → Node → ℕ → ℕ
 between a b t = line (a .rate) (b .rate) (t - a .day) (b .day - a .day)
 
-module _ (a b : Node) (t : ℕ) (h : Between a b t) where
+module _ (a b : Node) (t : ℕ) (h : BetweenNodes a b t) where
   gone-is : gone a t ≡ pos (t - a .day)
   gone-is = sub-up t (a .day) (h .from)
 
@@ -56,7 +56,7 @@ interpolated-start a b h =
 
 -- it does not fall where a node's rate rises
 pub interpolated-monotone
-    : (a b a' b' : Node) (t : ℕ) → Between a b t → a .day ≡ a' .day → b .day ≡ b' .day → a .rate ≤ a' .rate → b .rate ≤ b' .rate
+    : (a b a' b' : Node) (t : ℕ) → BetweenNodes a b t → a .day ≡ a' .day → b .day ≡ b' .day → a .rate ≤ a' .rate → b .rate ≤ b' .rate
     → natAbs (interpolated a b t) ≤ natAbs (interpolated a' b' t)
 interpolated-monotone a b a' b' t h da db p q =
     rw (interpolated-line a b t h, interpolated-line a' b' t (record { from = omega arith; before = omega arith }), ← da, ← db, days)
@@ -65,7 +65,7 @@ interpolated-monotone a b a' b' t h da db p q =
     days : b .day - a .day ≡ b .day - t + (t - a .day)
     days = omega arith
 
-module _ (a b : Node) (t : ℕ) (h : Limits a × Limits b × Between a b t) where
+module _ (a b : Node) (t : ℕ) (h : NodeLimits a × NodeLimits b × BetweenNodes a b t) where
   pub rise-size : natAbs (rise a b) < 2 ^ 22
   rise-size = omega (arith, abs-sub (pos (b .rate)) (pos (a .rate)))
 

@@ -14,17 +14,17 @@ use lib.Seq.{getD-set-same, getD-set-other, getD-take, take-suc-set}
 use Rattle.curve.specs.declared.Node.{Node}
 use Rattle.curve.specs.declared.Curve.{Curve}
 use Rattle.curve.specs.Lengthen.{endDay, lengthenedCurve, atRate}
-use Rattle.curve.specs.Limits.{highestRate, Limits, Proper, zeroNode}
+use Rattle.curve.specs.Limits.{highestRate, NodeLimits, ProperCurve, zeroNode}
 use Rattle.curve.specs.Rates.{nodesOf, interpolated, rateFrom, rateAt}
 use Rattle.curve.proofs.Interpolation.{interpolated-start}
 use Rattle.curve.proofs.Rates.{NoHigher, rate-monotone, length-nodes}
 
 -- ---- its nodes
 
-pub limits-at-rate : {n : Node} {rate : ℕ} → Limits n → rate ≤ highestRate → Limits (atRate n rate)
+pub limits-at-rate : {n : Node} {rate : ℕ} → NodeLimits n → rate ≤ highestRate → NodeLimits (atRate n rate)
 limits-at-rate h l = record { day = h .day; rate = l; first = h .first; second = h .second; third = h .third }
 
-module _ (n : Node) (c : Curve) (p : Proper c) (place : c .count < 24) where
+module _ (n : Node) (c : Curve) (p : ProperCurve c) (place : c .count < 24) where
   room : c .count < length (c .nodes)
   room = omega (arith, p .places)
 
@@ -43,7 +43,7 @@ module _ (n : Node) (c : Curve) (p : Proper c) (place : c .count < 24) where
   unfolding nodes
   old i l = getD-set-other (c .nodes) (c .count) i n zeroNode (λ e. omega arith)
 
-  each : Limits n → (i : ℕ) → i < c .count + 1 → Dec (i ≡ c .count) → Limits (getD nodes i zeroNode)
+  each : NodeLimits n → (i : ℕ) → i < c .count + 1 → Dec (i ≡ c .count) → NodeLimits (getD nodes i zeroNode)
   each h i l (yes e) = rw (e, new) h
   each h i l (no e) = let m : i < c .count = omega arith in rw (old i m) (p .each i m)
 
@@ -56,7 +56,7 @@ module _ (n : Node) (c : Curve) (p : Proper c) (place : c .count < 24) where
       let m : suc i < c .count = omega arith in
       rw (old i (omega arith), old (suc i) m) (p .rising i m)
 
-  pub proper-lengthened : Limits n → endDay c < n .day → Proper (lengthenedCurve n c)
+  pub proper-lengthened : NodeLimits n → endDay c < n .day → ProperCurve (lengthenedCurve n c)
   unfolding lengthenedCurve nodes
   proper-lengthened h behind =
       record {
@@ -93,7 +93,7 @@ module _ (n : Node) (t : ℕ) where
       go false e = from-up-to a ns (ltb-false t (a .day) e) m h
 
 -- the payments up to it do not depend on the new node's rate
-pub rate-up-to-end : (n : Node) (c : Curve) (t : ℕ) → Proper c → endDay c < n .day → t ≤ endDay c → rateAt (nodesOf c ++ n ∷ []) t ≡ rateAt (nodesOf c) t
+pub rate-up-to-end : (n : Node) (c : Curve) (t : ℕ) → ProperCurve c → endDay c < n .day → t ≤ endDay c → rateAt (nodesOf c ++ n ∷ []) t ≡ rateAt (nodesOf c) t
 rate-up-to-end n c t p h m =
     let e = getD-take (c .count) (c .nodes) (c .count - 1) zeroNode (omega (arith, p .least)) in
     go (nodesOf c) (length-nodes c p) (rw e m) (rw e h)

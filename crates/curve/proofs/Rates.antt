@@ -13,13 +13,13 @@ use Rattle.laws.specs.All.{All}
 use Rattle.laws.proofs.All.{all-of}
 use Rattle.curve.specs.declared.Node.{Node}
 use Rattle.curve.specs.declared.Curve.{Curve}
-use Rattle.curve.specs.Rates.{nodesOf, interpolated, Between, rateFrom, rateAt}
-use Rattle.curve.specs.Limits.{highestRate, Limits, Proper, zeroNode}
+use Rattle.curve.specs.Rates.{nodesOf, interpolated, BetweenNodes, rateFrom, rateAt}
+use Rattle.curve.specs.Limits.{highestRate, NodeLimits, ProperCurve, zeroNode}
 use Rattle.curve.proofs.Interpolation.{interpolated-high, interpolated-monotone}
 
 -- ---- what holds of every node's rate, and of what is interpolated between two such, holds on every day
 
-module _ (P : ℕ → Type 0) (closed : (a b : Node) (t : ℕ) → Between a b t → P (a .rate) → P (b .rate) → P (natAbs (interpolated a b t))) where
+module _ (P : ℕ → Type 0) (closed : (a b : Node) (t : ℕ) → BetweenNodes a b t → P (a .rate) → P (b .rate) → P (natAbs (interpolated a b t))) where
   from-such : (a : Node) (ns : List Node) (t : ℕ) → P (a .rate) → a .day ≤ t → All (λ n. P (n .rate)) ns → P (rateFrom a ns t)
   unfolding rateFrom
   from-such a [] t p l h = p
@@ -45,20 +45,20 @@ rate-high m (a ∷ ns) t h = rate-such (λ r. r ≤ m) (λ a b t i p q. interpol
 
 -- ---- nodes in their limits give rates in their limits
 
-rates-of : (ns : List Node) → All Limits ns → All (λ n. n .rate ≤ highestRate) ns
+rates-of : (ns : List Node) → All NodeLimits ns → All (λ n. n .rate ≤ highestRate) ns
 rates-of [] h = tt
 rates-of (n ∷ ns) h = (h .0 .rate, rates-of ns (h .1))
 
-pub rate-limit : (ns : List Node) (t : ℕ) → All Limits ns → rateAt ns t ≤ highestRate
+pub rate-limit : (ns : List Node) (t : ℕ) → All NodeLimits ns → rateAt ns t ≤ highestRate
 rate-limit ns t h = rate-high highestRate ns t (rates-of ns h)
 
-module _ (c : Curve) (p : Proper c) where
+module _ (c : Curve) (p : ProperCurve c) where
   pub length-nodes : length (nodesOf c) ≡ c .count
   length-nodes = length-take-le (c .count) (c .nodes) (omega (arith, p .places, p .most))
 
-  pub each-limits : All Limits (nodesOf c)
+  pub each-limits : All NodeLimits (nodesOf c)
   each-limits =
-      all-of Limits (nodesOf c) zeroNode
+      all-of NodeLimits (nodesOf c) zeroNode
       (λ i m. let n : i < c .count = omega (arith, length-nodes) in rw (getD-take (c .count) (c .nodes) i zeroNode n) (p .each i n))
 
   -- every rate of a proper curve is 0 to 1,000,000

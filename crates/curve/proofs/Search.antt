@@ -10,20 +10,20 @@ use lib.IntN.{natAbs}
 use Rattle.laws.proofs.Lists.{drop-next, drop-end}
 use Rattle.curve.specs.declared.Node.{Node}
 use Rattle.curve.specs.declared.Curve.{Curve}
-use Rattle.curve.specs.Rates.{nodesOf, interpolated, Between, rateFrom, rateAt}
-use Rattle.curve.specs.Limits.{Limits, Proper, zeroNode}
+use Rattle.curve.specs.Rates.{nodesOf, interpolated, BetweenNodes, rateFrom, rateAt}
+use Rattle.curve.specs.Limits.{NodeLimits, ProperCurve, zeroNode}
 
 pub record Passed (c : Curve) (t : ℕ) (a : Node) (i : ℕ) : Type 0 where
   pub some : 0 < i
   pub most : i ≤ c .count
-  pub limits : Limits a
+  pub limits : NodeLimits a
   pub from : a .day ≤ t
   pub rest : rateAt (nodesOf c) t ≡ rateFrom a (drop i (nodesOf c)) t
 
 abbrev node : Curve → ℕ → Node
 node c i = getD (c .nodes) i zeroNode
 
-module _ (c : Curve) (t : ℕ) (p : Proper c) where
+module _ (c : Curve) (t : ℕ) (p : ProperCurve c) where
   next : (i : ℕ) → i < c .count → drop i (nodesOf c) ≡ node c i ∷ drop (suc i) (nodesOf c)
   next i k = drop-next (c .nodes) (c .count) i zeroNode (omega (arith, p .places, p .most)) k
 
@@ -43,7 +43,7 @@ module _ (c : Curve) (t : ℕ) (p : Proper c) where
       }
 
   module _ (a : Node) (i : ℕ) (h : Passed c t a i) where
-    pub passed-between : i < c .count → t < node c i .day → Limits a × Limits (node c i) × Between a (node c i) t
+    pub passed-between : i < c .count → t < node c i .day → NodeLimits a × NodeLimits (node c i) × BetweenNodes a (node c i) t
     passed-between k m = (h .limits, p .each i k, record { from = h .from; before = m })
 
     pub passed-interpolated : i < c .count → t < node c i .day → rateAt (nodesOf c) t ≡ natAbs (interpolated a (node c i) t)

@@ -8,7 +8,7 @@ use lib.Signed.{quotZ}
 use Rattle.laws.proofs.Signed.{cast, read, cast-is, read-is, abs-add, abs-mul-le, abs-quot}
 use Rattle.curve.specs.declared.Node.{Node}
 use Rattle.curve.specs.declared.Scenario.{Scenario}
-use Rattle.curve.specs.Limits.{Limits, ScenarioLimits}
+use Rattle.curve.specs.Limits.{NodeLimits, ScenarioLimits}
 use Rattle.curve.specs.Stress.{shifted}
 
 code-term : (y z : ℤ) → natAbs y ≤ 10000 → natAbs z ≤ 1000000 → read y *ℤ read z ≡ y *ℤ z
@@ -22,7 +22,7 @@ module _ (n : Node) (s : Scenario) where
   abbrev three : ℤ
   three = two +ℤ s .third *ℤ n .third
 
-  module _ (h : Limits n × ScenarioLimits s) where
+  module _ (h : NodeLimits n × ScenarioLimits s) where
     pub first-size : natAbs (s .first *ℤ n .first) ≤ 10000 * 1000000
     first-size = abs-mul-le (s .first) (n .first) (h .1 .first) (h .0 .first)
 

@@ -16,7 +16,7 @@ use Rattle.curve.specs.declared.Curve.{Curve}
 use Rattle.curve.specs.declared.Components.{Components}
 use Rattle.curve.specs.declared.Scenario.{Scenario}
 use Rattle.curve.specs.Rates.{nodesOf}
-use Rattle.curve.specs.Limits.{highestRate, Limits, Proper, zeroNode}
+use Rattle.curve.specs.Limits.{highestRate, NodeLimits, ProperCurve, zeroNode}
 use Rattle.curve.specs.Scenarios.{scenarioCount, unstressed, scenarioAt}
 use Rattle.curve.specs.Stress.{shifted, clamped, stressed, stressedCurve}
 use Rattle.curve.proofs.Rates.{each-limits}
@@ -51,11 +51,11 @@ clamped-most : (z : ℤ) → clamped z ≤ highestRate
 clamped-most (pos n) = omega arith
 clamped-most (negsuc n) = omega arith
 
-pub stressed-limits : (s : Scenario) (n : Node) → Limits n → Limits (stressed s n)
+pub stressed-limits : (s : Scenario) (n : Node) → NodeLimits n → NodeLimits (stressed s n)
 stressed-limits s n h =
     record { day = h .day; rate = clamped-most (shifted s n); first = h .first; second = h .second; third = h .third }
 
-pub each-stressed : (s : Scenario) (ns : List Node) → All Limits ns → All Limits (map (stressed s) ns)
+pub each-stressed : (s : Scenario) (ns : List Node) → All NodeLimits ns → All NodeLimits (map (stressed s) ns)
 each-stressed s [] h = tt
 each-stressed s (n ∷ ns) h = (stressed-limits s n (h .0), each-stressed s ns (h .1))
 
@@ -63,18 +63,18 @@ shifted-unstressed : (n : Node) → shifted unstressed n ≡ pos (n .rate)
 unfolding shifted
 shifted-unstressed n = rw (zero-*ℤ (n .first), zero-*ℤ (n .second), zero-*ℤ (n .third)) (ap pos (omega arith))
 
-pub stressed-unstressed : (n : Node) → Limits n → stressed unstressed n ≡ n
+pub stressed-unstressed : (n : Node) → NodeLimits n → stressed unstressed n ≡ n
 stressed-unstressed n h =
     let e : clamped (shifted unstressed n) ≡ n .rate = rw (shifted-unstressed n) (omega arith) in
     ap (λ (r : ℕ). record { day = n .day; rate = r; first = n .first; second = n .second; third = n .third }) e
 
-pub each-unstressed : (ns : List Node) → All Limits ns → map (stressed unstressed) ns ≡ ns
+pub each-unstressed : (ns : List Node) → All NodeLimits ns → map (stressed unstressed) ns ≡ ns
 each-unstressed [] h = refl
 each-unstressed (n ∷ ns) h = cc (stressed-unstressed n (h .0), each-unstressed ns (h .1))
 
 -- ---- a stressed curve
 
-module _ (s : Scenario) (c : Curve) (p : Proper c) where
+module _ (s : Scenario) (c : Curve) (p : ProperCurve c) where
   pub nodes-stressed : nodesOf (stressedCurve s c) ≡ map (stressed s) (nodesOf c)
   unfolding stressedCurve
   nodes-stressed = take-mapFirst (stressed s) (c .count) (c .nodes)
@@ -83,7 +83,7 @@ module _ (s : Scenario) (c : Curve) (p : Proper c) where
   unfolding stressedCurve
   stressed-node i h = mapFirst-done (stressed s) (c .count) (c .nodes) i zeroNode h (omega (arith, p .places, p .most))
 
-  pub proper-stressed : Proper (stressedCurve s c)
+  pub proper-stressed : ProperCurve (stressedCurve s c)
   unfolding stressedCurve
   proper-stressed =
       record {
@@ -94,14 +94,14 @@ module _ (s : Scenario) (c : Curve) (p : Proper c) where
         rising = λ i h. rw (stressed-node i (omega arith), stressed-node (suc i) h) (p .rising i h);
       }
 
-pub curve-unstressed : (c : Curve) → Proper c → stressedCurve unstressed c ≡ c
+pub curve-unstressed : (c : Curve) → ProperCurve c → stressedCurve unstressed c ≡ c
 unfolding stressedCurve
 curve-unstressed c p =
     ap (λ (l : List Node). record { nodes = l; count = c .count })
     (rw (each-unstressed (nodesOf c) (each-limits c p)) (take-append-drop (c .count) (c .nodes)))
 
 -- the middle scenario of the list changes nothing
-pub middle-changes-nothing : (x : Components) (c : Curve) → Proper c → stressedCurve (scenarioAt x ((scenarioCount x - 1) / 2)) c ≡ c
+pub middle-changes-nothing : (x : Components) (c : Curve) → ProperCurve c → stressedCurve (scenarioAt x ((scenarioCount x - 1) / 2)) c ≡ c
 middle-changes-nothing x c p = rw (scenario-middle x) (curve-unstressed c p)
 
 -- ---- the nodes of c stressed one by one: r is c with its first i nodes stressed
@@ -114,11 +114,11 @@ module _ (s : Scenario) (c : Curve) where
   pub partly-none : Partly s c c 0
   partly-none = record { most = omega arith; curve = refl }
 
-  module _ (p : Proper c) (r : Curve) (i : ℕ) (h : Partly s c r i) where
+  module _ (p : ProperCurve c) (r : Curve) (i : ℕ) (h : Partly s c r i) where
     pub partly-node : getD (r .nodes) i zeroNode ≡ getD (c .nodes) i zeroNode
     partly-node = rw (h .curve) (mapFirst-kept (stressed s) i (c .nodes) i zeroNode (omega arith))
 
-    pub partly-limits : i < c .count → Limits (getD (r .nodes) i zeroNode)
+    pub partly-limits : i < c .count → NodeLimits (getD (r .nodes) i zeroNode)
     partly-limits l = rw partly-node (p .each i l)
 
     pub partly-next : i < c .count → (n : Node) → n ≡ stressed s (getD (r .nodes) i zeroNode)

@@ -15,7 +15,7 @@ abbrev pub highestRate : ℕ
 highestRate = 1000000
 
 -- a node: day at or below 10,950, rate 0 to 1,000,000, components −1,000,000 to 1,000,000
-pub record Limits (n : Node) : Type 0 where
+pub record NodeLimits (n : Node) : Type 0 where
   pub day : n .day ≤ lastDay
   pub rate : n .rate ≤ highestRate
   pub first : natAbs (n .first) ≤ 1000000
@@ -27,11 +27,11 @@ abbrev pub zeroNode : Node
 zeroNode = record { day = 0; rate = 0; first = pos 0; second = pos 0; third = pos 0 }
 
 -- a curve: 2 to 24 nodes, each in its limits, the days rising strictly
-pub record Proper (c : Curve) : Type 0 where
+pub record ProperCurve (c : Curve) : Type 0 where
   pub places : length (c .nodes) ≡ 24
   pub least : 2 ≤ c .count
   pub most : c .count ≤ 24
-  pub each : (i : ℕ) → i < c .count → Limits (getD (c .nodes) i zeroNode)
+  pub each : (i : ℕ) → i < c .count → NodeLimits (getD (c .nodes) i zeroNode)
   pub rising : (i : ℕ) → suc i < c .count → getD (c .nodes) i zeroNode .day < getD (c .nodes) (suc i) zeroNode .day
 
 -- a component: 0 to 3 steps, a range of 0 to 10,000 hundredths

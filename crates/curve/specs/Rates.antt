@@ -20,7 +20,7 @@ interpolated a b t =
     +ℤ quotZ ((pos (b .rate) -ℤ pos (a .rate)) *ℤ (pos t -ℤ pos (a .day))) (pos (b .day) -ℤ pos (a .day))
 
 -- day t lies from node a's day to before node b's
-pub record Between (a b : Node) (t : ℕ) : Type 0 where
+pub record BetweenNodes (a b : Node) (t : ℕ) : Type 0 where
   pub from : a .day ≤ t
   pub before : t < b .day
 

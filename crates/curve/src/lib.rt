@@ -2,8 +2,8 @@
 ghost use mathlib.Core.Path.{_≡_};
 ghost use Prim.Native.Nat.{_<_};
 ghost use lib.IntN.{natAbs};
-ghost use Rattle.curve.specs.Rates.{nodesOf, interpolated, rateAt, Between};
-ghost use Rattle.curve.specs.Limits.{Limits, Proper, ComponentLimits, ProperComponents, ScenarioLimits};
+ghost use Rattle.curve.specs.Rates.{nodesOf, interpolated, rateAt, BetweenNodes};
+ghost use Rattle.curve.specs.Limits.{NodeLimits, ProperCurve, ComponentLimits, ProperComponents, ScenarioLimits};
 ghost use Rattle.curve.specs.Scenarios.{coefficientCount, coefficient, scenarioCount, scenarioAt};
 ghost use Rattle.curve.specs.Stress.{shifted, clamped, stressed, stressedCurve};
 ghost use Rattle.curve.specs.Lengthen.{endDay, lengthenedCurve, atRate};
@@ -44,7 +44,7 @@ pub struct Scenario {
 
 // The rate on day t, between node a and the next node b.
 fn interpolate(a: Node, b: Node, t: u64) -> u64
-    requires { ⌜ Limits a × Limits b × Between a b t ⌝ }
+    requires { ⌜ NodeLimits a × NodeLimits b × BetweenNodes a b t ⌝ }
     ensures { λ r. ⌜ r ≡ natAbs (interpolated a b t) ⌝ }
 {
     let rate = a.rate as i64;
@@ -58,7 +58,7 @@ fn interpolate(a: Node, b: Node, t: u64) -> u64
 impl Curve {
     // The rate on day t: between nodes interpolated, and beyond them the end node's.
     pub fn rate_at(self, t: u64) -> u64
-        requires { ⌜ Proper self ⌝ }
+        requires { ⌜ ProperCurve self ⌝ }
         ensures { λ r. ⌜ r ≡ rateAt (nodesOf self) t ⌝ }
     {
         let mut a = self.nodes[0];
@@ -138,7 +138,7 @@ impl Components {
 
 // The rate that a scenario moves a node's to, before it is brought into its limits.
 fn shift(n: Node, s: Scenario) -> i64
-    requires { ⌜ Limits n × ScenarioLimits s ⌝ }
+    requires { ⌜ NodeLimits n × ScenarioLimits s ⌝ }
     ensures { λ r. ⌜ r ≡ shifted s n ⌝ }
 {
     let sum = s.first * n.first + s.second * n.second + s.third * n.third;
@@ -160,7 +160,7 @@ fn clamp(z: i64) -> u64
 impl Node {
     // The node under a scenario.
     pub fn stressed(self, s: Scenario) -> Node
-        requires { ⌜ Limits self × ScenarioLimits s ⌝ }
+        requires { ⌜ NodeLimits self × ScenarioLimits s ⌝ }
         ensures { λ r. ⌜ r ≡ stressed s self ⌝ }
     {
         let rate = clamp(shift(self, s));
@@ -173,7 +173,7 @@ impl Node {
 impl Curve {
     // The curve with every node under a scenario.
     pub fn stressed(self, s: Scenario) -> Curve
-        requires { ⌜ Proper self × ScenarioLimits s ⌝ }
+        requires { ⌜ ProperCurve self × ScenarioLimits s ⌝ }
         ensures { λ r. ⌜ r ≡ stressedCurve s self ⌝ }
     {
         let mut r = self;
@@ -203,7 +203,7 @@ impl Node {
 impl Curve {
     // The day of the last node.
     pub fn end_day(self) -> u64
-        requires { ⌜ Proper self ⌝ }
+        requires { ⌜ ProperCurve self ⌝ }
         ensures { λ r. ⌜ r ≡ endDay self ⌝ }
     {
         let last = self.nodes[self.count - 1];
@@ -212,7 +212,7 @@ impl Curve {
 
     // The curve with one node more, behind the last.
     pub fn lengthened(self, n: Node) -> Curve
-        requires { ⌜ Proper self × (self .count < 24) ⌝ }
+        requires { ⌜ ProperCurve self × (self .count < 24) ⌝ }
         ensures { λ r. ⌜ r ≡ lengthenedCurve n self ⌝ }
     {
         let mut r = self;

@@ -21,7 +21,7 @@ use Rattle.layout.specs.Check.{breaksCheck, breaksPlace}
 use Rattle.ground.proofs.Verdicts.{unbroken}
 use Rattle.curve.specs.declared.Node.{Node}
 use Rattle.curve.specs.declared.Component.{Component}
-use Rattle.curve.specs.Limits.{Limits, Proper, ComponentLimits, ProperComponents, zeroNode}
+use Rattle.curve.specs.Limits.{NodeLimits, ProperCurve, ComponentLimits, ProperComponents, zeroNode}
 use Rattle.curve_block.specs.Parts.{idOf, currencyOf, nodeCount, nodeAt, curveOf, componentsOf}
 use Rattle.curve_block.specs.Rules.{stepsSound, numberTests, numbersSound, unnamedZero, breaksCurve, componentSound, nodeTests, nodeSound, dayBefore, soundAt, breaksNode}
 use Rattle.curve_block.specs.Verdict.{curveRules, curveVerdict}
@@ -50,7 +50,7 @@ component-kept (pos n) h = leb-true n 1000000 h
 component-kept (negsuc n) h = let l : n ≤ 999999 = leb-true n 999999 (both (leb n 999999) true h .0) in omega arith
 
 module _ (i before : ℕ) (n : Node) (h : nodeSound i before n ≡ true) where
-  node-kept : Limits n
+  node-kept : NodeLimits n
   unfolding nodeSound
   node-kept =
       let at = all-at (nodeTests i before n) h in
@@ -83,7 +83,7 @@ module _ (b : List ℕ) (h : breaksNode b ≡ false) where
 pub place : (b : List ℕ) (i : ℕ) → i < 24 → getD (table (nodeAt b) 0 24) i zeroNode ≡ nodeAt b i
 place b i l = getD-table (nodeAt b) 0 24 i zeroNode l ∙ ap (nodeAt b) (zero-add i)
 
-pub proper-curve : (b : List ℕ) (k : ℕ) → numbersSound b k ≡ true → breaksNode b ≡ false → Proper (curveOf b)
+pub proper-curve : (b : List ℕ) (k : ℕ) → numbersSound b k ≡ true → breaksNode b ≡ false → ProperCurve (curveOf b)
 unfolding curveOf numbersSound
 proper-curve b k h g =
     let at = all-at (numberTests b k) h in
@@ -113,7 +113,7 @@ pub record SoundCurve (b : List ℕ) (k : ℕ) : Type 0 where
   pub id : idOf b ≡ k
   pub least : 1 ≤ currencyOf b
   pub most : currencyOf b ≤ 3
-  pub curve : Proper (curveOf b)
+  pub curve : ProperCurve (curveOf b)
   pub components : ProperComponents (componentsOf b)
 
 pub accepted-curve : (b : List ℕ) (k : ℕ) → curveVerdict b k ≡ Accepted → SoundCurve b k

@@ -1,3 +1,3 @@
 pub mod Accepted
-pub mod Settled
+pub mod Determined
 pub mod Sound

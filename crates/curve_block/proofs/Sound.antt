@@ -15,12 +15,12 @@ use Rattle.layout.specs.Field.{u16At}
 use Rattle.layout.proofs.Bytes.{zeros-of}
 use Rattle.curve.specs.declared.Node.{Node}
 use Rattle.curve.specs.declared.Component.{Component}
-use Rattle.curve.specs.Limits.{Limits, Proper, ComponentLimits}
+use Rattle.curve.specs.Limits.{NodeLimits, ProperCurve, ComponentLimits}
 use Rattle.curve_block.specs.Parts.{idOf, currencyOf, nodeCount, nodePlace, nodeAt, curveOf, componentsOf}
 use Rattle.curve_block.specs.Rules.{stepsSound, numbersSound, gapZero, gapsZero, unnamedZero, breaksCurve, componentSound, nodeSound, dayBefore, soundAt, breaksNode}
 use Rattle.curve_block.specs.Verdict.{curveVerdict}
 use Rattle.curve_block.proofs.Accepted.{place, SoundCurve}
-use Rattle.curve_block.proofs.Settled.{Unnamed}
+use Rattle.curve_block.proofs.Determined.{Unnamed}
 
 -- ---- ground 5
 
@@ -60,7 +60,7 @@ unfolding componentSound
 component-sound (pos n) h = le-leb n 1000000 h
 component-sound (negsuc n) h = rw (le-leb n 999999 (omega arith))
 
-node-sound : (i before : ℕ) (n : Node) → Limits n → (eqb i 0 || ltb before (n .day)) ≡ true → nodeSound i before n ≡ true
+node-sound : (i before : ℕ) (n : Node) → NodeLimits n → (eqb i 0 || ltb before (n .day)) ≡ true → nodeSound i before n ≡ true
 unfolding nodeSound
 node-sound i before n h rise =
     rw (
@@ -72,8 +72,8 @@ node-sound i before n h rise =
       component-sound (n .third) (h .third),
     )
 
-module _ (b : List ℕ) (p : Proper (curveOf b)) where
-  limits-at : (i : ℕ) → i < nodeCount b → Limits (nodeAt b i)
+module _ (b : List ℕ) (p : ProperCurve (curveOf b)) where
+  limits-at : (i : ℕ) → i < nodeCount b → NodeLimits (nodeAt b i)
   unfolding curveOf
   limits-at i l = rw (place b i (omega (arith, p .most))) at (p .each i l)
 

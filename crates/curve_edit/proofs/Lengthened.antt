@@ -22,7 +22,7 @@ use Rattle.layout.proofs.Bytes.{length-put, put-byte, bytes-set, bytes-put, byt
 use Rattle.layout.proofs.Field.{field-byte, length-bytes, bytes-bytes, number-bytes, field-of-put, field-apart, signed-bytes}
 use Rattle.layout.proofs.Sealed.{length-sealed, bytes-sealed, byte-sealed, field-sealed, sealed-sound}
 use Rattle.curve.specs.declared.Node.{Node}
-use Rattle.curve.specs.Limits.{Limits, zeroNode}
+use Rattle.curve.specs.Limits.{NodeLimits, zeroNode}
 use Rattle.curve.specs.Rates.{nodesOf}
 use Rattle.curve.specs.Lengthen.{endDay, lengthenedCurve}
 use Rattle.curve.proofs.Lengthened.{nodes-lengthened, proper-lengthened}
@@ -30,7 +30,7 @@ use Rattle.curve_block.specs.Parts.{currencyOf, nodeCount, nodePlace, nodeAt, c
 use Rattle.curve_block.specs.Verdict.{curveVerdict}
 use Rattle.curve_edit.specs.Lengthen.{nodeBytes, withNode}
 use Rattle.curve_block.proofs.Accepted.{SoundCurve, accepted-curve, place}
-use Rattle.curve_block.proofs.Settled.{Unnamed, accepted-unnamed}
+use Rattle.curve_block.proofs.Determined.{Unnamed, accepted-unnamed}
 use Rattle.curve_block.proofs.Sound.{curve-accepted}
 
 -- ---- the node's bytes
@@ -59,7 +59,7 @@ record NodeFields (n : Node) : Type 0 where
 component-back : (z : ℤ) → natAbs z ≤ 1000000 → signedOf 32 (numberAt 4 (bytesOf 4 (twos z)) 0) ≡ z
 component-back z h = signed-bytes 4 z (omega arith) (omega arith) (omega (arith, mag-abs z))
 
-node-fields : (n : Node) → Limits n → NodeFields n
+node-fields : (n : Node) → NodeLimits n → NodeFields n
 unfolding nodeBytes numberAt bytesOf
 node-fields n h =
     record {
@@ -162,7 +162,7 @@ module _ (n : Node) (b : List ℕ) where
         let e = length-node n in
         field-written m (at + k) (inr (omega arith)) (omega arith) ∙ field-of-put m b at (nodeBytes n) k (omega arith) (omega arith)
 
-    node-new : Limits n → nodeAt (withNode n b) (nodeCount b) ≡ n
+    node-new : NodeLimits n → nodeAt (withNode n b) (nodeCount b) ≡ n
     unfolding nodeAt
     node-new h =
         let f = node-fields n h in
@@ -183,7 +183,7 @@ module _ (n : Node) (b : List ℕ) where
     gap-new : u16At (withNode n b) (at + 2) ≡ 0
     gap-new = field-new 2 2 (omega arith) ∙ node-gap n
 
-    pub curve-with-node : Limits n → curveOf (withNode n b) ≡ lengthenedCurve n (curveOf b)
+    pub curve-with-node : NodeLimits n → curveOf (withNode n b) ≡ lengthenedCurve n (curveOf b)
     unfolding curveOf lengthenedCurve
     curve-with-node h = rw (count-with-node, ← nodes)
       where
@@ -205,7 +205,7 @@ pub record Addable (b : List ℕ) (k : ℕ) (n : Node) : Type 0 where
   pub bytes : AreBytes b
   pub accepted : curveVerdict b k ≡ Accepted
   pub room : nodeCount b < 24
-  pub limits : Limits n
+  pub limits : NodeLimits n
   pub later : endDay (curveOf b) < n .day
 
 module _ (b : List ℕ) (k : ℕ) (n : Node) (a : Addable b k n) where

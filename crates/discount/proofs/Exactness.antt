@@ -39,7 +39,7 @@ module _ (a r days : ℕ) where
       let lower : 2 * v - 1 ≤ 2 * exact a r days - 1 = omega arith in
       lt-irrefl _ (lt-of-lt-of-le h (le-trans (mul-le-mul-right ((million + r) ^ days) (pow-le-pow-left lower year)) exact-holds)))
 
-  -- two tests settle it
+  -- two tests show it
   pub exact-is : (v : ℕ) → (2 * v - 1) ^ year * (million + r) ^ days ≤ (2 * a) ^ year * million ^ days
       → (2 * a) ^ year * million ^ days < (2 * suc v - 1) ^ year * (million + r) ^ days → exact a r days ≡ v
   exact-is v h k = omega (arith, exact-ge v h, exact-lt (suc v) k)

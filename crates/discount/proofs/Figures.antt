@@ -1,5 +1,5 @@
 -- The present values that document 01 marks to be proved ("Checked figures"), and halves (document 02, wish 7). No root is ever searched for: on
--- whole years and on day 0 the factor takes none. Nor is an exact value: two tests settle it.
+-- whole years and on day 0 the factor takes none. Nor is an exact value: two tests show it.
 use mathlib.Core.Path.{_≡_, refl}
 use Prim.Native.Nat.{ℕ}
 use lib.Dec.{lit<, leb→le}

@@ -64,7 +64,7 @@ module _ (y : ℕ) where
   pub root-lt : (q : ℕ) → y < power q year → root y < q
   root-lt q h = lt-of-not-le (λ l. lt-irrefl y (lt-of-lt-of-le h (le-trans (power-mono year l) root-holds)))
 
-  -- two tests settle it
+  -- two tests show it
   pub root-is : (q : ℕ) → q ≤ unit → power q year ≤ y → y < power (q + 1) year → root y ≡ q
   root-is q l h k = omega (arith, root-ge q l h, root-lt (q + 1) k)
 

@@ -97,7 +97,7 @@ fn search(yearly: Factor, from: Factor) -> Factor
 }
 
 // The power by k of the day's factor of a year's: where the guess q is that factor, as its ends tell, its own, which was taken on their way.
-pub fn settled(yearly: Factor, k: u64, q: Factor, taken: Factor, ends: Chains) -> Factor
+pub fn power_from_guess(yearly: Factor, k: u64, q: Factor, taken: Factor, ends: Chains) -> Factor
     requires { ⌜ (yearly .0 < unit) × (q .0 < unit) × (taken .0 ≡ power (q .0) k) × PowersBy (q .0) year ends ⌝ }
     ensures { λ r. ⌜ (r .0 ≡ power (root (yearly .0)) k) × (r .0 ≤ unit) ⌝ }
 {
@@ -116,5 +116,5 @@ pub fn day_power(yearly: Factor, k: u64) -> Factor
     let q = Factor(guess(yearly.0));
     let taken = run(Chains::ones(), q, 0, k);
     let ends = run(taken, q, k, YEAR);
-    settled(yearly, k, q, taken.low, ends)
+    power_from_guess(yearly, k, q, taken.low, ends)
 }

@@ -6,7 +6,7 @@ ghost use Rattle.decimal.specs.Product.{unit};
 ghost use Rattle.discount.specs.Discount.{million, year, power, root, factor};
 ghost use Rattle.discount.specs.Powers.{PowersBy};
 use super::daily::Chains;
-use super::daily::settled;
+use super::daily::power_from_guess;
 use super::factor::Factor;
 use super::guess::guess;
 use super::value::factor;
@@ -61,8 +61,8 @@ fn ordered_powers(y: Factor, z: Factor, j: u64, k: u64) -> Pair
     let at_j = short.first;
     let at_k = long.second;
     Pair {
-        first: settled(y, j, q, at_j.low, ends.first),
-        second: settled(z, k, p, at_k.low, ends.second),
+        first: power_from_guess(y, j, q, at_j.low, ends.first),
+        second: power_from_guess(z, k, p, at_k.low, ends.second),
     }
 }
 

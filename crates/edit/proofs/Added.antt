@@ -12,7 +12,7 @@ use Rattle.ground.specs.declared.Verdict.the-variants.{Accepted}
 use Rattle.layout.specs.Bytes.{byteAt, put, onBlock, AreBytes}
 use Rattle.layout.proofs.Bytes.{length-put, byte-apart, drop-kept}
 use Rattle.book.specs.Parts.{blockAt, headerOf, curveCount, tradeBlocks, tradeCount, records}
-use Rattle.book.specs.Verdict.{verdict}
+use Rattle.book.specs.Verdict.{blocksVerdict}
 use Rattle.book.specs.Encode.{headerBlock, tradeBlock, blocksFor, recordsOfBlock}
 use Rattle.book.proofs.Places.{head-fields, head-curves, curve-block, block-put, block-apart}
 use Rattle.book.proofs.Accepted.{sound, length-blockAt}
@@ -20,7 +20,7 @@ use Rattle.book.proofs.HeaderBlock.{bytes-part, header-recounted}
 use Rattle.book.proofs.TradeBlock.{Holds}
 use Rattle.book.proofs.Encoded.{length-nine}
 use Rattle.book.proofs.Canonical.{header-block, trade-block}
-use Rattle.trade_edit.specs.Blocks.{withRecord, bareBlock, withTradeBlocks, lengthened}
+use Rattle.trade_edit.specs.Blocks.{withRecord, bareBlock, withTradeBlocks, withNewBlock}
 use Rattle.trade_edit.proofs.BlockLaws.{added, bare-holds}
 use Rattle.trade_edit.proofs.StepLaws.{length-withRecord, length-withTradeBlocks, length-onBlock, block-changed, block-kept, byte-kept}
 use Rattle.edit.specs.Edits.{appendedBook}
@@ -51,7 +51,7 @@ module _ (rs : List (List ℕ)) (r : List ℕ) where
       rw (drop-append-le (j * 9) rs (r ∷ []) l, take-all 9 (drop (j * 9) rs ++ r ∷ []) n, take-all 9 (drop (j * 9) rs) m)
 
 -- the header of an accepted book, with another count
-pub header-counted : (s : List ℕ) (used : ℕ) → AreBytes s → verdict s used ≡ Accepted → (t : ℕ) → t < 65536
+pub header-counted : (s : List ℕ) (used : ℕ) → AreBytes s → blocksVerdict s used ≡ Accepted → (t : ℕ) → t < 65536
     → withTradeBlocks (blockAt s 0) t ≡ headerBlock (headerOf s) (curveCount s) t
 unfolding withTradeBlocks
 header-counted s used bytes ok t few =
@@ -59,7 +59,7 @@ header-counted s used bytes ok t few =
     header-recounted (blockAt s 0) (1 + curveCount s + tradeBlocks s) (bytes-part s (0 * 512) 512 bytes) (length-blockAt s used b 0 (omega arith)) (b .header) t few
     ∙ rw (head-fields s, head-curves s)
 
-module _ (s : List ℕ) (used : ℕ) (bytes : AreBytes s) (ok : verdict s used ≡ Accepted) (r : List ℕ) (long : length r ≡ 56) where
+module _ (s : List ℕ) (used : ℕ) (bytes : AreBytes s) (ok : blocksVerdict s used ≡ Accepted) (r : List ℕ) (long : length r ≡ 56) where
   abbrev rs : List (List ℕ)
   rs = records s
 
@@ -125,9 +125,9 @@ module _ (s : List ℕ) (used : ℕ) (bytes : AreBytes s) (ok : verdict s used �
       (λ m h. byte-kept filled same s k m (inr h)))
 
   -- in a new one
-  pub lengthened-lent : tradeCount s % 9 ≡ 0 → used + 512 ≤ length s → Appended (used + 512) (lengthened s used r)
-  unfolding lengthened
-  lengthened-lent full room =
+  pub new-block-lent : tradeCount s % 9 ≡ 0 → used + 512 ≤ length s → Appended (used + 512) (withNewBlock s used r)
+  unfolding withNewBlock
+  new-block-lent full room =
       let at : used ≡ k * 512 = omega (arith, z .size) in
       let number : used / 512 ≡ k = omega arith in
       let count : tradeBlocks s ≡ u = omega (arith, z .trade-blocks) in

@@ -7,7 +7,7 @@ use lib.ListN.{length, getD, drop, take-append-drop}
 use Rattle.ground.specs.declared.Verdict.the-variants.{Accepted}
 use Rattle.layout.specs.Bytes.{AreBytes}
 use Rattle.book.specs.Parts.{blockAt, headerOf, curveCount, tradeBlocks, curveBlocks, tradeCount, records, partsOf}
-use Rattle.book.specs.Verdict.{verdict}
+use Rattle.book.specs.Verdict.{blocksVerdict}
 use Rattle.book.specs.Encode.{headerBlock, tradeBlock, blocksFor, recordsOfBlock, bookOf}
 use Rattle.book.specs.Edited.{curvesWith, withTrades}
 use Rattle.book.proofs.Places.{length-curveBlocks, length-records}
@@ -25,7 +25,7 @@ pub record Sized (s : List ℕ) (used : ℕ) : Type 0 where
   pub lent : used ≤ length s
   pub limit : used ≤ 65536
 
-module _ (s : List ℕ) (used : ℕ) (bytes : AreBytes s) (ok : verdict s used ≡ Accepted) where
+module _ (s : List ℕ) (used : ℕ) (bytes : AreBytes s) (ok : blocksVerdict s used ≡ Accepted) where
   pub sized : Sized s used
   sized =
       let b = sound s used ok in

@@ -14,7 +14,7 @@ use Rattle.ground.specs.declared.Verdict.the-variants.{Accepted}
 use Rattle.layout.specs.Bytes.{byteAt, part, AreBytes}
 use Rattle.layout.proofs.Bytes.{length-part, byte-part, part-same, part-kept, drop-kept, part-part, zeros-at, zeros-of, zeros-part}
 use Rattle.book.specs.Parts.{Parts, blockAt, recordPlace, recordIn, headerOf, curveCount, tradeCount, recordAt, records, partsOf}
-use Rattle.book.specs.Verdict.{verdict}
+use Rattle.book.specs.Verdict.{blocksVerdict}
 use Rattle.book.specs.Encode.{headerBlock, tradeBlock, blocksFor, recordsOfBlock, bookOf}
 use Rattle.book.specs.Edited.{without, struckParts}
 use Rattle.book.proofs.Places.{head-curves, curve-block, record-of}
@@ -62,7 +62,7 @@ module _ (rs : List (List ℕ)) (p : ℕ) (in-list : p < length rs) where
       ext-getD [] (recordsOfBlock (without rs p) j) (recordsOfBlock rs j) (omega arith)
       (λ i l. nine-at (without rs p) j i (omega arith) ∙ without-before (j * 9 + i) (omega arith) ∙ sym (nine-at rs j i (omega arith)))
 
-module _ (s : List ℕ) (used : ℕ) (bytes : AreBytes s) (ok : verdict s used ≡ Accepted) (p : ℕ) (in-book : p < tradeCount s) where
+module _ (s : List ℕ) (used : ℕ) (bytes : AreBytes s) (ok : blocksVerdict s used ≡ Accepted) (p : ℕ) (in-book : p < tradeCount s) where
   abbrev rs : List (List ℕ)
   rs = records s
 

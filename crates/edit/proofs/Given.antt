@@ -14,7 +14,7 @@ use Rattle.ground.specs.declared.Ground.{Ground}
 use Rattle.ground.specs.declared.Ground.the-variants.{Position, BookSpace}
 use Rattle.ground.specs.declared.Verdict.the-variants.{Accepted, Refused}
 use Rattle.book.specs.Parts.{curvesOf, tradeCount}
-use Rattle.book.specs.Verdict.{bytesVerdict, verdict}
+use Rattle.book.specs.Verdict.{bytesVerdict, blocksVerdict}
 use Rattle.acceptance.specs.declared.Today.{Today}
 use Rattle.acceptance.specs.declared.Today.the-variants.{Given}
 use Rattle.acceptance.specs.Verdict.{bookVerdict}
@@ -23,7 +23,7 @@ use Rattle.ground.proofs.Verdicts.{unless-accepted, orElse-accepted}
 use Rattle.edit.specs.Refusals.{blockOf, breaksPosition, breaksBookSpace, positionVerdict, newRecordVerdict, appendVerdict}
 
 pub record HasTrade (s : List ℕ) (used position : ℕ) : Type 0 where
-  pub accepted : verdict s used ≡ Accepted
+  pub accepted : blocksVerdict s used ≡ Accepted
   pub in-book : position < tradeCount s
 
 pub position-book : (s : List ℕ) (used : ℕ) (today : Today) (position : ℕ) → positionVerdict s used today position ≡ Accepted → bookVerdict s used today ≡ Accepted
@@ -38,12 +38,12 @@ has-trade s used today position h =
     record { accepted = book-accepted s used today (position-book s used today position h) .blocks; in-book = ltb-true position (tradeCount s) (not-false _ (q .0)) }
 
 pub record Admitted (s : List ℕ) (used : ℕ) (r : List ℕ) : Type 0 where
-  pub accepted : verdict s used ≡ Accepted
+  pub accepted : blocksVerdict s used ≡ Accepted
   pub judged : bytesVerdict (curvesOf s) r (blockOf s (tradeCount s)) ≡ Accepted
   pub roomy : breaksBookSpace (tradeCount s) used (length s) ≡ false
 
 module _ (s : List ℕ) (used : ℕ) (r : List ℕ) where
-  pub record-admitted : verdict s used ≡ Accepted → newRecordVerdict s used r ≡ Accepted → Admitted s used r
+  pub record-admitted : blocksVerdict s used ≡ Accepted → newRecordVerdict s used r ≡ Accepted → Admitted s used r
   unfolding newRecordVerdict
   record-admitted ok h =
       let q = orElse-accepted (bytesVerdict (curvesOf s) r (blockOf s (tradeCount s))) _ h in

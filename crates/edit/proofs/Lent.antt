@@ -10,7 +10,7 @@ use Rattle.laws.proofs.Tables.{Each}
 use Rattle.layout.specs.Bytes.{AreBytes}
 use Rattle.ground.specs.declared.Verdict.the-variants.{Accepted}
 use Rattle.book.specs.Parts.{headerOf, curveBlocks, tradeCount, records}
-use Rattle.book.specs.Verdict.{verdict}
+use Rattle.book.specs.Verdict.{blocksVerdict}
 use Rattle.book.specs.Encode.{blocksFor}
 use Rattle.book.proofs.Encoded.{Encodable}
 use Rattle.edit.specs.Refusals.{breaksBookSpace}
@@ -20,7 +20,7 @@ use Rattle.edit.proofs.Added.{length-one-more, each-more}
 use Rattle.edit.proofs.Fewer.{length-without, each-without}
 use Rattle.edit.proofs.Given.{room}
 
-module _ (s : List ℕ) (used : ℕ) (bytes : AreBytes s) (ok : verdict s used ≡ Accepted) where
+module _ (s : List ℕ) (used : ℕ) (bytes : AreBytes s) (ok : blocksVerdict s used ≡ Accepted) where
   abbrev cs : List (List ℕ)
   cs = curveBlocks s
 

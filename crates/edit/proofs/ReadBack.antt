@@ -13,7 +13,7 @@ use Rattle.trade.proofs.RoundTrip.{trade-bytes-trade}
 use Rattle.flows.proofs.Bounded.{accepted}
 use Rattle.flows.proofs.Rewritten.{accepted-rewritten}
 use Rattle.book.specs.Parts.{blockAt, curveCount, curvesOf, recordPlace, tradeCount, recordAt}
-use Rattle.book.specs.Verdict.{bytesVerdict, verdict}
+use Rattle.book.specs.Verdict.{bytesVerdict, blocksVerdict}
 use Rattle.book.proofs.Places.{curves-count}
 use Rattle.book.proofs.Accepted.{sound, accepted-record, length-recordAt}
 use Rattle.book.proofs.HeaderBlock.{bytes-part}
@@ -52,7 +52,7 @@ bytes-recordAt s i bytes =
     bytes-part (blockAt s k) (recordPlace (i % 9)) 56 (bytes-part s (k * 512) 512 bytes)
 
 -- "gives the same bytes"
-pub record-rewritten : (s : List ℕ) (used : ℕ) → AreBytes s → verdict s used ≡ Accepted → (i : ℕ) → i < tradeCount s
+pub record-rewritten : (s : List ℕ) (used : ℕ) → AreBytes s → blocksVerdict s used ≡ Accepted → (i : ℕ) → i < tradeCount s
     → recordOfTrade (tradeOfRecord (recordAt s i)) ≡ recordAt s i
 record-rewritten s used bytes ok i l =
     let b = sound s used ok in

@@ -24,7 +24,7 @@ use Rattle.record.specs.Bytes.{fieldsOf}
 use Rattle.flows.specs.Verdict.{recordRules, recordVerdict}
 use Rattle.book.specs.Parts.{blockAt, curveCount, curvesOf, recordCount, recordIn, tradeCount, partsOf}
 use Rattle.book.specs.Rules.{breaksLength}
-use Rattle.book.specs.Verdict.{firstOf, bytesVerdict, headerRules, headerVerdict, recordsVerdict, tradesRules, tradesVerdict, blockVerdict, verdict}
+use Rattle.book.specs.Verdict.{firstOf, bytesVerdict, headerRules, headerVerdict, recordsVerdict, tradesRules, tradesVerdict, blockVerdict, blocksVerdict}
 use Rattle.acceptance.specs.declared.Today.{Today}
 use Rattle.acceptance.specs.declared.Today.the-variants.{Given}
 use Rattle.acceptance.specs.Verdict.{bookRules, bookVerdict}
@@ -98,8 +98,8 @@ at-block s n k =
     (cond-tested (leb k (curveCount s)) (curveVerdict (blockAt s k) k) _ (curve-tested (blockAt s k) k)
     (trades-tested (curvesOf s) (blockAt s k) k (eqb (k + 1) n)))
 
-verdict-tested : (s : List ℕ) (used : ℕ) → Tested (verdict s used)
-unfolding verdict
+verdict-tested : (s : List ℕ) (used : ℕ) → Tested (blocksVerdict s used)
+unfolding blocksVerdict
 verdict-tested s used = unless-tested (breaksLength used (length s)) Length 0 _ (λ e. omega arith) (first-tested (blockVerdict s (used / 512)) block-tested 0 (used / 512))
   where
     block-tested : (k : ℕ) → Tested (blockVerdict s (used / 512) k)
@@ -108,7 +108,7 @@ verdict-tested s used = unless-tested (breaksLength used (length s)) Length 0 _ 
 -- the whole-book check never answers 15
 book-tested : (s : List ℕ) (used : ℕ) (today : Today) → Tested (bookVerdict s used today)
 unfolding bookVerdict others
-book-tested s used today = orElse-tested (verdict s used) _ (verdict-tested s used) (rules-tested 0 (bookRules (partsOf s) today) refl)
+book-tested s used today = orElse-tested (blocksVerdict s used) _ (verdict-tested s used) (rules-tested 0 (bookRules (partsOf s) today) refl)
 
 -- ---- 15
 

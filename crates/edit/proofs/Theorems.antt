@@ -17,7 +17,7 @@ use Rattle.ground.specs.declared.Verdict.{Verdict}
 use Rattle.ground.specs.declared.Verdict.the-variants.{Accepted, Refused}
 use Rattle.ground.specs.declared.Written.the-variants as written
 use Rattle.book.specs.Parts.{Parts, curvesOf, curveBlocks, tradeCount, records, partsOf}
-use Rattle.book.specs.Verdict.{bytesVerdict, verdict}
+use Rattle.book.specs.Verdict.{bytesVerdict, blocksVerdict}
 use Rattle.book.specs.Encode.{bookOf}
 use Rattle.book.specs.Edited.{without, appendedParts, struckParts}
 use Rattle.book.proofs.Places.{length-records}
@@ -51,7 +51,7 @@ module _ (p : Parts) (rest : List ℕ) (fine : Encodable (p .header) (p .curves)
   abbrev size : ℕ
   size = length (bookOf p)
 
-  blocks-encoded : verdict book size ≡ Accepted
+  blocks-encoded : blocksVerdict book size ≡ Accepted
   blocks-encoded = encoded-accepted (p .header) (p .curves) (p .trades) fine rest good
 
   parts-of-book : partsOf book ≡ p
@@ -183,7 +183,7 @@ module _ (s : List ℕ) (used : ℕ) (bytes : AreBytes s) where
       unfolding appendedBook
       with-record rest = parts-of-book more rest more-fine more-good
 
-      pub with-record-accepted : (rest : List ℕ) → verdict (appendedBook s r ++ rest) (length (appendedBook s r)) ≡ Accepted
+      pub with-record-accepted : (rest : List ℕ) → blocksVerdict (appendedBook s r ++ rest) (length (appendedBook s r)) ≡ Accepted
       unfolding appendedBook
       with-record-accepted rest = blocks-encoded more rest more-fine more-good
 

@@ -17,7 +17,7 @@ ghost use Prim.Native.Nat.{_-_, _<_};
 ghost use lib.ListN.{length, drop, replicate};
 ghost use Rattle.ground.specs.declared.Verdict.the-variants.{Accepted};
 ghost use Rattle.book.specs.Parts.{tradeCount};
-ghost use Rattle.book.specs.Verdict.{verdict};
+ghost use Rattle.book.specs.Verdict.{blocksVerdict};
 ghost use Rattle.edit.specs.Refusals.{newRecordVerdict};
 ghost use Rattle.edit.specs.Edits.{found, appendedBook, appendAnswer, appended, struckBook, strikeAnswer, struck};
 
@@ -49,7 +49,7 @@ pub fn read(book: &[u8], used: usize, position: usize) -> Found
 
 // Adds a record behind the last of a book that takes it: in the last block, or in a new one if that is full or there is none.
 pub fn add(book: &mut [u8], used: usize, r: [u8; 56]) -> usize
-    requires { ⌜ (verdict (now book) used ≡ Accepted) × (newRecordVerdict (now book) used r ≡ Accepted) ⌝ }
+    requires { ⌜ (blocksVerdict (now book) used ≡ Accepted) × (newRecordVerdict (now book) used r ≡ Accepted) ⌝ }
     ensures { λ n. ⌜ n ≡ length (appendedBook (now (book .entry)) r) ⌝ }
     ensures { λ _. ⌜ now (book .exit) ≡ appendedBook (now (book .entry)) r ++ drop (length (appendedBook (now (book .entry)) r)) (now (book .entry)) ⌝ }
 {
@@ -76,7 +76,7 @@ pub fn append(book: &mut [u8], used: usize, day: u64, r: [u8; 56]) -> Written
 
 // Takes the record at a position out of a book that has it.
 fn remove(book: &mut [u8], used: usize, position: usize) -> usize
-    requires { ⌜ (verdict (now book) used ≡ Accepted) × (position < tradeCount (now book)) ⌝ }
+    requires { ⌜ (blocksVerdict (now book) used ≡ Accepted) × (position < tradeCount (now book)) ⌝ }
     ensures { λ n. ⌜ n ≡ length (struckBook (now (book .entry)) position) ⌝ }
     ensures { λ _. ⌜ now (book .exit) ≡ struckBook (now (book .entry)) position ++ replicate (used - length (struckBook (now (book .entry)) position)) 0 ++ drop used (now (book .entry)) ⌝ }
 {

@@ -10,7 +10,7 @@ ghost use Prim.Native.Nat.{_+_, _*_, _≤_};
 ghost use lib.ListN.{length};
 ghost use Rattle.ground.specs.declared.Verdict.the-variants.{Accepted};
 ghost use Rattle.book.specs.Parts.{curveCount, tradeBlocks};
-ghost use Rattle.book.specs.Verdict.{verdict};
+ghost use Rattle.book.specs.Verdict.{blocksVerdict};
 ghost use Rattle.edit.specs.Refusals.{breaksPosition, breaksBookSpace, positionVerdict, newRecordVerdict, appendVerdict};
 
 // Ground 14.
@@ -42,7 +42,7 @@ pub fn position_verdict(book: &[u8], used: usize, today: Today, position: usize)
 
 // A new record of an accepted book: 8 to 12, of the block that it would take, then 15.
 fn new_record_verdict(book: &[u8], used: usize, r: [u8; 56]) -> Verdict
-    requires { ⌜ verdict (now book) used ≡ Accepted ⌝ }
+    requires { ⌜ blocksVerdict (now book) used ≡ Accepted ⌝ }
     ensures { λ v. ⌜ v ≡ newRecordVerdict (now (book .entry)) used r ⌝ }
 {
     let trades = trade_count(book);

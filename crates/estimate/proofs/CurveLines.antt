@@ -8,7 +8,7 @@ use lib.ListN.{getD}
 use Rattle.curve.specs.declared.Node.{Node}
 use Rattle.curve.specs.declared.Curve.{Curve}
 use Rattle.curve.specs.Rates.{nodesOf, rateAt}
-use Rattle.curve.specs.Limits.{Proper, zeroNode}
+use Rattle.curve.specs.Limits.{ProperCurve, zeroNode}
 use Rattle.curve.proofs.Search.{Passed, before-all, passed-first, passed-interpolated, passed-next, passed-all}
 use Rattle.estimate.specs.Lines.{level, lineOf, Ahead}
 use Rattle.estimate.proofs.LineRates.{line-rate, line-drawn, level-rate, level-drawn}
@@ -17,7 +17,7 @@ use Rattle.estimate.proofs.Valuing.{Follows}
 abbrev pub node : Curve → ℕ → Node
 node c i = getD (c .nodes) i zeroNode
 
-module _ (c : Curve) (p : Proper c) where
+module _ (c : Curve) (p : ProperCurve c) where
   abbrev pub rates : ℕ → ℕ
   rates t = rateAt (nodesOf c) t
 

@@ -12,7 +12,7 @@ use Rattle.laws.proofs.Signed.{read, read-is}
 use Rattle.curve.specs.declared.Node.{Node}
 use Rattle.curve.specs.declared.Curve.{Curve}
 use Rattle.curve.specs.Rates.{nodesOf, rateAt}
-use Rattle.curve.specs.Limits.{Proper}
+use Rattle.curve.specs.Limits.{ProperCurve}
 use Rattle.netting.specs.Netting.{listed, netValue, cheapOn}
 use Rattle.estimate.specs.declared.lines.Line.{Line}
 use Rattle.estimate.specs.declared.parts.Part.{Part}
@@ -42,7 +42,7 @@ before-more a b days m n k h l = go (leb m n) refl
         let o = leb-false m n q in
         absurd (omega (arith, h .before n o, l .after n (omega arith) (omega (arith, h .most))))
 
-module _ (c : Curve) (proper : Proper c) (nets : List ℤ) (days ends : List ℕ) (s : Listed nets days) (e : Ends c days ends) where
+module _ (c : Curve) (proper : ProperCurve c) (nets : List ℤ) (days ends : List ℕ) (s : Listed nets days) (e : Ends c days ends) where
   -- a part goes on along a line that follows the curve on the days that come
   module _ (p : Part) (v : Valuing (rates c proper) nets days p) (l : Line) (end from until : ℕ) (f : Follows (rates c proper) l from until) (k : p .done ≤ end) (m : end ≤ length days) (within : (i : ℕ) → p .done ≤ i → i < end → (from ≤ getD days i 0) × (getD days i 0 < until)) where
     ready : Ready l end nets days p

@@ -8,7 +8,7 @@ use lib.ListN.{length, getD, set, length-set}
 use lib.Seq.{getD-set-same, getD-set-other}
 use Rattle.curve.specs.declared.Curve.{Curve}
 use Rattle.curve.specs.declared.Scenario.{Scenario}
-use Rattle.curve.specs.Limits.{Proper}
+use Rattle.curve.specs.Limits.{ProperCurve}
 use Rattle.curve.specs.Stress.{stressedCurve}
 use Rattle.curve.proofs.Stress.{stressed-node}
 use Rattle.estimate.specs.Values.{DaysBefore, Ends, Rising}
@@ -63,7 +63,7 @@ module _ (c : Curve) (days ends₀ : List ℕ) where
 
 -- ---- a scenario moves no node's day
 
-pub ends-stressed : (s : Scenario) (c : Curve) → Proper c → (days ends : List ℕ) → Ends c days ends → Ends (stressedCurve s c) days ends
+pub ends-stressed : (s : Scenario) (c : Curve) → ProperCurve c → (days ends : List ℕ) → Ends c days ends → Ends (stressedCurve s c) days ends
 unfolding stressedCurve
 ends-stressed s c p days ends e =
     record { places = e .places; each = λ k l. rw (stressed-node s c p k l) (e .each k l) }

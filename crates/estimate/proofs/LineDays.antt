@@ -8,8 +8,8 @@ use lib.IntN.{ℤ, natAbs, _+ℤ_, +ℤ-assoc, +ℤ-idr}
 use lib.ListN.{drop, getD}
 use lib.Seq.{drop-cons}
 use Rattle.laws.proofs.Signed.{abs-add}
-use Rattle.sieve.specs.Cheap.{whole}
-use Rattle.sieve.proofs.Bound.{cheap-le}
+use Rattle.cheap.specs.Cheap.{whole}
+use Rattle.cheap.proofs.Bound.{cheap-le}
 use Rattle.netting.specs.Netting.{netOn, worth, netValue, netSize, cheapOn}
 use Rattle.netting.proofs.Sizes.{worth-size}
 use Rattle.estimate.specs.declared.lines.Line.{Line}

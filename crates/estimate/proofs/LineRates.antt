@@ -11,14 +11,14 @@ use Rattle.laws.proofs.Powers.{sub-mul}
 use Rattle.laws.proofs.Signed.{abs-sub, abs-neg, abs-mul-le, sub-up, mul-neg}
 use Rattle.curve.specs.declared.Node.{Node}
 use Rattle.curve.specs.Limits.{highestRate}
-use Rattle.curve.specs.Rates.{interpolated, Between}
+use Rattle.curve.specs.Rates.{interpolated, BetweenNodes}
 use Rattle.curve.proofs.Line.{part-le, line-up, line-down}
 use Rattle.curve.proofs.Interpolation.{interpolated-line, interpolated-size}
-use Rattle.estimate.specs.Lines.{parts, slopeOf, level, lineFrom, rising, falling, lineOf, standsAt, rateOn, Ahead, Drawn, steepest}
+use Rattle.estimate.specs.Lines.{lineScale, slopeOf, level, lineFrom, rising, falling, lineOf, standsAt, rateOn, Ahead, Drawn, steepest}
 use Rattle.estimate.proofs.Slopes.{slope-exact, slope-size}
 
-parts-some : 0 < parts
-unfolding parts
+parts-some : 0 < lineScale
+unfolding lineScale
 parts-some = omega arith
 
 -- ---- where a line stands, from a node's rate r in parts
@@ -42,28 +42,28 @@ module _ (r n x : ℕ) (some : 0 < n) (less : x / n ≤ r) where
 
 -- ---- from node a to node b
 
-module _ (a b : Node) (t : ℕ) (h : Ahead a b) (m : Between a b t) where
+module _ (a b : Node) (t : ℕ) (h : Ahead a b) (m : BetweenNodes a b t) where
   abbrev gone : ℕ
   gone = t - a .day
 
   abbrev run : ℕ
   run = b .day - a .day
 
-  room : (gone + 1) * run ≤ parts
-  unfolding parts
+  room : (gone + 1) * run ≤ lineScale
+  unfolding lineScale
   room = le-trans (mul-le-mul {n₂ = 10950} {m₂ = 10950} (omega arith) (omega arith)) (omega arith)
 
   -- the way gone, as document 01 cuts it
-  way-is : (way : ℕ) → slopeOf way run * gone / parts ≡ way * gone / run
+  way-is : (way : ℕ) → slopeOf way run * gone / lineScale ≡ way * gone / run
   unfolding slopeOf
-  way-is way = slope-exact parts way gone run (omega arith) room
+  way-is way = slope-exact lineScale way gone run (omega arith) room
 
   days-split : (s : ℕ) → s * t ≡ s * a .day + s * gone
   days-split s = omega (arith, mul-sub s t (a .day), mul-le-mul-right s (m .from))
 
   -- where it stands on day 0 is in bounds
-  start-size : (above : ℕ) (slope : ℤ) → above ≤ parts → natAbs slope ≤ steepest → natAbs (lineFrom a above slope .start) ≤ 2000000000000000000
-  unfolding parts
+  start-size : (above : ℕ) (slope : ℤ) → above ≤ lineScale → natAbs slope ≤ steepest → natAbs (lineFrom a above slope .start) ≤ 2000000000000000000
+  unfolding lineScale
   start-size above slope k l =
       omega (arith, abs-sub (pos (a .rate * 134217728 + above)) (slope *ℤ pos (a .day)), abs-mul-le slope (pos (a .day)) {m = 140000000000000} {n = 10950} l (h .from .day), h .from .rate)
 
@@ -72,11 +72,11 @@ module _ (a b : Node) (t : ℕ) (h : Ahead a b) (m : Between a b t) where
     abbrev climb : ℕ
     climb = slopeOf (b .rate - a .rate) run
 
-    rising-stands : standsAt (rising a b) t ≡ pos (a .rate * parts + climb * gone)
+    rising-stands : standsAt (rising a b) t ≡ pos (a .rate * lineScale + climb * gone)
     unfolding rising
     rising-stands =
         let e = days-split climb in
-        risen (a .rate * parts + 0) (climb * a .day) (climb * t) (omega arith) ∙ ap pos (omega arith)
+        risen (a .rate * lineScale + 0) (climb * a .day) (climb * t) (omega arith) ∙ ap pos (omega arith)
 
     rising-rate : rateOn (rising a b) t ≡ natAbs (interpolated a b t)
     unfolding rateOn
@@ -101,21 +101,21 @@ module _ (a b : Node) (t : ℕ) (h : Ahead a b) (m : Between a b t) where
     abbrev drop : ℕ
     drop = slopeOf (a .rate - b .rate) run
 
-    drop-less : drop * gone / parts ≤ a .rate
+    drop-less : drop * gone / lineScale ≤ a .rate
     drop-less = rw (way-is (a .rate - b .rate)) (omega (arith, part-le (a .rate - b .rate) gone run (omega arith)))
 
-    falling-stands : standsAt (falling a b) t ≡ pos (a .rate * parts + (parts - 1) - drop * gone)
+    falling-stands : standsAt (falling a b) t ≡ pos (a .rate * lineScale + (lineScale - 1) - drop * gone)
     unfolding falling
     falling-stands =
         let e = days-split drop in
-        let f = fall-le (a .rate) parts (drop * gone) parts-some drop-less in
-        rw (mul-neg drop (a .day), mul-neg drop t, negℤ-negℤ (pos (drop * a .day)), pos-+ℤ-pos (a .rate * parts + (parts - 1)) (drop * a .day))
-        (sub-up (a .rate * parts + (parts - 1) + drop * a .day) (drop * t) (omega arith) ∙ ap pos (omega arith))
+        let f = fall-le (a .rate) lineScale (drop * gone) parts-some drop-less in
+        rw (mul-neg drop (a .day), mul-neg drop t, negℤ-negℤ (pos (drop * a .day)), pos-+ℤ-pos (a .rate * lineScale + (lineScale - 1)) (drop * a .day))
+        (sub-up (a .rate * lineScale + (lineScale - 1) + drop * a .day) (drop * t) (omega arith) ∙ ap pos (omega arith))
 
     falling-rate : rateOn (falling a b) t ≡ natAbs (interpolated a b t)
     unfolding rateOn
     falling-rate =
-        rw (falling-stands, fallen (a .rate) parts (drop * gone) parts-some drop-less, way-is (a .rate - b .rate), interpolated-line a b t m)
+        rw (falling-stands, fallen (a .rate) lineScale (drop * gone) parts-some drop-less, way-is (a .rate - b .rate), interpolated-line a b t m)
         (sym (line-down (a .rate) (b .rate) gone run l))
 
     falling-drawn : Drawn (falling a b) t
@@ -124,7 +124,7 @@ module _ (a b : Node) (t : ℕ) (h : Ahead a b) (m : Between a b t) where
         let s : natAbs (negℤ (pos drop)) ≤ steepest = rw (abs-neg (pos drop)) (slope-size (a .rate - b .rate) run (omega (arith, h .from .rate))) in
         record {
           day = omega arith;
-          start = start-size (parts - 1) (negℤ (pos drop)) (omega arith) s;
+          start = start-size (lineScale - 1) (negℤ (pos drop)) (omega arith) s;
           slope = s;
           above = rw falling-stands refl;
           rate = rw falling-rate (interpolated-size a b t (h .from, h .to, m));
@@ -149,15 +149,15 @@ module _ (a b : Node) (t : ℕ) (h : Ahead a b) (m : Between a b t) where
 -- ---- a level line
 
 module _ (rate t : ℕ) where
-  level-stands : standsAt (level rate) t ≡ pos (rate * parts)
+  level-stands : standsAt (level rate) t ≡ pos (rate * lineScale)
   unfolding level
   level-stands = ap pos (omega (arith, zero-mul t))
 
   pub level-rate : rateOn (level rate) t ≡ rate
   unfolding rateOn
-  level-rate = rw level-stands (div-eq-of-lt-le parts (omega arith) (omega (arith, parts-some)))
+  level-rate = rw level-stands (div-eq-of-lt-le lineScale (omega arith) (omega (arith, parts-some)))
 
   pub level-drawn : rate ≤ highestRate → t ≤ 10950 → Drawn (level rate) t
-  unfolding level parts
+  unfolding level lineScale
   level-drawn h k =
       record { day = k; start = omega arith; slope = omega arith; above = rw level-stands refl; rate = rw level-rate h }

@@ -4,7 +4,7 @@ use Prim.Native.Nat.{ℕ, _+_, _*_, _/_, _≤_, _<_}
 use native.Mathlib.Nat.{mul-le-mul-right, le-of-mul-le-mul-right, div-mul-le-self, lt-div-mul-add, div-le-self, div-eq-of-lt-le}
 use native.Mathlib.Omega.{arith}
 use Rattle.curve.specs.Limits.{highestRate}
-use Rattle.estimate.specs.Lines.{parts, slopeOf, steepest}
+use Rattle.estimate.specs.Lines.{lineScale, slopeOf, steepest}
 
 -- ---- rounded up and in parts of n, the slope is exact for g days of a run of days, where n is at least (g + 1) * run
 
@@ -30,5 +30,5 @@ slope-exact n way g run some room =
 -- ---- the size of a slope
 
 pub slope-size : (way run : ℕ) → way ≤ highestRate → slopeOf way run ≤ steepest
-unfolding slopeOf parts
+unfolding slopeOf lineScale
 slope-size way run k = omega (arith, div-le-self (way * 134217728) run)

@@ -7,8 +7,8 @@ use lib.IntN.{ℤ, pos, natAbs, _+ℤ_, +ℤ-assoc, +ℤ-idl, +ℤ-idr}
 use lib.ListN.{length, take, drop, getD, drop-of-length-le}
 use lib.Seq.{getD-drop, drop-drop}
 use Rattle.laws.proofs.Signed.{abs-add}
-use Rattle.sieve.specs.Cheap.{whole}
-use Rattle.sieve.proofs.Bound.{cheap-le}
+use Rattle.cheap.specs.Cheap.{whole}
+use Rattle.cheap.proofs.Bound.{cheap-le}
 use Rattle.netting.specs.Netting.{netOn, worth, netValue, netSize, cheapOn}
 use Rattle.netting.proofs.Sizes.{net-value-size}
 use Rattle.estimate.specs.declared.lines.Line.{Line}

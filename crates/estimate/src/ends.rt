@@ -1,7 +1,7 @@
 // Where in the list of days the days of a curve's lines end.
 ghost use Prim.Native.Nat.{_≤_};
 ghost use lib.ListN.{length};
-ghost use Rattle.curve.specs.Limits.{Proper};
+ghost use Rattle.curve.specs.Limits.{ProperCurve};
 ghost use Rattle.estimate.specs.Values.{DaysBefore, Ends, Rising};
 use curve::Curve;
 
@@ -23,7 +23,7 @@ fn days_before(days: &[u16], day: u64) -> usize
 
 // How many come before each node's.
 pub fn fill_ends(curve: Curve, days: &[u16], ends: &mut [usize])
-    requires { ⌜ Proper curve × Rising (now days) × (curve .count ≤ length (now ends)) ⌝ }
+    requires { ⌜ ProperCurve curve × Rising (now days) × (curve .count ≤ length (now ends)) ⌝ }
     ensures { λ _. ⌜ Ends curve (now (days .entry)) (now (ends .exit)) ⌝ }
 {
     let n = curve.count;

@@ -2,8 +2,8 @@
 ghost use mathlib.Core.Path.{_≡_};
 ghost use Prim.Native.Nat.{_≤_, _<_};
 ghost use lib.IntN.{natAbs};
-ghost use Rattle.curve.specs.Limits.{Limits};
-ghost use Rattle.estimate.specs.Lines.{parts, slopeOf, level, lineFrom, lineOf, rateOn, Drawn, Ahead, steepest};
+ghost use Rattle.curve.specs.Limits.{NodeLimits};
+ghost use Rattle.estimate.specs.Lines.{lineScale, slopeOf, level, lineFrom, lineOf, rateOn, Drawn, Ahead, steepest};
 use curve::Node;
 
 // A rate in the parts that a line counts in: 2^27.
@@ -36,7 +36,7 @@ pub fn level(rate: u64) -> Line
 
 // By its slope, as many parts above node a's rate on node a's day.
 fn line_from(a: Node, above: u64, slope: i64) -> Line
-    requires { ⌜ Limits a × (above ≤ parts) × (natAbs slope ≤ steepest) ⌝ }
+    requires { ⌜ NodeLimits a × (above ≤ lineScale) × (natAbs slope ≤ steepest) ⌝ }
     ensures { λ r. ⌜ r ≡ lineFrom a above slope ⌝ }
 {
     Line {

@@ -8,9 +8,9 @@ ghost use Rattle.estimate.specs.Lines.{lineOf, rateOn, Ahead, Drawn};
 ghost use Rattle.estimate.specs.Values.{alongTo, mostSize, Ready};
 use super::lines::Line;
 use super::lines::line_of;
+use cheap::factor::factor;
 use curve::Node;
 use netting::value::worth;
-use sieve::cheap::factor;
 
 // A first part of the listed days: how many they are, and what their net amounts are worth.
 pub struct Part {

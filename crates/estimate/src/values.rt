@@ -3,7 +3,7 @@ ghost use mathlib.Core.Path.{_≡_};
 ghost use mathlib.Core.List.{map};
 ghost use Prim.Native.Nat.{_≤_};
 ghost use lib.ListN.{length};
-ghost use Rattle.curve.specs.Limits.{Proper, ProperComponents, ScenarioLimits};
+ghost use Rattle.curve.specs.Limits.{ProperCurve, ProperComponents, ScenarioLimits};
 ghost use Rattle.curve.specs.Rates.{nodesOf};
 ghost use Rattle.curve.specs.Scenarios.{scenarioCount};
 ghost use Rattle.curve.specs.Stress.{stressed};
@@ -18,7 +18,7 @@ use curve::Scenario;
 
 // At the rates of a curve: along a level line to its first node, a line from each node to the next, and a level one from the last.
 fn value_on(curve: Curve, ends: &[usize], days: &[u16], nets: &[i64], tables: &[u64]) -> i64
-    requires { ⌜ Proper curve × Ends curve (now days) (now ends) × Listed (now nets) (now days) × Tables (now tables) ⌝ }
+    requires { ⌜ ProperCurve curve × Ends curve (now days) (now ends) × Listed (now nets) (now days) × Tables (now tables) ⌝ }
     ensures { λ r. ⌜ r ≡ cheapValue (nodesOf curve) (now (nets .entry)) ⌝ }
 {
     let mut p = Part { done: 0, value: 0 };
@@ -45,7 +45,7 @@ pub fn value_in(
     nets: &[i64],
     tables: &[u64],
 ) -> i64
-    requires { ⌜ Proper curve × ScenarioLimits scenario × Ends curve (now days) (now ends) × Listed (now nets) (now days) × Tables (now tables) ⌝ }
+    requires { ⌜ ProperCurve curve × ScenarioLimits scenario × Ends curve (now days) (now ends) × Listed (now nets) (now days) × Tables (now tables) ⌝ }
     ensures { λ r. ⌜ r ≡ cheapValue (map (stressed scenario) (nodesOf curve)) (now (nets .entry)) ⌝ }
 {
     value_on(curve.stressed(scenario), ends, days, nets, tables)
@@ -60,7 +60,7 @@ pub fn fill_values(
     tables: &[u64],
     values: &mut [i64],
 )
-    requires { ⌜ Proper curve × ProperComponents components × Listed (now nets) (now days) × Tables (now tables) × (scenarioCount components ≤ length (now values)) ⌝ }
+    requires { ⌜ ProperCurve curve × ProperComponents components × Listed (now nets) (now days) × Tables (now tables) × (scenarioCount components ≤ length (now values)) ⌝ }
     ensures kept { λ _. ⌜ length (now (values .exit)) ≡ length (now (values .entry)) ⌝ }
     ensures each { λ _. ⌜ ScenarioValues curve components (now (nets .entry)) (now (values .exit)) ⌝ }
 {

@@ -1,4 +1,4 @@
--- What an account has on its curves is settled by the parts of its book: bytes behind the book have no part in it.
+-- What an account has on its curves is determined by the parts of its book: bytes behind the book have no part in it.
 use mathlib.Core.Path.{_≡_, sym, ap, _∙_}
 use mathlib.Core.List.{List, [], flatMap}
 use Prim.Native.Nat.{ℕ, _+_, _<_}

@@ -2,8 +2,8 @@
 // prices and coupons in millionths.
 ghost use Prim.Native.Nat.{_<_};
 
-// A flow: an amount, the rate that it is discounted at, and its day.
-pub struct Flow(pub u64, pub u64, pub u64);
+// A payment: an amount, the rate that it is discounted at, and its day.
+pub struct Payment(pub u64, pub u64, pub u64);
 
 // What a figure is, and its inputs.
 pub enum Work {
@@ -16,7 +16,7 @@ pub enum Work {
     // A present value: amount, rate, days.
     Present(u64, u64, u64),
     // A variation margin: what is received, and what is paid.
-    Variation(Flow, Flow),
+    Variation(Payment, Payment),
     // Of a repo: cash, rate, term.
     Interest(u64, u64, u64),
     Withholding(u64, u64, u64),
@@ -60,8 +60,8 @@ const STRIPPED: [Figure; 7] = [
     Figure(
         661,
         Work::Variation(
-            Flow(788_754_300, 132_000, 2),
-            Flow(1_000_000_000, 115_000, 800),
+            Payment(788_754_300, 132_000, 2),
+            Payment(1_000_000_000, 115_000, 800),
         ),
         4_769,
     ),
@@ -77,8 +77,8 @@ const PRIVATE: [Figure; 11] = [
     Figure(
         737,
         Work::Variation(
-            Flow(1_000_000_000, 153_600, 100),
-            Flow(961_908_426, 132_500, 1),
+            Payment(1_000_000_000, 153_600, 100),
+            Payment(961_908_426, 132_500, 1),
         ),
         285,
     ),
@@ -109,8 +109,8 @@ const POOL: [Figure; 10] = [
     Figure(
         885,
         Work::Variation(
-            Flow(1_000_000_000, 132_000, 0),
-            Flow(1_000_308_562, 132_000, 1),
+            Payment(1_000_000_000, 132_000, 0),
+            Payment(1_000_308_562, 132_000, 1),
         ),
         312,
     ),
@@ -130,8 +130,8 @@ const SPECIFIED: [Figure; 9] = [
     Figure(
         1063,
         Work::Variation(
-            Flow(1_000_000_000, 132_000, 1),
-            Flow(1_000_307_400, 131_500, 2),
+            Payment(1_000_000_000, 132_000, 1),
+            Payment(1_000_307_400, 131_500, 2),
         ),
         299,
     ),
@@ -140,8 +140,8 @@ const SPECIFIED: [Figure; 9] = [
     Figure(
         1125,
         Work::Variation(
-            Flow(1_000_307_400, 132_000, 1),
-            Flow(1_092_900_000, 125_700, 274),
+            Payment(1_000_307_400, 132_000, 1),
+            Payment(1_092_900_000, 125_700, 274),
         ),
         178,
     ),

@@ -17,7 +17,7 @@ use Rattle.logarithm.proofs.Steps.{step-le, step-most, step-least}
 use Rattle.logarithm.proofs.Rows.{fine-pos, log-sum-le, exponent-le}
 use Rattle.logarithm.proofs.Logarithms.{at-least, log-row}
 use Rattle.logarithm.proofs.Closeness.{enough, years-high, near-most, near-least}
-use Rattle.fine.specs.Fine.{logAt, fineFactor, spread, lost, below, above, bracketOf, bracketAt, Between}
+use Rattle.fine.specs.Fine.{logAt, fineFactor, spread, lost, below, above, bracketOf, bracketAt, InBracket}
 use Rattle.fine.proofs.Antilogs.{antilog-low, antilog-high}
 
 -- ---- the logarithm of a rate: each row loses 32 units at most, and so does the last step
@@ -133,7 +133,7 @@ above-enough : (r days c : ℕ) → 13 + 4398046511104 * lost r days c / 1000000
 unfolding above
 above-enough r days c = omega arith
 
-pub fine-between : (r days : ℕ) → r ≤ 1000000 → days ≤ 10950 → Between (bracketAt r days) r days
+pub fine-between : (r days : ℕ) → r ≤ 1000000 → days ≤ 10950 → InBracket (bracketAt r days) r days
 unfolding bracketAt bracketOf
 fine-between r days l k =
     let c : ℕ = fineFactor r days in

@@ -2,4 +2,4 @@ pub mod Products
 pub mod LowPowers
 pub mod Antilogs
 pub mod Bound
-pub mod Settling
+pub mod FineValues

@@ -28,7 +28,7 @@ fineFactor rate days = antilog (logAt rate * days / 365)
 -- ---- where document 01's factor lies
 
 -- between two numbers in parts of fineWhole
-pub record Between (b : Bracket) (rate days : ℕ) : Type 0 where
+pub record InBracket (b : Bracket) (rate days : ℕ) : Type 0 where
   pub least : b .low * unit ≤ factor rate days * fineWhole
   pub most : factor rate days * fineWhole ≤ b .high * unit
 

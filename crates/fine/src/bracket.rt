@@ -3,7 +3,7 @@ ghost use mathlib.Core.Path.{_≡_};
 ghost use Prim.Native.Nat.{_+_, _-_, _*_, _/_, _≤_};
 ghost use Rattle.ground.specs.Limits.{lastDay};
 ghost use Rattle.logarithm.specs.Logarithms.{fineWhole, Tables};
-ghost use Rattle.fine.specs.Fine.{lost, bracketOf, bracketAt, Between, BracketLimits};
+ghost use Rattle.fine.specs.Fine.{lost, bracketOf, bracketAt, InBracket, BracketLimits};
 use super::factor::factor;
 
 // In parts of 2^42.
@@ -54,7 +54,7 @@ pub fn bracket_at(tables: &[u64], rate: u64, day: u64) -> Bracket
     requires { ⌜ Tables (now tables) × (rate ≤ 1_000_000) × (day ≤ lastDay) ⌝ }
     ensures same { λ r. ⌜ r ≡ bracketAt rate day ⌝ }
     ensures limits { λ r. ⌜ BracketLimits r ⌝ }
-    ensures between { λ r. ⌜ Between r rate day ⌝ }
+    ensures between { λ r. ⌜ InBracket r rate day ⌝ }
 {
     bracket_of(rate, day, factor(tables, rate, day))
 }

@@ -58,23 +58,23 @@ module _ {curves : Curves} (f : Fields) (r : SoundRecord curves f) where
   bought : f .form .kind ≡ 1 → OutrightLimits (outrightOf f)
   bought e = record {
     sides = record { low = r .form .sides .low; high = r .form .sides .high };
-    reach = r .days .bought (rw e);
+    valueday1 = r .days .bought (rw e);
     price = r .amounts .bought (rw e) .1 .1 .1;
     accrued = r .amounts .accrued;
     security = security;
   }
 
   -- value day 1 is before value day 2, or unused and 0
-  day1 : isOutright (f .form .kind) ≡ false → (settled : Bool) → hasSettled (f .form .kind) (f .form .phase) ≡ settled → f .days .day1 ≤ lastDay
-  day1 o true e = omega (arith, r .amounts .settled e)
-  day1 o false e = omega (arith, r .days .ahead o e, r .days .lent o .1)
+  valueday1 : isOutright (f .form .kind) ≡ false → (settled : Bool) → hasSettled (f .form .kind) (f .form .phase) ≡ settled → f .days .valueday1 ≤ lastDay
+  valueday1 o true e = omega (arith, r .amounts .settled e)
+  valueday1 o false e = omega (arith, r .days .ahead o e, r .days .lent o .1)
 
   lent : isOutright (f .form .kind) ≡ false → f .form .phase ≤ 3 → RepoLimits (repoOf f)
   lent o phases = record {
     sides = record { low = r .form .sides .low; high = r .form .sides .high };
     phases = phases;
-    reach1 = day1 o (hasSettled (f .form .kind) (f .form .phase)) refl;
-    reach2 = r .days .lent o .1;
+    valueday1 = valueday1 o (hasSettled (f .form .kind) (f .form .phase)) refl;
+    valueday2 = r .days .lent o .1;
     cash = r .amounts .cash;
     rate = r .amounts .lent o .1;
     term = r .days .lent o .0;

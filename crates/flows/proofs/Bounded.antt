@@ -33,7 +33,7 @@ use Rattle.flows.specs.Window.{inWindow}
 use Rattle.legs.specs.Runs.{oneFlow, signedLeg, flowOf, legFlows}
 use Rattle.flows.specs.Legs.{paymentsOf, outrightLegs, repoLegs, legsOf, paymentFlows, flowsOf, anyAbove, breaksFlowLimit}
 use Rattle.legs.specs.Limits.{LegLimits}
-use Rattle.flows.specs.Limits.{Valued}
+use Rattle.flows.specs.Limits.{SoundTrade}
 use Rattle.flows.specs.Verdict.{recordRules, recordVerdict}
 use Rattle.flows.proofs.Accepted.{SoundRecord, sound-record, payments-told, trade-limits, by-kind}
 use Rattle.legs.proofs.Numbered.{length-leg}
@@ -48,7 +48,7 @@ pub record AcceptedRecord (curves : Curves) (f : Fields) : Type 0 where
   pub days : breaksDays (f .form) (f .days) ≡ false
   pub amounts : breaksAmounts (f .form) (f .days) (f .amounts) ≡ false
   pub currency : breaksCurrency curves (f .form) ≡ false
-  pub valued : Valued (tradeOf f)
+  pub trade : SoundTrade (tradeOf f)
 
 pub accepted : (curves : Curves) (f : Fields) (block : ℕ) → recordVerdict curves f block ≡ Accepted → AcceptedRecord curves f
 unfolding recordVerdict
@@ -61,7 +61,7 @@ accepted curves f block h =
       days = kept 1;
       amounts = kept 2;
       currency = kept 3;
-      valued = record { limits = trade-limits f all; within = kept 4 };
+      trade = record { limits = trade-limits f all; within = kept 4 };
     }
 
 -- ---- amounts
@@ -142,7 +142,7 @@ unfolding breaksFlowLimit flowsOf
 flows-bounded {curves} f a =
     let t = tradeOf f in
     let l = legsOf t in
-    let reach = trade-reach t (a .valued .limits) in
+    let reach = trade-reach t (a .trade .limits) in
     let held = legs-held f (a .sound) (a .sound .form .kinds) in
     let P = Placed (curves .count) in
     let placed = all-append P (legFlows (l .first) ++ legFlows (l .second)) (paymentFlows t)
@@ -150,7 +150,7 @@ flows-bounded {curves} f a =
     (leg-placed (curves .count) (l .first) (reach .first) (held .first))
     (leg-placed (curves .count) (l .second) (reach .second) (held .second)))
     (select-each (λ (x : Flow). inWindow t (x .day)) P (legFlows (l .payments)) (leg-placed (curves .count) (l .payments) (reach .payments) (held .payments))) in
-    all-both Small P (FlowBounds (curves .count)) (λ x small at. record { amount = small; day = at .day; curve = at .curve }) (flowsOf t) (all-below (flowsOf t) (a .valued .within)) placed
+    all-both Small P (FlowBounds (curves .count)) (λ x small at. record { amount = small; day = at .day; curve = at .curve }) (flowsOf t) (all-below (flowsOf t) (a .trade .within)) placed
 
 -- ---- how many there are
 
@@ -174,4 +174,4 @@ flows-few f a =
     let l = legsOf t in
     let cash = cash-few t in
     omega
-    (arith, length-append (legFlows (l .first) ++ legFlows (l .second)) (paymentFlows t), length-append (legFlows (l .first)) (legFlows (l .second)), length-leg (l .first), length-leg (l .second), length-leg (l .payments), select-few (λ (x : Flow). inWindow t (x .day)) (legFlows (l .payments)), trade-reach t (a .valued .limits) .payments .few)
+    (arith, length-append (legFlows (l .first) ++ legFlows (l .second)) (paymentFlows t), length-append (legFlows (l .first)) (legFlows (l .second)), length-leg (l .first), length-leg (l .second), length-leg (l .payments), select-few (λ (x : Flow). inWindow t (x .day)) (legFlows (l .payments)), trade-reach t (a .trade .limits) .payments .few)

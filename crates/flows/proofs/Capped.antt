@@ -74,6 +74,6 @@ up-to-capped day l = go (ltb day (l .first))
     go true = sym capped-none
     go false = rw (last (eqb (paidBy day l) (l .count)))
 
-pub counted-capped : (settled : Bool) (day1 day2 : ℕ) (l : Leg) → countedLeg settled day1 day2 (cappedLeg l) ≡ cappedLeg (countedLeg settled day1 day2 l)
-counted-capped true day1 day2 l = after-capped day2 l
-counted-capped false day1 day2 l = ap (legUpTo day2) (after-capped day1 l) ∙ up-to-capped day2 (legAfter day1 l)
+pub counted-capped : (settled : Bool) (valueday1 valueday2 : ℕ) (l : Leg) → countedLeg settled valueday1 valueday2 (cappedLeg l) ≡ cappedLeg (countedLeg settled valueday1 valueday2 l)
+counted-capped true valueday1 valueday2 l = after-capped valueday2 l
+counted-capped false valueday1 valueday2 l = ap (legUpTo valueday2) (after-capped valueday1 l) ∙ up-to-capped valueday2 (legAfter valueday1 l)

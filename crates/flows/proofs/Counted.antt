@@ -25,12 +25,12 @@ use Rattle.legs.proofs.Counted.{after-flows, up-to-flows, after-none, up-to-non
 
 -- ---- a trade's legs with the payments that count have its flows
 
-counted-flows : (settled : Bool) (t : RepoTrade) (l : Leg) → legFlows (countedLeg settled (t .day1) (t .day2) l) ≡ select (λ (f : Flow). inRepoWindow settled t (f .day)) (legFlows l)
-counted-flows true t l = after-flows (t .day2) l
+counted-flows : (settled : Bool) (t : RepoTrade) (l : Leg) → legFlows (countedLeg settled (t .valueday1) (t .valueday2) l) ≡ select (λ (f : Flow). inRepoWindow settled t (f .day)) (legFlows l)
+counted-flows true t l = after-flows (t .valueday2) l
 counted-flows false t l =
-    up-to-flows (t .day2) (legAfter (t .day1) l)
-    ∙ ap (select (λ (f : Flow). leb (f .day) (t .day2))) (after-flows (t .day1) l)
-    ∙ select-both (λ (f : Flow). ltb (t .day1) (f .day)) (λ (f : Flow). leb (f .day) (t .day2)) (legFlows l)
+    up-to-flows (t .valueday2) (legAfter (t .valueday1) l)
+    ∙ ap (select (λ (f : Flow). leb (f .day) (t .valueday2))) (after-flows (t .valueday1) l)
+    ∙ select-both (λ (f : Flow). ltb (t .valueday1) (f .day)) (λ (f : Flow). leb (f .day) (t .valueday2)) (legFlows l)
 
 pub flows-counted : (t : Trade) → legsFlows (countedLegs t) ≡ flowsOf t
 unfolding legsFlows flowsOf
@@ -52,8 +52,8 @@ first-day (Single p) day h = h
 first-day (Coupons b) day h = h
 first-day (Indexed i) day h = h
 
-pub all-behind : (sign : ℤ) (s : Security) (day1 day2 : ℕ) → day2 < firstPaymentOf s → countedLeg false day1 day2 (signedLeg sign (paymentsOf s)) ≡ noLeg
+pub all-behind : (sign : ℤ) (s : Security) (valueday1 valueday2 : ℕ) → valueday2 < firstPaymentOf s → countedLeg false valueday1 valueday2 (signedLeg sign (paymentsOf s)) ≡ noLeg
 unfolding signedLeg
-all-behind (pos zero) s day1 day2 h = ap (legUpTo day2) (after-none day1) ∙ up-to-none day2
-all-behind (pos (suc n)) s day1 day2 h = none-in-term day1 day2 (directed true (paymentsOf s)) (first-day s day2 h)
-all-behind (negsuc n) s day1 day2 h = none-in-term day1 day2 (directed false (paymentsOf s)) (first-day s day2 h)
+all-behind (pos zero) s valueday1 valueday2 h = ap (legUpTo valueday2) (after-none valueday1) ∙ up-to-none valueday2
+all-behind (pos (suc n)) s valueday1 valueday2 h = none-in-term valueday1 valueday2 (directed true (paymentsOf s)) (first-day s valueday2 h)
+all-behind (negsuc n) s valueday1 valueday2 h = none-in-term valueday1 valueday2 (directed false (paymentsOf s)) (first-day s valueday2 h)

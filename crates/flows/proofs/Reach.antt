@@ -26,25 +26,25 @@ payments (Indexed i) l = record { few = l .bond .few; reach = l .bond .reach }
 pub trade-reach : (t : Trade) → TradeLimits t → LegsLimits (legsOf t)
 unfolding outrightLegs repoLegs
 trade-reach (Outright t) h = record {
-  first = signed-reach _ _ (one-reach _ _ _ (h .reach));
+  first = signed-reach _ _ (one-reach _ _ _ (h .valueday1));
   second = none-reach;
   payments = signed-reach _ _ (payments (t .security) (h .security));
 }
 trade-reach (Pool t) h = record {
-  first = signed-reach _ _ (one-reach _ _ _ (h .reach1));
-  second = signed-reach _ _ (one-reach _ _ _ (h .reach2));
+  first = signed-reach _ _ (one-reach _ _ _ (h .valueday1));
+  second = signed-reach _ _ (one-reach _ _ _ (h .valueday2));
   payments = signed-reach _ _ (payments (t .security) (h .security));
 }
 trade-reach (Specified t) h = record {
-  first = signed-reach _ _ (one-reach _ _ _ (h .reach1));
-  second = signed-reach _ _ (one-reach _ _ _ (h .reach2));
+  first = signed-reach _ _ (one-reach _ _ _ (h .valueday1));
+  second = signed-reach _ _ (one-reach _ _ _ (h .valueday2));
   payments = signed-reach _ _ (payments (t .security) (h .security));
 }
 
 -- ---- with the payments that count
 
 repo-reach : (settled : Bool) (t : RepoTrade) (l : Legs) → LegsLimits l → LegsLimits (countedRepo settled t l)
-repo-reach settled t l h = record { first = h .first; second = h .second; payments = counted-reach settled (t .day1) (t .day2) (l .payments) (h .payments) }
+repo-reach settled t l h = record { first = h .first; second = h .second; payments = counted-reach settled (t .valueday1) (t .valueday2) (l .payments) (h .payments) }
 
 pub counted-legs-reach : (t : Trade) → TradeLimits t → LegsLimits (countedLegs t)
 counted-legs-reach (Outright t) h = trade-reach (Outright t) h

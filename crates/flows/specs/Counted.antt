@@ -13,7 +13,7 @@ abbrev pub countedRepo : Bool → RepoTrade → Legs → Legs
 countedRepo settled t l = record {
   first = l .first;
   second = l .second;
-  payments = countedLeg settled (t .day1) (t .day2) (l .payments);
+  payments = countedLeg settled (t .valueday1) (t .valueday2) (l .payments);
 }
 
 abbrev pub countedLegs : Trade → Legs

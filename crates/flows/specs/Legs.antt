@@ -62,7 +62,7 @@ nominalOf (Indexed i) = i .bond .nominal
 -- the settlement cash on value day 1, and the payments
 unfoldable pub outrightLegs : Signs → OutrightTrade → Legs
 outrightLegs s t = record {
-  first = signedLeg (s .first) (oneFlow (t .cashcurve) (t .day1) (settlementCash (nominalOf (t .security)) (dirtyOf (t .price) (t .accrued))));
+  first = signedLeg (s .first) (oneFlow (t .cashcurve) (t .valueday1) (settlementCash (nominalOf (t .security)) (dirtyOf (t .price) (t .accrued))));
   second = noLeg;
   payments = signedLeg (s .payments) (paymentsOf (t .security));
 }
@@ -70,8 +70,8 @@ outrightLegs s t = record {
 -- the cash on value day 1, the second leg on value day 2, and the payments
 unfoldable pub repoLegs : Signs → RepoTrade → Legs
 repoLegs s t = record {
-  first = signedLeg (s .first) (oneFlow (t .cashcurve) (t .day1) (t .cash));
-  second = signedLeg (s .second) (oneFlow (t .cashcurve) (t .day2) (secondLegCash (t .cash) (t .rate) (t .term)));
+  first = signedLeg (s .first) (oneFlow (t .cashcurve) (t .valueday1) (t .cash));
+  second = signedLeg (s .second) (oneFlow (t .cashcurve) (t .valueday2) (secondLegCash (t .cash) (t .rate) (t .term)));
   payments = signedLeg (s .payments) (paymentsOf (t .security));
 }
 

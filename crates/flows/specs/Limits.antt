@@ -45,7 +45,7 @@ pub record Sides (side : ℕ) : Type 0 where
 
 pub record OutrightLimits (t : OutrightTrade) : Type 0 where
   pub sides : Sides (t .side)
-  pub reach : t .day1 ≤ lastDay
+  pub valueday1 : t .valueday1 ≤ lastDay
   pub price : t .price .0 ≤ 4000000
   pub accrued : t .accrued ≤ 1000000
   pub security : SecurityLimits (t .security)
@@ -53,8 +53,8 @@ pub record OutrightLimits (t : OutrightTrade) : Type 0 where
 pub record RepoLimits (t : RepoTrade) : Type 0 where
   pub sides : Sides (t .side)
   pub phases : t .phase ≤ 3
-  pub reach1 : t .day1 ≤ lastDay
-  pub reach2 : t .day2 ≤ lastDay
+  pub valueday1 : t .valueday1 ≤ lastDay
+  pub valueday2 : t .valueday2 ≤ lastDay
   pub cash : t .cash ≤ unit
   pub rate : t .rate ≤ 1000000
   pub term : t .term ≤ 730
@@ -66,6 +66,6 @@ TradeLimits (Pool t) = RepoLimits t
 TradeLimits (Specified t) = RepoLimits t
 
 -- and rule 12 is not broken either: its flows can be valued
-pub record Valued (t : Trade) : Type 0 where
+pub record SoundTrade (t : Trade) : Type 0 where
   pub limits : TradeLimits t
   pub within : breaksFlowLimit t ≡ false

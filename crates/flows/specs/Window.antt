@@ -9,11 +9,11 @@ use Rattle.trade.specs.declared.Trade.the-variants.{Outright, Pool, Specified}
 
 -- "The security leaves on day 1 and returns on day 2, so payments after day 1 and up to day 2 remain"
 abbrev pub inTerm : RepoTrade → ℕ → Bool
-inTerm t day = ltb (t .day1) day && leb day (t .day2)
+inTerm t day = ltb (t .valueday1) day && leb day (t .valueday2)
 
 -- "only payments after day 2 count"
 abbrev pub afterTerm : RepoTrade → ℕ → Bool
-afterTerm t day = ltb (t .day2) day
+afterTerm t day = ltb (t .valueday2) day
 
 -- those of the term "in pool phase 2 and specified phase 1"; those after it "in pool phase 3 and specified phase 2"
 abbrev pub inRepoWindow : Bool → RepoTrade → ℕ → Bool

@@ -146,7 +146,7 @@ fn outright_legs(s: Signs, t: OutrightTrade) -> Legs
     let dirty = price.dirty(t.accrued);
     let cash = amounts::settlement_cash(nominal_of(security), dirty);
     Legs {
-        first: cash_leg(s.first, t.cashcurve, t.day1, cash),
+        first: cash_leg(s.first, t.cashcurve, t.valueday1, cash),
         second: simple_legs::no_leg(),
         payments: payment_leg(s.payments, security),
     }
@@ -155,15 +155,15 @@ fn outright_legs(s: Signs, t: OutrightTrade) -> Legs
 // The payments that count. Where all come back with the security, none is worked out.
 fn repo_payments(settled: bool, sign: i64, t: RepoTrade) -> Leg
     requires { ⌜ RepoLimits t ⌝ }
-    ensures { λ r. ⌜ r ≡ cappedLeg (countedLeg settled (t .day1) (t .day2) (signedLeg sign (paymentsOf (t .security)))) ⌝ }
+    ensures { λ r. ⌜ r ≡ cappedLeg (countedLeg settled (t .valueday1) (t .valueday2) (signedLeg sign (paymentsOf (t .security)))) ⌝ }
 {
     let security = t.security;
-    let all_behind = t.day2 < first_payment_of(security);
+    let all_behind = t.valueday2 < first_payment_of(security);
     if !settled & all_behind {
         return simple_legs::no_leg();
     }
     let payments = payment_leg(sign, security);
-    window::counted_leg(settled, t.day1, t.day2, payments)
+    window::counted_leg(settled, t.valueday1, t.valueday2, payments)
 }
 
 fn repo_legs(settled: bool, s: Signs, t: RepoTrade) -> Legs
@@ -172,8 +172,8 @@ fn repo_legs(settled: bool, s: Signs, t: RepoTrade) -> Legs
 {
     let back = amounts::second_leg_cash(t.cash, t.rate, t.term);
     Legs {
-        first: cash_leg(s.first, t.cashcurve, t.day1, t.cash),
-        second: cash_leg(s.second, t.cashcurve, t.day2, back),
+        first: cash_leg(s.first, t.cashcurve, t.valueday1, t.cash),
+        second: cash_leg(s.second, t.cashcurve, t.valueday2, back),
         payments: repo_payments(settled, s.payments, t),
     }
 }

@@ -7,7 +7,7 @@ use trade::Trade;
 ghost use mathlib.Core.Path.{_≡_};
 ghost use Rattle.legs.specs.Runs.{legFlows, legsFlows};
 ghost use Rattle.flows.specs.Legs.{flowsOf, anyAbove, breaksFlowLimit};
-ghost use Rattle.flows.specs.Limits.{TradeLimits, Valued};
+ghost use Rattle.flows.specs.Limits.{TradeLimits, SoundTrade};
 ghost use Rattle.legs.specs.Limits.{LegsLimits};
 
 // Whether a flow of the leg is above the largest amount.
@@ -31,7 +31,7 @@ pub fn breaks_flow_limit(t: Trade) -> bool
 
 // The legs of a trade that the rules accept: what its flows are read from.
 pub fn legs_of(t: Trade) -> Legs
-    requires { ⌜ Valued t ⌝ }
+    requires { ⌜ SoundTrade t ⌝ }
     ensures flows { λ r. ⌜ legsFlows r ≡ flowsOf t ⌝ }
     ensures limits { λ r. ⌜ LegsLimits r ⌝ }
 {

@@ -1,5 +1,5 @@
 -- A loop over the flows of a ladder: what it holds is what the flows passed make of what it began with, and has room for the flows that are left.
--- Net amounts, totals and reaches are all held so.
+-- Net amounts, totals and deviations are all held so.
 use mathlib.Core.Path.{_≡_, refl, sym, _∙_}
 use mathlib.Core.List.{List, [], _∷_, foldl}
 use Prim.Native.Nat.{ℕ, suc, _+_, _*_, _≤_, _<_}

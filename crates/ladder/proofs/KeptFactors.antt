@@ -12,7 +12,7 @@ use Rattle.discount.specs.Discount.{factor, presentValue}
 use Rattle.discount.proofs.Factors.{factor-le}
 use Rattle.curve.specs.declared.Node.{Node}
 use Rattle.curve.specs.Rates.{rateAt}
-use Rattle.fine.specs.Fine.{Between, BracketLimits}
+use Rattle.fine.specs.Fine.{InBracket, BracketLimits}
 use Rattle.fine.specs.declared.bracket.Bracket.{Bracket}
 use Rattle.ladder.specs.Kept.{bracketIn, KeptOn, KeptFactors}
 
@@ -32,7 +32,7 @@ factor-kept rate day {x} e =
       bracket = λ o. absurd (omega arith);
     }
 
-pub bracket-kept : (rate day : ℕ) {b : Bracket} {entry : ℕ} → entry % 2 ≡ 1 → bracketIn entry ≡ b → BracketLimits b → Between b rate day → KeptOn rate day entry
+pub bracket-kept : (rate day : ℕ) {b : Bracket} {entry : ℕ} → entry % 2 ≡ 1 → bracketIn entry ≡ b → BracketLimits b → InBracket b rate day → KeptOn rate day entry
 bracket-kept rate day o e l n =
     record {
       limits = record { factor = λ z. absurd (omega arith); bracket = λ _. rw e l };

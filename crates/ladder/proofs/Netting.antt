@@ -11,8 +11,8 @@ use lib.Seq.{getD-set-same, getD-set-other}
 use Rattle.decimal.specs.Product.{unit}
 use Rattle.discount.specs.declared.Flow.{Flow}
 use Rattle.discount.specs.Flows.{signed, sum}
-use Rattle.netting.specs.Netting.{noNets, netted, netWith, netOn, listed, netSize, flowReach}
-use Rattle.netting.proofs.Sizes.{signed-more, net-size, net-size-on, reach-size}
+use Rattle.netting.specs.Netting.{noNets, netted, netWith, netOn, listed, netSize, flowDeviation}
+use Rattle.netting.proofs.Sizes.{signed-more, net-size, net-size-on, deviation-size}
 use Rattle.ground.specs.Limits.{dayCount}
 use Rattle.ladder.specs.Netted.{NetsRoom}
 use Rattle.ladder.specs.Totals.{FlowLimits, AllFlowLimits, mostFlows, RoomFor}
@@ -45,11 +45,11 @@ nets-next {n} nets f s h = (length-set nets (f .day) _ ∙ h .0, record { each =
 
 -- ---- how far flows may be off, added up
 
-pub reach-most : (fs : List Flow) → AllFlowLimits fs → sum flowReach fs ≤ length fs * 200000
-reach-most fs h = sum-most flowReach 200000 (λ f s. reach-size (f .amount) (f .day) (s .amount) (s .day)) fs h
+pub deviation-most : (fs : List Flow) → AllFlowLimits fs → sum flowDeviation fs ≤ length fs * 200000
+deviation-most fs h = sum-most flowDeviation 200000 (λ f s. deviation-size (f .amount) (f .day) (s .amount) (s .day)) fs h
 
-pub reach-next : {n : ℕ} (off : ℕ) (f : Flow) → FlowLimits f → RoomFor 200000 (suc n) off → RoomFor 200000 n (off + flowReach f)
-reach-next off f s h = room-next (omega arith) (reach-size (f .amount) (f .day) (s .amount) (s .day)) h
+pub deviation-next : {n : ℕ} (off : ℕ) (f : Flow) → FlowLimits f → RoomFor 200000 (suc n) off → RoomFor 200000 n (off + flowDeviation f)
+deviation-next off f s h = room-next (omega arith) (deviation-size (f .amount) (f .day) (s .amount) (s .day)) h
 
 -- ---- and how much they are
 

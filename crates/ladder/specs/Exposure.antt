@@ -6,7 +6,7 @@ use lib.ListN.{length}
 use Rattle.laws.specs.Select.{select}
 use Rattle.curve.specs.declared.Node.{Node}
 use Rattle.curve.specs.declared.Components.{Components}
-use Rattle.curve.specs.Limits.{Proper, ProperComponents}
+use Rattle.curve.specs.Limits.{ProperCurve, ProperComponents}
 use Rattle.curve.specs.Rates.{nodesOf}
 use Rattle.discount.specs.declared.Flow.{Flow}
 use Rattle.ladder.specs.declared.Position.{Position}
@@ -41,6 +41,6 @@ exposureOf p ladder =
 
 -- a position in its limits
 pub record PositionLimits (p : Position) (ladder : List ℕ) : Type 0 where
-  pub proper : Proper (p .curve)
+  pub proper : ProperCurve (p .curve)
   pub stress : ProperComponents (p .components)
   pub schedules : LadderLimits (p .id) ladder (p .schedules)

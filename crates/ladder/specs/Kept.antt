@@ -8,7 +8,7 @@ use Rattle.decimal.specs.Product.{unit}
 use Rattle.discount.specs.Discount.{factor}
 use Rattle.curve.specs.declared.Node.{Node}
 use Rattle.curve.specs.Rates.{rateAt}
-use Rattle.fine.specs.Fine.{Between, BracketLimits}
+use Rattle.fine.specs.Fine.{InBracket, BracketLimits}
 use Rattle.fine.specs.declared.bracket.Bracket.{Bracket}
 
 -- the bracket in a number
@@ -24,7 +24,7 @@ pub record EntryLimits (entry : ℕ) : Type 0 where
 pub record KeptOn (rate day entry : ℕ) : Type 0 where
   pub limits : EntryLimits entry
   pub factor : entry % 2 ≡ 0 → entry / 2 ≡ factor rate day
-  pub bracket : entry % 2 ≡ 1 → Between (bracketIn entry) rate day
+  pub bracket : entry % 2 ≡ 1 → InBracket (bracketIn entry) rate day
 
 -- by day, at the rates that the nodes give
 pub record KeptFactors (nodes : List Node) (factors : List ℕ) : Type 0 where

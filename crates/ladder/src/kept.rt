@@ -8,8 +8,8 @@ ghost use Rattle.fine.specs.Fine.{BracketLimits};
 ghost use Rattle.ladder.specs.Kept.{bracketIn, EntryLimits, KeptOn};
 use decimal::round::discounted;
 use fine::bracket::Bracket;
-use fine::settle::Settled;
-use fine::settle::settled_by;
+use fine::value::FineValue;
+use fine::value::fine_value_in;
 
 // The number of a bracket.
 pub fn entry_of(b: Bracket) -> u64
@@ -32,14 +32,14 @@ fn bracket_in(entry: u64) -> Bracket
 }
 
 // What an amount is worth, where that can be told from what is kept.
-pub fn kept_value(amount: u64, entry: u64) -> Settled
+pub fn kept_value(amount: u64, entry: u64) -> FineValue
     requires { ⌜ (amount ≤ unit) × EntryLimits entry ⌝ }
     ensures { λ r. ⌜ ((rate day : ℕ) → KeptOn rate day entry → r .known ≡ true → r .value ≡ presentValue amount rate day) ⌝ }
 {
     if entry % 2 == 1 {
-        return settled_by(amount, bracket_in(entry));
+        return fine_value_in(amount, bracket_in(entry));
     }
-    Settled {
+    FineValue {
         known: true,
         value: discounted(amount, entry / 2),
     }

@@ -2,14 +2,14 @@
 ghost use mathlib.Core.Path.{_≡_};
 ghost use lib.ListN.{length};
 ghost use Rattle.discount.specs.Flows.{sum};
-ghost use Rattle.netting.specs.Netting.{netted, flowReach};
+ghost use Rattle.netting.specs.Netting.{netted, flowDeviation};
 ghost use Rattle.ground.specs.Limits.{dayCount};
 ghost use Rattle.ladder.specs.Ladder.{ladderFlows, LadderLimits};
 ghost use Rattle.ladder.specs.Netted.{NetsRoom};
 use super::payments::Rung;
 use super::payments::payment;
 use netting::net::net_with;
-use netting::value::reach;
+use netting::value::deviation;
 
 // Adds the payments of the first schedules to the net amounts of their days.
 pub fn net_days(curve: u64, ladder: &[u64], schedules: usize, nets: &mut [i64])
@@ -29,9 +29,9 @@ pub fn net_days(curve: u64, ladder: &[u64], schedules: usize, nets: &mut [i64])
 }
 
 // How far the payments of the first schedules may be off, added up.
-pub fn reach_of(curve: u64, ladder: &[u64], schedules: usize) -> u64
+pub fn deviation_of(curve: u64, ladder: &[u64], schedules: usize) -> u64
     requires { ⌜ LadderLimits curve (now ladder) schedules ⌝ }
-    ensures { λ r. ⌜ r ≡ sum flowReach (ladderFlows curve (now (ladder .entry)) schedules) ⌝ }
+    ensures { λ r. ⌜ r ≡ sum flowDeviation (ladderFlows curve (now (ladder .entry)) schedules) ⌝ }
 {
     let mut off: u64 = 0;
     let mut rung = Rung {
@@ -40,7 +40,7 @@ pub fn reach_of(curve: u64, ladder: &[u64], schedules: usize) -> u64
     };
     while rung.schedule < schedules {
         let f = payment(curve, ladder, rung);
-        off += reach(f.amount, f.day);
+        off += deviation(f.amount, f.day);
         rung = rung.next(ladder);
     }
     off

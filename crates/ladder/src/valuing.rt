@@ -1,7 +1,7 @@
-// The value of a ladder at the rates of a curve. The fine factor settles the values of most flows; of the others the factor is worked out.
+// The value of a ladder at the rates of a curve. The values of most flows are known from the fine factor; of the others the factor is worked out.
 ghost use mathlib.Core.Path.{_≡_};
 ghost use mathlib.Core.Bool.{true};
-ghost use Rattle.curve.specs.Limits.{Proper};
+ghost use Rattle.curve.specs.Limits.{ProperCurve};
 ghost use Rattle.curve.specs.Rates.{nodesOf, rateAt};
 ghost use Rattle.discount.specs.Flows.{flowValue};
 ghost use Rattle.logarithm.specs.Logarithms.{Tables};
@@ -20,12 +20,12 @@ use decimal::round::discounted;
 use discount::Flow;
 use discount::value::present_value;
 use fine::bracket::bracket_at;
-use fine::settle::Settled;
-use fine::settle::settled_by;
+use fine::value::FineValue;
+use fine::value::fine_value_in;
 
 // The value of a flow at the curve's rate, where that can be told from what is kept of its day, or from the fine factor, whose bracket is kept then.
-fn known_value(curve: Curve, f: Flow, tables: &[u64], factors: &mut [u64]) -> Settled
-    requires { ⌜ Proper curve × FlowLimits f × Tables (now tables) × KeptFactors (nodesOf curve) (now factors) ⌝ }
+fn known_value(curve: Curve, f: Flow, tables: &[u64], factors: &mut [u64]) -> FineValue
+    requires { ⌜ ProperCurve curve × FlowLimits f × Tables (now tables) × KeptFactors (nodesOf curve) (now factors) ⌝ }
     ensures { λ r. ⌜ (r .known ≡ true → r .value ≡ flowValue (rateAt (nodesOf curve)) f) ⌝ }
     ensures { λ r. ⌜ KeptFactors (nodesOf curve) (now (factors .exit)) ⌝ }
 {
@@ -36,12 +36,12 @@ fn known_value(curve: Curve, f: Flow, tables: &[u64], factors: &mut [u64]) -> Se
     }
     let b = bracket_at(tables, curve.rate_at(f.day), f.day);
     factors[day] = entry_of(b);
-    settled_by(f.amount, b)
+    fine_value_in(f.amount, b)
 }
 
 // A total with two flows more, each at the factor of its day, which is kept.
 fn with_two(total: Total, curve: Curve, f: Flow, g: Flow, factors: &mut [u64]) -> Total
-    requires { ⌜ TotalRoom 2 total × Proper curve × FlowLimits f × FlowLimits g × KeptFactors (nodesOf curve) (now factors) ⌝ }
+    requires { ⌜ TotalRoom 2 total × ProperCurve curve × FlowLimits f × FlowLimits g × KeptFactors (nodesOf curve) (now factors) ⌝ }
     ensures { λ r. ⌜ r ≡ plusFlow (plusFlow total f (flowValue (rateAt (nodesOf curve)) f)) g (flowValue (rateAt (nodesOf curve)) g) ⌝ }
     ensures { λ r. ⌜ KeptFactors (nodesOf curve) (now (factors .exit)) ⌝ }
 {
@@ -67,17 +67,17 @@ pub struct Valuing {
 impl Valuing {
     // With one flow more.
     fn with_flow(self, curve: Curve, f: Flow, tables: &[u64], factors: &mut [u64]) -> Valuing
-        requires { ⌜ ValuingLimits 1 self × Proper curve × FlowLimits f × Tables (now tables) × KeptFactors (nodesOf curve) (now factors) ⌝ }
+        requires { ⌜ ValuingLimits 1 self × ProperCurve curve × FlowLimits f × Tables (now tables) × KeptFactors (nodesOf curve) (now factors) ⌝ }
         ensures { λ r. ⌜ WithFlow (nodesOf curve) self f r ⌝ }
         ensures { λ r. ⌜ KeptFactors (nodesOf curve) (now (factors .exit)) ⌝ }
     {
         let total = self.total;
         let waiting = self.flow;
-        let settled = known_value(curve, f, tables, factors);
-        if settled.known {
+        let found = known_value(curve, f, tables, factors);
+        if found.known {
             // what waits is copied field by field: with the bytes between its fields, turn after turn, the copy would be waited for
             return Valuing {
-                total: total.with_flow(f, settled.value),
+                total: total.with_flow(f, found.value),
                 waits: self.waits,
                 flow: Flow {
                     curve: waiting.curve,
@@ -103,7 +103,7 @@ impl Valuing {
 
     // The total, with the flow that still waits.
     fn finished(self, curve: Curve) -> Total
-        requires { ⌜ ValuingLimits 0 self × Proper curve ⌝ }
+        requires { ⌜ ValuingLimits 0 self × ProperCurve curve ⌝ }
         ensures { λ r. ⌜ r ≡ held (nodesOf curve) self ⌝ }
     {
         let total = self.total;
@@ -125,7 +125,7 @@ fn total_of(
     tables: &[u64],
     factors: &mut [u64],
 ) -> Total
-    requires { ⌜ Proper curve × LadderLimits id (now ladder) schedules × Tables (now tables) × KeptFactors (nodesOf curve) (now factors) ⌝ }
+    requires { ⌜ ProperCurve curve × LadderLimits id (now ladder) schedules × Tables (now tables) × KeptFactors (nodesOf curve) (now factors) ⌝ }
     ensures { λ r. ⌜ r ≡ totalOn (nodesOf curve) (ladderFlows id (now (ladder .entry)) schedules) ⌝ }
 {
     let none = Total {
@@ -156,7 +156,7 @@ fn total_of(
 
 // The total of the first schedules at the rates of a curve.
 pub fn value_of(id: u64, curve: Curve, ladder: &[u64], schedules: usize, tables: &[u64]) -> Total
-    requires { ⌜ Proper curve × LadderLimits id (now ladder) schedules × Tables (now tables) ⌝ }
+    requires { ⌜ ProperCurve curve × LadderLimits id (now ladder) schedules × Tables (now tables) ⌝ }
     ensures { λ r. ⌜ r ≡ totalOn (nodesOf curve) (ladderFlows id (now (ladder .entry)) schedules) ⌝ }
 {
     let mut factors = [0u64; 10951];

@@ -30,15 +30,15 @@ field-same (suc n) s at t place same =
     let high = field-same n s (suc at) t (suc place) (λ k l. ap (byteAt s) (omega arith) ∙ same (suc k) (omega arith) ∙ ap (byteAt t) (omega arith)) in
     rw (low, high)
 
--- and its number settles them
-pub field-settles : (n : ℕ) (s : List ℕ) (at : ℕ) (t : List ℕ) (place : ℕ) → AreBytes s → AreBytes t
+-- and its number determines them
+pub field-determines : (n : ℕ) (s : List ℕ) (at : ℕ) (t : List ℕ) (place : ℕ) → AreBytes s → AreBytes t
     → numberAt n s at ≡ numberAt n t place → (k : ℕ) → k < n → byteAt s (at + k) ≡ byteAt t (place + k)
 unfolding numberAt
-field-settles zero s at t place hs ht e k l = absurd (omega arith)
-field-settles (suc n) s at t place hs ht e zero l = rw (add-zero at, add-zero place) (omega (arith, hs at, ht place))
-field-settles (suc n) s at t place hs ht e (suc k) l =
+field-determines zero s at t place hs ht e k l = absurd (omega arith)
+field-determines (suc n) s at t place hs ht e zero l = rw (add-zero at, add-zero place) (omega (arith, hs at, ht place))
+field-determines (suc n) s at t place hs ht e (suc k) l =
     let rest : numberAt n s (suc at) ≡ numberAt n t (suc place) = omega (arith, hs at, ht place) in
-    ap (byteAt s) (omega arith) ∙ field-settles n s (suc at) t (suc place) hs ht rest k (omega arith) ∙ ap (byteAt t) (omega arith)
+    ap (byteAt s) (omega arith) ∙ field-determines n s (suc at) t (suc place) hs ht rest k (omega arith) ∙ ap (byteAt t) (omega arith)
 
 -- a field of m + n bytes: the low m, and the n behind them
 pub field-add : (m n : ℕ) (s : List ℕ) (at : ℕ) → numberAt (m + n) s at ≡ numberAt m s at + 256 ^ m * numberAt n s (at + m)
@@ -153,9 +153,9 @@ module _ (bits : ℕ) where
           let e : 2 ^ bits - n ≡ suc (2 ^ bits - n - 1) = omega arith in
           rw (sub-down n (2 ^ bits) (omega arith), e) (omega arith)
 
-  -- a signed field settles its bits
-  pub signed-settles : (m n : ℕ) → m < 2 ^ bits → n < 2 ^ bits → signedOf bits m ≡ signedOf bits n → m ≡ n
-  signed-settles m n hm hn e = sym (unsigned-signed m hm) ∙ ap (unsigned bits) e ∙ unsigned-signed n hn
+  -- a signed field determines its bits
+  pub signed-determines : (m n : ℕ) → m < 2 ^ bits → n < 2 ^ bits → signedOf bits m ≡ signedOf bits n → m ≡ n
+  signed-determines m n hm hn e = sym (unsigned-signed m hm) ∙ ap (unsigned bits) e ∙ unsigned-signed n hn
 
   halves : 0 < bits → 2 ^ bits ≡ 2 ^ (bits - 1) + 2 ^ (bits - 1)
   halves h = let e : bits ≡ suc (bits - 1) = omega arith in ap (λ (n : ℕ). 2 ^ n) e ∙ two-pow-succ (bits - 1)

@@ -166,11 +166,11 @@ up-to-earlier : (day : ℕ) (l : Leg) → day < l .first → legUpTo day l ≡ n
 unfolding legUpTo
 up-to-earlier day l h = rw (lt-ltb day (l .first) h)
 
-pub none-in-term : (day1 day2 : ℕ) (l : Leg) → day2 < l .first → countedLeg false day1 day2 l ≡ noLeg
+pub none-in-term : (valueday1 valueday2 : ℕ) (l : Leg) → valueday2 < l .first → countedLeg false valueday1 valueday2 l ≡ noLeg
 unfolding legAfter
-none-in-term day1 day2 l h = go (ltb day1 (l .first)) (ltb (paidBy day1 l) (l .count))
+none-in-term valueday1 valueday2 l h = go (ltb valueday1 (l .first)) (ltb (paidBy valueday1 l) (l .count))
   where
-    go : (a b : Bool) → legUpTo day2 (cond a l (cond b (restLeg (paidBy day1 l) l) noLeg)) ≡ noLeg
-    go true b = up-to-earlier day2 l h
-    go false true = up-to-earlier day2 (restLeg (paidBy day1 l) l) (omega arith)
-    go false false = up-to-none day2
+    go : (a b : Bool) → legUpTo valueday2 (cond a l (cond b (restLeg (paidBy valueday1 l) l) noLeg)) ≡ noLeg
+    go true b = up-to-earlier valueday2 l h
+    go false true = up-to-earlier valueday2 (restLeg (paidBy valueday1 l) l) (omega arith)
+    go false false = up-to-none valueday2

@@ -53,9 +53,9 @@ up-to-reach day l h = go (ltb day (l .first))
         let most = paid-most day l in
         record { few = omega (arith, h .few); reach = omega (arith, h .reach, mul-le-mul-right {m = p - 1} {n = l .count - 1} (l .period) (omega arith)) }
 
-pub counted-reach : (settled : Bool) (day1 day2 : ℕ) (l : Leg) → LegLimits l → LegLimits (countedLeg settled day1 day2 l)
-counted-reach true day1 day2 l h = after-reach day2 l h
-counted-reach false day1 day2 l h = up-to-reach day2 (legAfter day1 l) (after-reach day1 l h)
+pub counted-reach : (settled : Bool) (valueday1 valueday2 : ℕ) (l : Leg) → LegLimits l → LegLimits (countedLeg settled valueday1 valueday2 l)
+counted-reach true valueday1 valueday2 l h = after-reach valueday2 l h
+counted-reach false valueday1 valueday2 l h = up-to-reach valueday2 (legAfter valueday1 l) (after-reach valueday1 l h)
 
 -- the days from a leg's first flow to flow k
 pub span : (l : Leg) (k : ℕ) → LegLimits l → k < l .count → l .first + k * l .period ≤ lastDay

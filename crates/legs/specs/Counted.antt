@@ -45,4 +45,4 @@ legUpTo day l = cond (ltb day (l .first)) noLeg (startLeg (paidBy day l) l)
 
 -- of a repo: after the term, or in it
 abbrev pub countedLeg : Bool → ℕ → ℕ → Leg → Leg
-countedLeg settled day1 day2 l = cond settled (legAfter day2 l) (legUpTo day2 (legAfter day1 l))
+countedLeg settled valueday1 valueday2 l = cond settled (legAfter valueday2 l) (legUpTo valueday2 (legAfter valueday1 l))

@@ -67,12 +67,12 @@ fn leg_up_to(day: u64, l: Leg) -> Leg
 
 // The payments that a repo counts: once the first leg has settled those after value day 2, before that those after value day 1 and up to
 // value day 2.
-pub fn counted_leg(settled: bool, day1: u64, day2: u64, payments: Leg) -> Leg
+pub fn counted_leg(settled: bool, valueday1: u64, valueday2: u64, payments: Leg) -> Leg
     requires { ⌜ LegLimits payments ⌝ }
-    ensures { λ r. ⌜ r ≡ countedLeg settled day1 day2 payments ⌝ }
+    ensures { λ r. ⌜ r ≡ countedLeg settled valueday1 valueday2 payments ⌝ }
 {
     if settled {
-        return leg_after(day2, payments);
+        return leg_after(valueday2, payments);
     }
-    leg_up_to(day2, leg_after(day1, payments))
+    leg_up_to(valueday2, leg_after(valueday1, payments))
 }

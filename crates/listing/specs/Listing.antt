@@ -12,7 +12,7 @@ use Rattle.text.specs.Text.{ascii, figure, signedFigure, currencyNamed, linesOf
 -- " base 10000 loss 30000 scenario 2 tolerance 1"
 unfoldable pub curveFigures : CurveMargin → List ℕ
 curveFigures m =
-    signedFigure " base " (m .base) ++ signedFigure " loss " (m .loss) ++ figure " scenario " (m .scenario) ++ figure " tolerance " (m .tolerance)
+    signedFigure " base " (m .base) ++ signedFigure " loss " (m .worstloss) ++ figure " scenario " (m .scenario) ++ figure " tolerance " (m .tolerance)
 
 -- "curve 1 TRY" and the figures
 unfoldable pub curveListed : ℕ → CurveMargin → List ℕ

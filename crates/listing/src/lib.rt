@@ -21,7 +21,7 @@ fn put_curve_figures(out: &mut [u8], at: usize, m: CurveMargin) -> usize
     ensures { λ r. ⌜ r ≤ at + 113 ⌝ }
 {
     let loss = put_signed(out, at, b" base ", m.base);
-    let scenario = put_signed(out, loss, b" loss ", m.loss);
+    let scenario = put_signed(out, loss, b" loss ", m.worstloss);
     let tolerance = put_number(out, scenario, b" scenario ", m.scenario);
     put_number(out, tolerance, b" tolerance ", m.tolerance)
 }

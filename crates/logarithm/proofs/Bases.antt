@@ -3,7 +3,7 @@ use mathlib.Core.Path.{_≡_, refl}
 use Prim.Native.Nat.{ℕ, _+_, _*_, _^_, _≤_, _<_}
 use native.Mathlib.Nat.{one-le-pow}
 use lib.Dec.{lit<, lit≤}
-use Rattle.logarithm.specs.Logarithms.{scale, under, over, powerWhole, middleBase, upperBase}
+use Rattle.logarithm.specs.Logarithms.{scale, baseNumerator, baseDenominator, powerWhole, middleBase, upperBase}
 use Rattle.logarithm.proofs.Pade.{num, den, Short}
 use Rattle.logarithm.proofs.Exponents.{Low, High, third-low, third-high, raised, scaled-low, scaled-high}
 
@@ -39,10 +39,10 @@ high-pos : 0 < den 4503462188417024 small
 unfolding small
 high-pos = lit< tt
 
-small-low : num 4503462188417023 small * over ^ small ≤ den 4503462188417023 small * under ^ small
+small-low : num 4503462188417023 small * baseDenominator ^ small ≤ den 4503462188417023 small * baseNumerator ^ small
 small-low = third-low small 4503462188417023 1 18889465931616019808256 4503599627370495 small-sum less small-square small-short
 
-small-high : den 4503462188417024 small * under ^ small ≤ num 4503462188417024 small * over ^ small
+small-high : den 4503462188417024 small * baseNumerator ^ small ≤ num 4503462188417024 small * baseDenominator ^ small
 small-high = third-high small 4503462188417024 small-all
 
 -- and to n times that, in parts of 2 ^ 60
@@ -51,12 +51,12 @@ module _ (b n : ℕ) where
   power-low : b * den 4503462188417023 small ^ n ≤ powerWhole * num 4503462188417023 small ^ n → Low powerWhole b (small * n)
   power-low h =
       scaled-low powerWhole b (num 4503462188417023 small ^ n) (den 4503462188417023 small ^ n) (small * n) (one-le-pow n _ low-pos)
-      (raised (num 4503462188417023 small) (den 4503462188417023 small) over under small n small-low) h
+      (raised (num 4503462188417023 small) (den 4503462188417023 small) baseDenominator baseNumerator small n small-low) h
 
   power-high : powerWhole * num 4503462188417024 small ^ n ≤ b * den 4503462188417024 small ^ n → High powerWhole b (small * n)
   power-high h =
       scaled-high powerWhole b (den 4503462188417024 small ^ n) (num 4503462188417024 small ^ n) (small * n) (one-le-pow n _ high-pos)
-      (raised (den 4503462188417024 small) (num 4503462188417024 small) under over small n small-high) h
+      (raised (den 4503462188417024 small) (num 4503462188417024 small) baseNumerator baseDenominator small n small-high) h
 
 -- ---- to the powers 2 ^ 37 and 2 ^ 47
 

@@ -3,7 +3,7 @@ use mathlib.Core.Path.{_≡_, ap, subst}
 use Prim.Native.Nat.{ℕ, zero, suc, _+_, _*_, _/_, _^_, _≤_, _<_}
 use native.Mathlib.Nat.{le-refl, mul-le-mul-right, le-of-mul-le-mul-right, pow-zero, zero-mul, div-mul-le-self, lt-div-mul-add}
 use native.Mathlib.Omega.{arith}
-use Rattle.logarithm.specs.Logarithms.{under, over, powerWhole, chain, middleBase, upperBase}
+use Rattle.logarithm.specs.Logarithms.{baseNumerator, baseDenominator, powerWhole, chain, middleBase, upperBase}
 use Rattle.logarithm.proofs.Exponents.{Low, High}
 use Rattle.logarithm.proofs.Ratios.{low-product, high-product}
 use Rattle.logarithm.proofs.Rows.{power-pos, middle-le, upper-le, chain-le}
@@ -38,16 +38,16 @@ few-enough j l = omega arith
 module _ (z d : ℕ) (parts : powerWhole ≡ z * d) (wide : 32768 ≤ d) where
   part-low : (c x : ℕ) → Low powerWhole c x → Low z (c / d) x
   part-low c x h =
-      let scaled : c / d * over ^ x * d ≤ z * under ^ x * d =
-      omega (arith, mul-le-mul-right (over ^ x) (div-mul-le-self c d), h .low, ap (λ (n : ℕ). n * under ^ x) parts) in
+      let scaled : c / d * baseDenominator ^ x * d ≤ z * baseNumerator ^ x * d =
+      omega (arith, mul-le-mul-right (baseDenominator ^ x) (div-mul-le-self c d), h .low, ap (λ (n : ℕ). n * baseNumerator ^ x) parts) in
       record { low = le-of-mul-le-mul-right scaled (omega arith) }
 
   part-high : (c w x : ℕ) → w ≤ d → High powerWhole (c + w) x → High z (c / d + 2) x
   part-high c w x l h =
       let cut : c < c / d * d + d = lt-div-mul-add (omega arith) in
       let all : c + w ≤ (c / d + 2) * d = omega arith in
-      let scaled : z * under ^ x * d ≤ (c / d + 2) * over ^ x * d =
-      omega (arith, mul-le-mul-right (over ^ x) all, h .high, ap (λ (n : ℕ). n * under ^ x) parts) in
+      let scaled : z * baseNumerator ^ x * d ≤ (c / d + 2) * baseDenominator ^ x * d =
+      omega (arith, mul-le-mul-right (baseDenominator ^ x) all, h .high, ap (λ (n : ℕ). n * baseNumerator ^ x) parts) in
       record { high = le-of-mul-le-mul-right scaled (omega arith) }
 
   module _ (j : ℕ) where

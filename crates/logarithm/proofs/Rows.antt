@@ -6,7 +6,7 @@ use native.Mathlib.Numerals.{add-one}
 use native.Mathlib.Omega.{arith}
 use lib.Dec.{lit<, lit≤}
 use Rattle.discount.specs.Discount.{million}
-use Rattle.logarithm.specs.Logarithms.{scale, fineWhole, powerWhole, first, third, step, logOf, slopeOf, chain, powerRow, shortRow, middleBase, upperBase}
+use Rattle.logarithm.specs.Logarithms.{scale, fineWhole, powerWhole, firstTerm, thirdTerm, step, logOf, logSlope, chain, powerRow, shortRow, middleBase, upperBase}
 use Rattle.logarithm.proofs.Steps.{step-le}
 
 pub fine-is : fineWhole ≡ 4398046511104
@@ -93,7 +93,7 @@ log-rises (suc n) i =
 
 -- the row of the largest rate, computed
 log-last : logOf 488 ≤ 1560180080285253
-unfolding logOf step first third scale million
+unfolding logOf step firstTerm thirdTerm scale million
 log-last = lit≤ tt
 
 module _ (r : ℕ) (l : r ≤ 1000000) where
@@ -118,12 +118,12 @@ exponent-le log days l k =
 
 -- ---- the slopes
 
-pub slope-is : (i : ℕ) → slopeOf i ≡ 2251799813685248 / (1000000 + 2048 * i) - 4
-unfolding slopeOf million
+pub slope-is : (i : ℕ) → logSlope i ≡ 2251799813685248 / (1000000 + 2048 * i) - 4
+unfolding logSlope million
 slope-is i = refl
 
-pub slope-le : (i : ℕ) → slopeOf i ≤ 2251799809
-unfolding slopeOf million
+pub slope-le : (i : ℕ) → logSlope i ≤ 2251799809
+unfolding logSlope million
 slope-le i =
     let less : 2251799813685248 / (1000000 + 2048 * i) < 2251799814 = div-lt-iff-lt-mul {k = 1000000 + 2048 * i} (omega arith) .1 (omega arith) in
     omega arith

@@ -5,7 +5,7 @@ use native.Mathlib.Nat.{le-trans, mul-le-mul, mul-le-mul-left, mul-le-mul-right,
 use native.Mathlib.Decide.{decLe}
 use native.Mathlib.Omega.{arith}
 use lib.Dec.{lit<, lit≤}
-use Rattle.logarithm.specs.Logarithms.{scale, under, over, first, third, step}
+use Rattle.logarithm.specs.Logarithms.{scale, baseNumerator, baseDenominator, firstTerm, thirdTerm, step}
 use Rattle.logarithm.proofs.Pade.{Short}
 use Rattle.logarithm.proofs.Exponents.{scale-is, scale-pos, third-low, third-high}
 use Rattle.logarithm.proofs.Ratios.{ratio-most, third-most, third-least}
@@ -29,10 +29,10 @@ record Third (w a b q : ℕ) : Type 0 where
   few : w ≤ 4606968482701
 
 -- what the parts are at most
-pub first-le : (m j : ℕ) → 1000000 ≤ m → j ≤ 2048 → first m j ≤ 4606968482701
-unfolding first scale
+pub first-le : (m j : ℕ) → 1000000 ≤ m → j ≤ 2048 → firstTerm m j ≤ 4606968482701
+unfolding firstTerm scale
 first-le m j l h =
-    let less : first m j < 4606968482702 = div-lt-iff-lt-mul {k = 2 * m + j} (omega arith) .1 (omega arith) in
+    let less : firstTerm m j < 4606968482702 = div-lt-iff-lt-mul {k = 2 * m + j} (omega arith) .1 (omega arith) in
     omega arith
 
 pub a-le : (w a : ℕ) → a * 524288 ≤ w → w ≤ 4606968482701 → a ≤ 8787095
@@ -48,8 +48,8 @@ q-le a b q h l k =
     let product : b * a ≤ 1206453727172 * 8787095 = mul-le-mul k l in
     omega arith
 
-third-of : (w : ℕ) → w ≤ 4606968482701 → Third w (w / 524288) (w / 524288 * (w / 524288) / 64) (third w)
-unfolding third
+third-of : (w : ℕ) → w ≤ 4606968482701 → Third w (w / 524288) (w / 524288 * (w / 524288) / 64) (thirdTerm w)
+unfolding thirdTerm
 third-of w l =
     let a : ℕ = w / 524288 in
     let b : ℕ = a * a / 64 in
@@ -72,7 +72,7 @@ pub step-le : (m j : ℕ) → 1000000 ≤ m → j ≤ 2048 → step m j ≤ 4606
 unfolding step
 step-le m j l h =
     let w = first-le m j l h in
-    omega (arith, w, third-le (first m j) _ _ _ (third-of (first m j) w))
+    omega (arith, w, third-le (firstTerm m j) _ _ _ (third-of (firstTerm m j) w))
 
 -- ---- it is at most w w w / (3 scale scale), and a little less
 
@@ -159,7 +159,7 @@ many-two = lit≤ tt
 
 module _ (m j w a b q : ℕ) (s : Third w a b q) (cut : w * (2 * m + j) ≤ scale * j) where
   most-with : (k t e : ℕ) → t + k ≡ scale → Short t k e → w + q ≤ t → 0 < w → (w + q) * (w + q) + (w + q) ≤ e → 65537 * (3 * scale * k) ≤ w * w
-      → m * over ^ (w + q) ≤ (m + j) * under ^ (w + q)
+      → m * baseDenominator ^ (w + q) ≤ (m + j) * baseNumerator ^ (w + q)
   most-with k t e same short less pos l many =
       let p : ℕ = t - (w + q) in
       let sum : t ≡ p + (w + q) = omega arith in
@@ -170,7 +170,7 @@ module _ (m j w a b q : ℕ) (s : Third w a b q) (cut : w * (2 * m + j) ≤ scal
   square : (d x e : ℕ) → d ≤ x → x * x + x ≤ e → d * d + d ≤ e
   square d x e l h = omega (arith, mul-le-mul l l)
 
-  most : m * over ^ (w + q) ≤ (m + j) * under ^ (w + q)
+  most : m * baseDenominator ^ (w + q) ≤ (m + j) * baseNumerator ^ (w + q)
   most =
       let few = third-le w a b q s in
       elim (decLe q 0) [
@@ -183,7 +183,7 @@ module _ (m j w a b q : ℕ) (s : Third w a b q) (cut : w * (2 * m + j) ≤ scal
             ]
       ]
     where
-      whole' : q ≡ 0 → m * over ^ (w + q) ≤ (m + j) * under ^ (w + q)
+      whole' : q ≡ 0 → m * baseDenominator ^ (w + q) ≤ (m + j) * baseNumerator ^ (w + q)
       whole' e =
           let same : w + q ≡ w = omega arith in
           rw same (ratio-most m j w (omega (arith, s .few, scale-is)) cut)
@@ -248,7 +248,7 @@ reached m j w q s v pos e h l =
         omega (arith, mul-le-mul-right b g, mul-le-mul-right y less)
 
 module _ (m j w a b q : ℕ) (s : Third w a b q) (rest : scale * j < w * (2 * m + j) + (2 * m + j)) where
-  least : (m + j) * under ^ (w + q + 32) ≤ m * over ^ (w + q + 32)
+  least : (m + j) * baseNumerator ^ (w + q + 32) ≤ m * baseDenominator ^ (w + q + 32)
   least =
       let few = third-le w a b q s in
       let v : ℕ = w + q + 32 in
@@ -264,10 +264,10 @@ module _ (m j w a b q : ℕ) (s : Third w a b q) (rest : scale * j < w * (2 * m 
 -- ---- the step
 
 module _ (m j : ℕ) (l : 1000000 ≤ m) (h : j ≤ 2048) where
-  pub step-most : m * over ^ step m j ≤ (m + j) * under ^ step m j
-  unfolding step first
-  step-most = most m j (first m j) _ _ _ (third-of (first m j) (first-le m j l h)) (div-mul-le-self (scale * j) (2 * m + j))
+  pub step-most : m * baseDenominator ^ step m j ≤ (m + j) * baseNumerator ^ step m j
+  unfolding step firstTerm
+  step-most = most m j (firstTerm m j) _ _ _ (third-of (firstTerm m j) (first-le m j l h)) (div-mul-le-self (scale * j) (2 * m + j))
 
-  pub step-least : (m + j) * under ^ (step m j + 32) ≤ m * over ^ (step m j + 32)
-  unfolding step first
-  step-least = least m j (first m j) _ _ _ (third-of (first m j) (first-le m j l h)) (lt-div-mul-add (omega arith))
+  pub step-least : (m + j) * baseNumerator ^ (step m j + 32) ≤ m * baseDenominator ^ (step m j + 32)
+  unfolding step firstTerm
+  step-least = least m j (firstTerm m j) _ _ _ (third-of (firstTerm m j) (first-le m j l h)) (lt-div-mul-add (omega arith))

@@ -5,29 +5,29 @@ use mathlib.Core.List.{List}
 use lib.ListN.{length, getD}
 use Rattle.discount.specs.Discount.{million}
 
--- 2 ^ 52; the base of the logarithms is under / over
+-- 2 ^ 52; the base of the logarithms is baseNumerator / baseDenominator
 unfoldable pub scale : ℕ
 scale = 4503599627370496
 
-unfoldable pub under : ℕ
-under = 4503599627370495
+unfoldable pub baseNumerator : ℕ
+baseNumerator = 4503599627370495
 
-unfoldable pub over : ℕ
-over = 4503599627370497
+unfoldable pub baseDenominator : ℕ
+baseDenominator = 4503599627370497
 
 -- ---- the logarithms
 
 -- scale times u, for u = j / (2 m + j): m / (m + j) is (1 - u) / (1 + u)
-unfoldable pub first : ℕ → ℕ → ℕ
-first m j = scale * j / (2 * m + j)
+unfoldable pub firstTerm : ℕ → ℕ → ℕ
+firstTerm m j = scale * j / (2 * m + j)
 
 -- from w, which is scale times u: scale times u ^ 3 / 3, a little less
-unfoldable pub third : ℕ → ℕ
-third w = w / 524288 * (w / 524288) / 64 * (w / 524288) / 6597170429952
+unfoldable pub thirdTerm : ℕ → ℕ
+thirdTerm w = w / 524288 * (w / 524288) / 64 * (w / 524288) / 6597170429952
 
 -- the logarithm of m / (m + j), a little less
 unfoldable pub step : ℕ → ℕ → ℕ
-step m j = first m j + third (first m j)
+step m j = firstTerm m j + thirdTerm (firstTerm m j)
 
 -- row i: that of million / (million + 2048 i)
 unfoldable pub logOf : ℕ → ℕ
@@ -36,8 +36,8 @@ logOf (suc i) = logOf i + step (million + 2048 * i) 2048
 
 -- what a millionth more adds to it, were it no less for the next: scale / (2 (million + 2048 i)), and 4 less, which makes up for the square of a rise
 -- that is rounded down
-unfoldable pub slopeOf : ℕ → ℕ
-slopeOf i = 2251799813685248 / (million + 2048 * i) - 4
+unfoldable pub logSlope : ℕ → ℕ
+logSlope i = 2251799813685248 / (million + 2048 * i) - 4
 
 -- ---- the powers
 
@@ -73,7 +73,7 @@ upperBase = 1083069521826238936
 pub record Tables (tables : List ℕ) : Type 0 where
   pub places : length tables ≡ 3694
   pub logs : (k : ℕ) → k < 489 → getD tables k 0 ≡ logOf k
-  pub slopes : (k : ℕ) → k < 489 → getD tables (489 + k) 0 ≡ slopeOf k
+  pub slopes : (k : ℕ) → k < 489 → getD tables (489 + k) 0 ≡ logSlope k
   pub middles : (k : ℕ) → k < 1024 → getD tables (978 + k) 0 ≡ powerRow middleBase k
   pub uppers : (k : ℕ) → k < 334 → getD tables (2002 + k) 0 ≡ powerRow upperBase k
   pub shortMiddles : (k : ℕ) → k < 1024 → getD tables (2336 + k) 0 ≡ shortRow middleBase k

@@ -2,7 +2,7 @@
 ghost use mathlib.Core.Path.{_≡_};
 ghost use Prim.Native.Nat.{ℕ, _+_, _*_, _/_, _≤_, _<_};
 ghost use lib.ListN.{length, getD};
-ghost use Rattle.logarithm.specs.Logarithms.{powerWhole, step, logOf, slopeOf, powerRow, shortRow, Tables};
+ghost use Rattle.logarithm.specs.Logarithms.{powerWhole, step, logOf, logSlope, powerRow, shortRow, Tables};
 
 // The bases of the two tables of powers.
 const MIDDLE_BASE: u64 = 1_152_851_138_010_109_269;
@@ -66,7 +66,7 @@ fn logs(tables: &mut [u64])
     requires { ⌜ 978 ≤ length (now tables) ⌝ }
     ensures kept { λ _. ⌜ length (now (tables .exit)) ≡ length (now (tables .entry)) ⌝ }
     ensures rows { λ _. ⌜ ((k : ℕ) → k < 489 → getD (now (tables .exit)) k 0 ≡ logOf k) ⌝ }
-    ensures slopes { λ _. ⌜ ((k : ℕ) → k < 489 → getD (now (tables .exit)) (489 + k) 0 ≡ slopeOf k) ⌝ }
+    ensures slopes { λ _. ⌜ ((k : ℕ) → k < 489 → getD (now (tables .exit)) (489 + k) 0 ≡ logSlope k) ⌝ }
 {
     let mut log = 0;
     let mut m: u64 = 1_000_000;

@@ -16,7 +16,7 @@ use Rattle.netting.specs.Netting.{noNets, netOn, netted, listed, netSize}
 use Rattle.netting.proofs.DaySums.{listed-below}
 use Rattle.netting.proofs.Sizes.{net-size-on}
 use Rattle.estimate.specs.Values.{mostSize, Listed}
-use Rattle.bucket.specs.Mapped.{BucketLimits, mapped, isReceived, flowOf, netFlows}
+use Rattle.bucket.specs.Mapped.{BucketLimits, mapped, isReceived, netFlow, netFlows}
 use Rattle.mapping.specs.Segments.{Grid, bucketIn}
 use Rattle.mapping.specs.Mapping.{mappedNets, mappedWith, Mappable, NetFlowLimits, MappedRoom}
 use Rattle.mapping.proofs.NetParts.{mapped-length, mapped-moved}
@@ -55,7 +55,7 @@ module _ (nets : List ℤ) (days : List ℕ) (i : ℕ) (h : i < length days) whe
   unfolding netSize
   size-left = ap (netSize nets) days-left
 
-  pub flows-left : netFlows nets (drop i days) ≡ flowOf day (netOn nets day) ∷ netFlows nets left
+  pub flows-left : netFlows nets (drop i days) ≡ netFlow day (netOn nets day) ∷ netFlows nets left
   flows-left = ap (netFlows nets) days-left
 
 none-left : (days : List ℕ) (i : ℕ) → i ≤ length days → length days ≤ i → drop i days ≡ []
@@ -89,7 +89,7 @@ module _ (segments : List ℕ) (n : ℕ) (nets : List ℤ) (days : List ℕ) whe
     at = getD days i 0
 
     abbrev flow : Flow
-    flow = flowOf at (netOn nets at)
+    flow = netFlow at (netOn nets at)
 
     pub mapping-day : at < 10951
     mapping-day = placed-day nets days i h (m .placed)

@@ -13,7 +13,7 @@ use Rattle.discount.specs.declared.Flow.{Flow}
 use Rattle.discount.specs.Flows.{sum}
 use Rattle.curve.specs.declared.Curve.{Curve}
 use Rattle.curve.specs.declared.Components.{Components}
-use Rattle.curve.specs.Limits.{Proper}
+use Rattle.curve.specs.Limits.{ProperCurve}
 use Rattle.curve.specs.Rates.{nodesOf}
 use Rattle.curve.specs.Scenarios.{scenarioCount, scenarioAt}
 use Rattle.curve.specs.Stress.{stressed}
@@ -59,7 +59,7 @@ allowed nets (d ∷ ds) =
 
 -- ---- a curve's
 
-module _ (c : Curve) (p : Proper c) (x : Components) (segments : List ℕ) (places : length segments ≡ 100) (listing : Segments c x segments (c .count + 1)) where
+module _ (c : Curve) (p : ProperCurve c) (x : Components) (segments : List ℕ) (places : length segments ≡ 100) (listing : Segments c x segments (c .count + 1)) where
   abbrev n : ℕ
   n = c .count + 1
 

@@ -9,7 +9,7 @@ use lib.Seq.{getD-set-same, getD-set-other}
 use Rattle.curve.specs.declared.Node.{Node}
 use Rattle.curve.specs.declared.Curve.{Curve}
 use Rattle.curve.specs.declared.Components.{Components}
-use Rattle.curve.specs.Limits.{Limits, Proper}
+use Rattle.curve.specs.Limits.{NodeLimits, ProperCurve}
 use Rattle.estimate.proofs.CurveLines.{node}
 use Rattle.mapping.specs.declared.ranges.Range.{Range}
 use Rattle.mapping.specs.Ranges.{Ranges}
@@ -97,7 +97,7 @@ pub record Listing (c : Curve) (x : Components) (a : Node) (segments : List ℕ)
   pub places : length segments ≡ 100
   pub listed : Segments c x segments i
 
-module _ (c : Curve) (p : Proper c) (x : Components) where
+module _ (c : Curve) (p : ProperCurve c) (x : Components) where
   pub listing-first : (segments : List ℕ) → length segments ≡ 100 → (w : Range) → Ranges (node c 0) (node c 0) x w → Listing c x (node c 0) (putSegment segments 0 0 (node c 0 .day) w) 1
   listing-first segments e w h =
       record {
@@ -109,7 +109,7 @@ module _ (c : Curve) (p : Proper c) (x : Components) where
       }
 
   module _ (a : Node) (segments : List ℕ) (i : ℕ) (h : Listing c x a segments i) where
-    pub listing-limits : Limits a
+    pub listing-limits : NodeLimits a
     listing-limits = rw (h .last) (p .each (i - 1) (omega (arith, h .some, h .most)))
 
     pub listing-room : 4 * i + 4 ≤ length segments

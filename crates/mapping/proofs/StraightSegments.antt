@@ -7,7 +7,7 @@ use lib.IntN.{natAbs}
 use Rattle.laws.proofs.Lists.{mapFirst-done}
 use Rattle.curve.specs.declared.Curve.{Curve}
 use Rattle.curve.specs.declared.Components.{Components}
-use Rattle.curve.specs.Limits.{Proper, zeroNode}
+use Rattle.curve.specs.Limits.{ProperCurve, zeroNode}
 use Rattle.curve.specs.Rates.{nodesOf, rateAt}
 use Rattle.curve.specs.Scenarios.{scenarioAt}
 use Rattle.curve.specs.Stress.{stressed, stressedCurve}
@@ -50,7 +50,7 @@ line-segment rate r s from until width most same far lr ls =
 
 -- ---- a curve's
 
-module _ (c : Curve) (p : Proper c) where
+module _ (c : Curve) (p : ProperCurve c) where
   first-segment : (width most : ℕ) → node c 0 .rate ≤ most → StraightSegment (rateAt (nodesOf c)) 0 (node c 0 .day) width most
   first-segment width most l = level-segment _ (node c 0 .rate) _ _ width most (λ t m k. before-all c t p k) l
 
@@ -69,7 +69,7 @@ module _ (c : Curve) (p : Proper c) where
 
 -- ---- in a scenario
 
-module _ (c : Curve) (p : Proper c) (x : Components) where
+module _ (c : Curve) (p : ProperCurve c) (x : Components) where
   abbrev in-scenario : ℕ → Curve
   in-scenario s = stressedCurve (scenarioAt x s) c
 
@@ -77,7 +77,7 @@ module _ (c : Curve) (p : Proper c) (x : Components) where
   unfolding stressedCurve
   node-stressed s i h = mapFirst-done (stressed (scenarioAt x s)) (c .count) (c .nodes) i zeroNode h (omega (arith, p .places, p .most))
 
-  proper : (s : ℕ) → Proper (in-scenario s)
+  proper : (s : ℕ) → ProperCurve (in-scenario s)
   proper s = proper-stressed (scenarioAt x s) c p
 
   count-is : (s : ℕ) → in-scenario s .count ≡ c .count

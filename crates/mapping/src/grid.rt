@@ -4,10 +4,10 @@ ghost use Prim.Native.Nat.{_+_, _*_, _/_, _≤_};
 ghost use lib.IntN.{natAbs};
 ghost use lib.ListN.{length};
 ghost use Rattle.ground.specs.Limits.{dayCount};
-ghost use Rattle.curve.specs.Limits.{Proper, ProperComponents};
+ghost use Rattle.curve.specs.Limits.{ProperCurve, ProperComponents};
 ghost use Rattle.netting.specs.Netting.{noNets, netOn, netWith, netSize};
 ghost use Rattle.estimate.specs.Values.{Listed};
-ghost use Rattle.bucket.specs.Mapped.{BucketLimits, firstFlow, lastFlow, excessFlow, flowOf};
+ghost use Rattle.bucket.specs.Mapped.{BucketLimits, firstFlow, lastFlow, excessFlow, netFlow};
 ghost use Rattle.mapping.specs.Segments.{Grid};
 ghost use Rattle.mapping.specs.Mapping.{mappedNets, mappedWith, LowNets, mostMapped, Mappable, NetFlowLimits, MappedRoom};
 use super::ranges::size;
@@ -22,7 +22,7 @@ use netting::net::net_with;
 // A day's net amount as a flow.
 fn net_flow(day: u64, net: i64) -> Flow
     requires { ⌜ natAbs net ≤ 1_000_000_000_000_000_000 ⌝ }
-    ensures { λ r. ⌜ r ≡ flowOf day net ⌝ }
+    ensures { λ r. ⌜ r ≡ netFlow day net ⌝ }
 {
     Flow {
         curve: 0,
@@ -124,7 +124,7 @@ pub fn map_nets(
     nets: &[i64],
     mapped: &mut [i64],
 )
-    requires { ⌜ Proper curve × ProperComponents components × Mappable (now nets) (now days) × (now mapped ≡ noNets) ⌝ }
+    requires { ⌜ ProperCurve curve × ProperComponents components × Mappable (now nets) (now days) × (now mapped ≡ noNets) ⌝ }
     ensures { λ _. ⌜ LowNets curve components (now (nets .entry)) (now (days .entry)) (now (mapped .exit)) ⌝ }
 {
     let mut segments = [0u64; 100];

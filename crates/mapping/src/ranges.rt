@@ -2,7 +2,7 @@
 ghost use mathlib.Core.Path.{_≡_};
 ghost use Prim.Native.Nat.{min, max, _+_, _-_, _*_, _≤_};
 ghost use lib.IntN.{natAbs, _-ℤ_};
-ghost use Rattle.curve.specs.Limits.{highestRate, Limits, ComponentLimits, ProperComponents};
+ghost use Rattle.curve.specs.Limits.{highestRate, NodeLimits, ComponentLimits, ProperComponents};
 ghost use Rattle.mapping.specs.Ranges.{swing, movedApart, widthOf, heightOf, rangeOf};
 use curve::Component;
 use curve::Components;
@@ -44,7 +44,7 @@ fn moved_by(x: Component, a: i64, b: i64) -> u64
 
 // All three.
 fn moved_apart(a: Node, b: Node, components: Components) -> u64
-    requires { ⌜ Limits a × Limits b × ProperComponents components ⌝ }
+    requires { ⌜ NodeLimits a × NodeLimits b × ProperComponents components ⌝ }
     ensures { λ r. ⌜ (r ≡ movedApart a b components) × (r ≤ 60_000_000_000) ⌝ }
 {
     let first = moved_by(components.first, a.first, b.first);
@@ -82,7 +82,7 @@ fn capped(rate: u64) -> u64
 }
 
 fn width_of(a: Node, b: Node, components: Components) -> u64
-    requires { ⌜ Limits a × Limits b × ProperComponents components ⌝ }
+    requires { ⌜ NodeLimits a × NodeLimits b × ProperComponents components ⌝ }
     ensures { λ r. ⌜ r ≡ widthOf a b components ⌝ }
 {
     let rates = apart(a.rate, b.rate);
@@ -90,7 +90,7 @@ fn width_of(a: Node, b: Node, components: Components) -> u64
 }
 
 fn height_of(n: Node, components: Components) -> u64
-    requires { ⌜ Limits n × ProperComponents components ⌝ }
+    requires { ⌜ NodeLimits n × ProperComponents components ⌝ }
     ensures { λ r. ⌜ r ≡ heightOf n components ⌝ }
 {
     let still = Node {
@@ -105,7 +105,7 @@ fn height_of(n: Node, components: Components) -> u64
 
 // Of the rates of nodes a and b in every scenario.
 pub fn range_of(a: Node, b: Node, components: Components) -> Range
-    requires { ⌜ Limits a × Limits b × ProperComponents components ⌝ }
+    requires { ⌜ NodeLimits a × NodeLimits b × ProperComponents components ⌝ }
     ensures { λ r. ⌜ r ≡ rangeOf a b components ⌝ }
 {
     let width = width_of(a, b, components);

@@ -3,7 +3,7 @@
 ghost use mathlib.Core.Path.{_≡_};
 ghost use Prim.Native.Nat.{_+_, _*_, _≤_};
 ghost use lib.ListN.{length};
-ghost use Rattle.curve.specs.Limits.{Proper, ProperComponents};
+ghost use Rattle.curve.specs.Limits.{ProperCurve, ProperComponents};
 ghost use Rattle.mapping.specs.Segments.{putSegment, Segments, SegmentsLimits, bucketIn};
 use super::ranges::Range;
 use super::ranges::range_of;
@@ -26,7 +26,7 @@ fn put_segment(segments: &mut [u64], at: usize, from: u64, until: u64, w: Range)
 
 // Lists the segments of a curve.
 pub fn list_segments(curve: Curve, components: Components, segments: &mut [u64])
-    requires { ⌜ Proper curve × ProperComponents components × (length (now segments) ≡ 100) ⌝ }
+    requires { ⌜ ProperCurve curve × ProperComponents components × (length (now segments) ≡ 100) ⌝ }
     ensures kept { λ _. ⌜ length (now (segments .exit)) ≡ length (now (segments .entry)) ⌝ }
     ensures each { λ _. ⌜ Segments curve components (now (segments .exit)) (curve .count + 1) ⌝ }
 {

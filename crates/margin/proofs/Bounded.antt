@@ -13,7 +13,7 @@ use Rattle.laws.proofs.Integer.{int, plus, up-neg, down-neg, up-pos, down-pos}
 use Rattle.laws.proofs.Worst.{max-within, worst-near}
 use Rattle.laws.proofs.Largest.{upFrom, numbered}
 use Rattle.curve.specs.declared.Node.{Node}
-use Rattle.curve.specs.Limits.{Limits}
+use Rattle.curve.specs.Limits.{NodeLimits}
 use Rattle.curve.specs.Rates.{rateAt}
 use Rattle.curve.specs.Scenarios.{scenarioCount, scenarioAt}
 use Rattle.curve.specs.Stress.{stressed}
@@ -41,13 +41,13 @@ plus-within a b c d s t h k = omega (int, plus a c, plus b d)
 
 -- ---- the flows of a curve, at any nodes in their limits
 
-rated : (nodes : List Node) → All Limits nodes → (fs : List Flow) → Rated (rateAt nodes) fs
+rated : (nodes : List Node) → All NodeLimits nodes → (fs : List Flow) → Rated (rateAt nodes) fs
 unfolding million
 rated nodes h [] = tt
 rated nodes h (f ∷ fs) = (rate-limit nodes (f .day) h, rated nodes h fs)
 
-module _ (e : Exposure) (h : All Limits (e .nodes)) where
-  value-within : (nodes : List Node) → All Limits nodes
+module _ (e : Exposure) (h : All NodeLimits (e .nodes)) where
+  value-within : (nodes : List Node) → All NodeLimits nodes
       → Within (valueOn flowValue nodes (e .flows)) (valueOn flowExact nodes (e .flows)) (toleranceOf e)
   value-within nodes p = flows-within (rateAt nodes) (e .flows) (rated nodes p (e .flows))
 
@@ -78,7 +78,7 @@ module _ (e : Exposure) (h : All Limits (e .nodes)) where
       record {
         tolerance = refl;
         base = value-within (e .nodes) h;
-        loss = worst-within;
+        worstloss = worst-within;
         listed = first-largest e .within;
         shown = λ s k. let b : Below (lossAt flowExact e s) (lossAt flowExact e (worstAt flowValue e)) (2 * toleranceOf e + 2 * toleranceOf e) = shown-near s k in omega (int, b);
       }
@@ -86,22 +86,22 @@ module _ (e : Exposure) (h : All Limits (e .nodes)) where
 -- ---- a currency
 
 -- the nodes of every exposure are in their limits
-abbrev pub AllLimits : List Exposure → Type 0
-AllLimits [] = Unit {0}
-AllLimits (e ∷ es) = All Limits (e .nodes) × AllLimits es
+abbrev pub AllNodeLimits : List Exposure → Type 0
+AllNodeLimits [] = Unit {0}
+AllNodeLimits (e ∷ es) = All NodeLimits (e .nodes) × AllNodeLimits es
 
 module _ (currency : ℕ) where
-  sums-within : (es : List Exposure) → AllLimits es
-      → Within (sumIn currency (λ m. m .loss) (map curveMargin es)) (exactInitial currency es) (2 * tolerancesIn currency es)
+  sums-within : (es : List Exposure) → AllNodeLimits es
+      → Within (sumIn currency (λ m. m .worstloss) (map curveMargin es)) (exactInitial currency es) (2 * tolerancesIn currency es)
   unfolding sumIn exactInitial tolerancesIn curveMargin figuresAt
   sums-within [] h = omega (int, up-pos 0, down-pos 0)
   sums-within (e ∷ es) h = go (eqb (e .currency) currency) (sums-within es (h .1))
     where
-      go : (t : Bool) → Within (sumIn currency (λ m. m .loss) (map curveMargin es)) (exactInitial currency es) (2 * tolerancesIn currency es)
-          → Within (cond t (worstLoss flowValue e +ℤ sumIn currency (λ m. m .loss) (map curveMargin es)) (sumIn currency (λ m. m .loss) (map curveMargin es))) (cond t (exactWorst e +ℤ exactInitial currency es) (exactInitial currency es)) (2 * cond t (toleranceOf e + tolerancesIn currency es) (tolerancesIn currency es))
+      go : (t : Bool) → Within (sumIn currency (λ m. m .worstloss) (map curveMargin es)) (exactInitial currency es) (2 * tolerancesIn currency es)
+          → Within (cond t (worstLoss flowValue e +ℤ sumIn currency (λ m. m .worstloss) (map curveMargin es)) (sumIn currency (λ m. m .worstloss) (map curveMargin es))) (cond t (exactWorst e +ℤ exactInitial currency es) (exactInitial currency es)) (2 * cond t (toleranceOf e + tolerancesIn currency es) (tolerancesIn currency es))
       go true r = plus-within _ _ _ _ _ _ (worst-within e (h .0)) r
       go false r = r
 
-  pub initial-bounded : (es : List Exposure) → AllLimits es → InitialBounded currency es (currencyMargin currency (map curveMargin es) .initial)
+  pub initial-bounded : (es : List Exposure) → AllNodeLimits es → InitialBounded currency es (currencyMargin currency (map curveMargin es) .initial)
   unfolding currencyMargin
   initial-bounded es h = sums-within es h

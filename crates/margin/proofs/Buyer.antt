@@ -4,7 +4,7 @@ use Rattle.margin.specs.declared.CurveMargin.{CurveMargin}
 use Rattle.margin.specs.declared.CurrencyMargin.{CurrencyMargin}
 
 unfoldable pub buyerCurve : CurveMargin
-buyerCurve = record { base = pos 10000; loss = pos 30000; scenario = 2; currency = 1; tolerance = 1 }
+buyerCurve = record { base = pos 10000; worstloss = pos 30000; scenario = 2; currency = 1; tolerance = 1 }
 
 unfoldable pub buyerLira : CurrencyMargin
 buyerLira = record { initial = pos 30000; variation = pos 10000; total = negsuc 19999 }

@@ -67,44 +67,44 @@ module _ (p : Position) (ladder : List ℕ) (h : PositionLimits p ladder) where
       value-size e (position-fits p ladder h) (map (stressed (scenarioAt (p .components) s)) (e .nodes))
 
   -- an estimate is little larger than a value
-  pub estimate-size : (values : List ℤ) (reach : ℕ) → Estimates e values reach → (s : ℕ) → s < scenarioCount (p .components)
-      → natAbs (getD values s (pos 0)) ≤ mostFlows * unit + reach
-  estimate-size values reach k s m =
+  pub estimate-size : (values : List ℤ) (deviation : ℕ) → Estimates e values deviation → (s : ℕ) → s < scenarioCount (p .components)
+      → natAbs (getD values s (pos 0)) ≤ mostFlows * unit + deviation
+  estimate-size values deviation k s m =
       let cover = k .cover s m in
-      between-size _ (valueAt flowValue e s) (valueAt flowValue e (cover .place)) reach (mostFlows * unit) (k .below s m) (cover .near) (size s) (size (cover .place))
+      between-size _ (valueAt flowValue e s) (valueAt flowValue e (cover .place)) deviation (mostFlows * unit) (k .below s m) (cover .near) (size s) (size (cover .place))
 
 -- the first largest loss over those kept is the worst loss
-pub worst-is : (e : Exposure) (values : List ℤ) (reach m : ℕ) → Estimates e values reach → Least values (scenarioCount (e .components)) m → (w : Loss)
-    → WorstKept (lossAt flowValue e) values (limitOf (getD values m (pos 0)) reach) (scenarioCount (e .components)) w → w ≡ worstOf e
+pub worst-is : (e : Exposure) (values : List ℤ) (deviation m : ℕ) → Estimates e values deviation → Least values (scenarioCount (e .components)) m → (w : Loss)
+    → WorstKept (lossAt flowValue e) values (limitOf (getD values m (pos 0)) deviation) (scenarioCount (e .components)) w → w ≡ worstOf e
 unfolding worstAt lossAt
-worst-is e values reach m k least w h =
-    kept-worst (baseOf flowValue e) (valueAt flowValue e) values reach (scenarioCount (e .components)) (k .below) m least (k .cover m (least .within) .place) (k .cover m (least .within) .within) (k .cover m (least .within) .near) w h
+worst-is e values deviation m k least w h =
+    kept-worst (baseOf flowValue e) (valueAt flowValue e) values deviation (scenarioCount (e .components)) (k .below) m least (k .cover m (least .within) .place) (k .cover m (least .within) .within) (k .cover m (least .within) .near) w h
 
 -- ---- the limit
 
-module _ (reach : ℕ) (small : reach ≤ mostFlows * 200000) where
-  twice-is : pos 2 *ℤ cast reach ≡ pos (2 * reach)
-  twice-is = rw (cast-is reach (omega arith)) refl
+module _ (deviation : ℕ) (small : deviation ≤ mostFlows * 200000) where
+  twice-is : pos 2 *ℤ cast deviation ≡ pos (2 * deviation)
+  twice-is = rw (cast-is deviation (omega arith)) refl
 
-  pub twice-fits : SFits w64 (pos 2 *ℤ cast reach)
-  twice-fits = rw twice-is (fits (pos (2 * reach)) (omega arith))
+  pub twice-fits : SFits w64 (pos 2 *ℤ cast deviation)
+  twice-fits = rw twice-is (fits (pos (2 * deviation)) (omega arith))
 
   -- v is the least estimate
-  module _ (v : ℤ) (size : natAbs v ≤ mostFlows * unit + reach) where
-    limit-size : natAbs (v +ℤ pos (2 * reach)) < 2 ^ 63
+  module _ (v : ℤ) (size : natAbs v ≤ mostFlows * unit + deviation) where
+    limit-size : natAbs (v +ℤ pos (2 * deviation)) < 2 ^ 63
     unfolding unit
-    limit-size = omega (arith, abs-add v (pos (2 * reach)))
+    limit-size = omega (arith, abs-add v (pos (2 * deviation)))
 
     value-back : read v ≡ v
     unfolding unit
     value-back = read-is v (omega arith)
 
-    limit-is : read v +ℤ read (pos 2 *ℤ cast reach) ≡ v +ℤ pos (2 * reach)
-    limit-is = rw (twice-is, value-back, read-is (pos (2 * reach)) (omega arith)) refl
+    limit-is : read v +ℤ read (pos 2 *ℤ cast deviation) ≡ v +ℤ pos (2 * deviation)
+    limit-is = rw (twice-is, value-back, read-is (pos (2 * deviation)) (omega arith)) refl
 
-    pub limit-fits : SFits w64 (read v +ℤ read (pos 2 *ℤ cast reach))
-    limit-fits = rw limit-is (fits (v +ℤ pos (2 * reach)) limit-size)
+    pub limit-fits : SFits w64 (read v +ℤ read (pos 2 *ℤ cast deviation))
+    limit-fits = rw limit-is (fits (v +ℤ pos (2 * deviation)) limit-size)
 
-    pub limit-read : read (read v +ℤ read (pos 2 *ℤ cast reach)) ≡ limitOf v reach
+    pub limit-read : read (read v +ℤ read (pos 2 *ℤ cast deviation)) ≡ limitOf v deviation
     unfolding slackOf
-    limit-read = rw limit-is (read-is (v +ℤ pos (2 * reach)) limit-size)
+    limit-read = rw limit-is (read-is (v +ℤ pos (2 * deviation)) limit-size)

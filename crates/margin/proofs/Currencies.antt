@@ -35,30 +35,30 @@ module _ (currency : ℕ) (t : Sums) (m : CurveMargin) where
   unfolding plusCurve
   plus-other n = rw (ne-eqb (m .currency) currency n)
 
-  pub plus-same : m .currency ≡ currency → plusCurve currency t m ≡ record { initial = t .initial +ℤ m .loss; variation = t .variation +ℤ m .base }
+  pub plus-same : m .currency ≡ currency → plusCurve currency t m ≡ record { initial = t .initial +ℤ m .worstloss; variation = t .variation +ℤ m .base }
   unfolding plusCurve
   plus-same e = rw (eq-eqb (m .currency) currency e)
 
 module _ (t : Sums) (m : CurveMargin) (h : SumsLimits 7 t × MarginLimits m) where
-  pub initial-size : natAbs (t .initial +ℤ m .loss) < 2 ^ 63
+  pub initial-size : natAbs (t .initial +ℤ m .worstloss) < 2 ^ 63
   unfolding unit
-  initial-size = omega (arith, abs-add (t .initial) (m .loss), h .0 .initial, h .1 .loss)
+  initial-size = omega (arith, abs-add (t .initial) (m .worstloss), h .0 .initial, h .1 .worstloss)
 
   pub variation-size : natAbs (t .variation +ℤ m .base) < 2 ^ 63
   unfolding unit
   variation-size = omega (arith, abs-add (t .variation) (m .base), h .0 .variation, h .1 .base)
 
-  pub code-initial : read (t .initial) +ℤ read (m .loss) ≡ t .initial +ℤ m .loss
+  pub code-initial : read (t .initial) +ℤ read (m .worstloss) ≡ t .initial +ℤ m .worstloss
   unfolding unit
-  code-initial = rw (read-is (t .initial) (omega (arith, h .0 .initial)), read-is (m .loss) (omega (arith, h .1 .loss))) refl
+  code-initial = rw (read-is (t .initial) (omega (arith, h .0 .initial)), read-is (m .worstloss) (omega (arith, h .1 .worstloss))) refl
 
   pub code-variation : read (t .variation) +ℤ read (m .base) ≡ t .variation +ℤ m .base
   unfolding unit
   code-variation = rw (read-is (t .variation) (omega (arith, h .0 .variation)), read-is (m .base) (omega (arith, h .1 .base))) refl
 
-  pub code-sums : _≡_ {A = Sums} (record { initial = read (read (t .initial) +ℤ read (m .loss)); variation = read (read (t .variation) +ℤ read (m .base)) }) (record { initial = t .initial +ℤ m .loss; variation = t .variation +ℤ m .base })
+  pub code-sums : _≡_ {A = Sums} (record { initial = read (read (t .initial) +ℤ read (m .worstloss)); variation = read (read (t .variation) +ℤ read (m .base)) }) (record { initial = t .initial +ℤ m .worstloss; variation = t .variation +ℤ m .base })
   code-sums =
-      rw (code-initial, code-variation, read-is (t .initial +ℤ m .loss) initial-size, read-is (t .variation +ℤ m .base) variation-size) refl
+      rw (code-initial, code-variation, read-is (t .initial +ℤ m .worstloss) initial-size, read-is (t .variation +ℤ m .base) variation-size) refl
 
 -- ---- at the end: the total
 
@@ -86,7 +86,7 @@ module _ (t : Sums) (h : SumsLimits 8 t) where
 pub record Summed (currency : ℕ) (ms : List CurveMargin) (n : ℕ) (t : Sums) (i : ℕ) : Type 0 where
   pub most : i ≤ n
   pub limits : SumsLimits i t
-  pub initial : t .initial +ℤ sumIn currency (λ m. m .loss) (drop i (take n ms)) ≡ sumIn currency (λ m. m .loss) (take n ms)
+  pub initial : t .initial +ℤ sumIn currency (λ m. m .worstloss) (drop i (take n ms)) ≡ sumIn currency (λ m. m .worstloss) (take n ms)
   pub variation : t .variation +ℤ sumIn currency (λ m. m .base) (drop i (take n ms)) ≡ sumIn currency (λ m. m .base) (take n ms)
 
 abbrev pub noSums : Sums
@@ -96,10 +96,10 @@ limits-next : (currency n : ℕ) (t : Sums) (m : CurveMargin) → SumsLimits n t
 unfolding plusCurve
 limits-next currency n t m h k = go (eqb (m .currency) currency)
   where
-    go : (b : Bool) → SumsLimits (n + 1) (cond b (record { initial = t .initial +ℤ m .loss; variation = t .variation +ℤ m .base }) t)
+    go : (b : Bool) → SumsLimits (n + 1) (cond b (record { initial = t .initial +ℤ m .worstloss; variation = t .variation +ℤ m .base }) t)
     go true =
         record {
-          initial = omega (arith, abs-add (t .initial) (m .loss), h .initial, k .loss);
+          initial = omega (arith, abs-add (t .initial) (m .worstloss), h .initial, k .worstloss);
           variation = omega (arith, abs-add (t .variation) (m .base), h .variation, k .base);
         }
     go false = record { initial = omega (arith, h .initial); variation = omega (arith, h .variation) }
@@ -120,7 +120,7 @@ module _ (currency : ℕ) (ms : List CurveMargin) (n : ℕ) where
       record {
         most = omega arith;
         limits = record { initial = omega arith; variation = omega arith };
-        initial = +ℤ-idl (sumIn currency (λ m. m .loss) (take n ms));
+        initial = +ℤ-idl (sumIn currency (λ m. m .worstloss) (take n ms));
         variation = +ℤ-idl (sumIn currency (λ m. m .base) (take n ms));
       }
 
@@ -140,19 +140,19 @@ module _ (currency : ℕ) (ms : List CurveMargin) (n : ℕ) where
         record {
           most = omega arith;
           limits = limits-next currency i t m (h .limits) (p .each i l);
-          initial = by-test (λ (s : Sums). s .initial) (λ (m : CurveMargin). m .loss) refl ∙ ap (λ (r : List CurveMargin). t .initial +ℤ sumIn currency (λ m. m .loss) r) (sym (next l)) ∙ h .initial;
+          initial = by-test (λ (s : Sums). s .initial) (λ (m : CurveMargin). m .worstloss) refl ∙ ap (λ (r : List CurveMargin). t .initial +ℤ sumIn currency (λ m. m .worstloss) r) (sym (next l)) ∙ h .initial;
           variation = by-test (λ (s : Sums). s .variation) (λ (m : CurveMargin). m .base) refl ∙ ap (λ (r : List CurveMargin). t .variation +ℤ sumIn currency (λ m. m .base) r) (sym (next l)) ∙ h .variation;
         }
       where
         by-test : (part : Sums → ℤ) (figure : CurveMargin → ℤ)
-            → part (record { initial = t .initial +ℤ getD ms i noCurve .loss; variation = t .variation +ℤ getD ms i noCurve .base }) ≡ part t +ℤ figure (getD ms i noCurve)
-            → part (cond (eqb (getD ms i noCurve .currency) currency) (record { initial = t .initial +ℤ getD ms i noCurve .loss; variation = t .variation +ℤ getD ms i noCurve .base }) t) +ℤ sumIn currency figure (drop (i + 1) (take n ms)) ≡ part t +ℤ sumIn currency figure (getD ms i noCurve ∷ drop (i + 1) (take n ms))
+            → part (record { initial = t .initial +ℤ getD ms i noCurve .worstloss; variation = t .variation +ℤ getD ms i noCurve .base }) ≡ part t +ℤ figure (getD ms i noCurve)
+            → part (cond (eqb (getD ms i noCurve .currency) currency) (record { initial = t .initial +ℤ getD ms i noCurve .worstloss; variation = t .variation +ℤ getD ms i noCurve .base }) t) +ℤ sumIn currency figure (drop (i + 1) (take n ms)) ≡ part t +ℤ sumIn currency figure (getD ms i noCurve ∷ drop (i + 1) (take n ms))
         by-test part figure e =
             ap (λ (z : ℤ). z +ℤ sumIn currency figure (drop (i + 1) (take n ms))) (inside (eqb (getD ms i noCurve .currency) currency))
             ∙ sum-next currency figure (part t) (getD ms i noCurve) (drop (i + 1) (take n ms))
           where
             inside : (b : Bool)
-                → part (cond b (record { initial = t .initial +ℤ getD ms i noCurve .loss; variation = t .variation +ℤ getD ms i noCurve .base }) t) ≡ cond b (part t +ℤ figure (getD ms i noCurve)) (part t)
+                → part (cond b (record { initial = t .initial +ℤ getD ms i noCurve .worstloss; variation = t .variation +ℤ getD ms i noCurve .base }) t) ≡ cond b (part t +ℤ figure (getD ms i noCurve)) (part t)
             inside true = e
             inside false = refl
 
@@ -165,9 +165,9 @@ module _ (currency : ℕ) (ms : List CurveMargin) (n : ℕ) where
       pub summed-all : record { initial = t .initial; variation = t .variation; total = t .variation -ℤ t .initial } ≡ currencyMargin currency (take n ms)
       unfolding currencyMargin sumIn
       summed-all =
-          let e : t .initial ≡ sumIn currency (λ m. m .loss) (take n ms) =
-          sym (+ℤ-idr (t .initial)) ∙ ap (λ (r : List CurveMargin). t .initial +ℤ sumIn currency (λ m. m .loss) r) (sym (drop-end ms n i l)) ∙ h .initial in
+          let e : t .initial ≡ sumIn currency (λ m. m .worstloss) (take n ms) =
+          sym (+ℤ-idr (t .initial)) ∙ ap (λ (r : List CurveMargin). t .initial +ℤ sumIn currency (λ m. m .worstloss) r) (sym (drop-end ms n i l)) ∙ h .initial in
           let f : t .variation ≡ sumIn currency (λ m. m .base) (take n ms) =
           sym (+ℤ-idr (t .variation)) ∙ ap (λ (r : List CurveMargin). t .variation +ℤ sumIn currency (λ m. m .base) r) (sym (drop-end ms n i l)) ∙ h .variation in
           ap (λ (z : ℤ). record { initial = z; variation = t .variation; total = t .variation -ℤ z }) e
-          ∙ ap (λ (z : ℤ). record { initial = sumIn currency (λ m. m .loss) (take n ms); variation = z; total = z -ℤ sumIn currency (λ m. m .loss) (take n ms) }) f
+          ∙ ap (λ (z : ℤ). record { initial = sumIn currency (λ m. m .worstloss) (take n ms); variation = z; total = z -ℤ sumIn currency (λ m. m .worstloss) (take n ms) }) f

@@ -21,7 +21,7 @@ use Rattle.curve.specs.declared.Node.{Node}
 use Rattle.curve.specs.declared.Curve.{Curve}
 use Rattle.curve.specs.declared.Scenario.{Scenario}
 use Rattle.curve.specs.Rates.{nodesOf}
-use Rattle.curve.specs.Limits.{Proper, zeroNode}
+use Rattle.curve.specs.Limits.{ProperCurve, zeroNode}
 use Rattle.curve.specs.Stress.{stressed, stressedCurve}
 use Rattle.curve.proofs.Rates.{length-nodes}
 use Rattle.margin.specs.declared.losses.Loss.{Loss}
@@ -31,20 +31,20 @@ use Rattle.margin.specs.Choice.{slackOf, limitOf, Kept, FirstKept, Worst
 
 -- ---- discarding
 
-pub not-above : (least : ℤ) (reach : ℕ) → least ≤ℤ limitOf least reach
-not-above least reach = omega (int, plus least (pos (slackOf reach)), up-pos (slackOf reach), down-pos (slackOf reach))
+pub not-above : (least : ℤ) (deviation : ℕ) → least ≤ℤ limitOf least deviation
+not-above least deviation = omega (int, plus least (pos (slackOf deviation)), up-pos (slackOf deviation), down-pos (slackOf deviation))
 
--- both estimates may be off by the reach
-both-off : (reach : ℕ) → reach + reach ≤ slackOf reach
+-- both estimates may be off by the deviation
+both-off : (deviation : ℕ) → deviation + deviation ≤ slackOf deviation
 unfolding slackOf
-both-off reach = omega arith
+both-off deviation = omega arith
 
-module _ (base : ℤ) (value : ℕ → ℤ) (estimates : List ℤ) (reach n : ℕ) (below : (s : ℕ) → s < n → Below (getD estimates s (pos 0)) (value s) reach) (m : ℕ) (least : Least estimates n m) (q : ℕ) (within : q < n) (near : Below (value q) (getD estimates m (pos 0)) reach) where
+module _ (base : ℤ) (value : ℕ → ℤ) (estimates : List ℤ) (deviation n : ℕ) (below : (s : ℕ) → s < n → Below (getD estimates s (pos 0)) (value s) deviation) (m : ℕ) (least : Least estimates n m) (q : ℕ) (within : q < n) (near : Below (value q) (getD estimates m (pos 0)) deviation) where
   abbrev loss : ℕ → ℤ
   loss s = base -ℤ value s
 
   abbrev limit : ℤ
-  limit = limitOf (getD estimates m (pos 0)) reach
+  limit = limitOf (getD estimates m (pos 0)) deviation
 
   -- a scenario above the limit loses less than the one that the least estimate covers
   pub loses-less : (s : ℕ) → s < n → limit <ℤ getD estimates s (pos 0) → loss s <ℤ loss q
@@ -54,10 +54,10 @@ module _ (base : ℤ) (value : ℕ → ℤ) (estimates : List ℤ) (reach n : �
         int,
         below s h,
         near,
-        both-off reach,
-        plus (getD estimates m (pos 0)) (pos (slackOf reach)),
-        up-pos (slackOf reach),
-        down-pos (slackOf reach),
+        both-off deviation,
+        plus (getD estimates m (pos 0)) (pos (slackOf deviation)),
+        up-pos (slackOf deviation),
+        down-pos (slackOf deviation),
         plus base (negℤ (value s)),
         plus base (negℤ (value q)),
         up-neg (value s),
@@ -69,7 +69,7 @@ module _ (base : ℤ) (value : ℕ → ℤ) (estimates : List ℤ) (reach n : �
   covered-kept : Kept estimates limit q
   covered-kept =
       omega
-      (int, below q within, near, both-off reach, plus (getD estimates m (pos 0)) (pos (slackOf reach)), up-pos (slackOf reach), down-pos (slackOf reach))
+      (int, below q within, near, both-off deviation, plus (getD estimates m (pos 0)) (pos (slackOf deviation)), up-pos (slackOf deviation), down-pos (slackOf deviation))
 
   -- so the first largest loss over those that are kept is the first largest over all
   pub kept-leads : (w : Loss) → WorstKept loss estimates limit n w → Leads loss (w .scenario) n
@@ -133,7 +133,7 @@ module _ (loss : ℕ → ℤ) (values : List ℤ) (limit : ℤ) where
 same-node : (a b : Scenario) (n : Node) → stressed a n .rate ≡ stressed b n .rate → stressed a n ≡ stressed b n
 same-node a b n e = ap (λ r. record { day = n .day; rate = r; first = n .first; second = n .second; third = n .third }) e
 
-module _ (a b : Scenario) (c : Curve) (p : Proper c) where
+module _ (a b : Scenario) (c : Curve) (p : ProperCurve c) where
   pub same-stressed : sameRates (stressedCurve a c) (stressedCurve b c) ≡ true → map (stressed a) (nodesOf c) ≡ map (stressed b) (nodesOf c)
   unfolding sameRates stressedCurve
   same-stressed h =

@@ -15,13 +15,13 @@ use Rattle.curve.specs.Scenarios.{scenarioAt}
 use Rattle.curve.specs.Stress.{stressed}
 use Rattle.curve.proofs.Rates.{rate-limit, each-limits}
 use Rattle.curve.proofs.Stress.{each-stressed}
-use Rattle.netting.specs.Netting.{noNets, netted, flowReach, OnDays}
+use Rattle.netting.specs.Netting.{noNets, netted, flowDeviation, OnDays}
 use Rattle.netting.proofs.NettedValue.{netted-within}
 use Rattle.estimate.specs.Values.{scenarioValue}
 use Rattle.ladder.specs.Ladder.{ladderFlows}
 use Rattle.ladder.specs.Totals.{AllFlowLimits}
 use Rattle.ladder.proofs.LadderFlows.{ladder-limits}
-use Rattle.ladder.proofs.Netting.{reach-most}
+use Rattle.ladder.proofs.Netting.{deviation-most}
 use Rattle.screening.specs.Screening.{Screened}
 use Rattle.ladder.specs.declared.Position.{Position}
 use Rattle.ladder.specs.Exposure.{Exposure, exposureOf, PositionLimits}
@@ -42,20 +42,20 @@ module _ (p : Position) (ladder : List ℕ) (h : PositionLimits p ladder) where
   limits : AllFlowLimits fs
   limits = ladder-limits (p .id) ladder (p .schedules) (h .schedules)
 
-  module _ (nets values : List ℤ) (reach : ℕ) (en : nets ≡ netted fs noNets) (er : reach ≡ sum flowReach fs) where
-    near : (s : ℕ) → Within (scenarioValue (p .curve) (p .components) nets s) (valueAt flowValue e s) reach
+  module _ (nets values : List ℤ) (deviation : ℕ) (en : nets ≡ netted fs noNets) (er : deviation ≡ sum flowDeviation fs) where
+    near : (s : ℕ) → Within (scenarioValue (p .curve) (p .components) nets s) (valueAt flowValue e s) deviation
     near s =
         let stress = map (stressed (scenarioAt (p .components) s)) (nodesOf (p .curve)) in
         rw (en, er)
         (netted-within (rateAt stress) (λ d. rate-limit stress d (each-stressed (scenarioAt (p .components) s) (nodesOf (p .curve)) (each-limits (p .curve) (h .proper)))) fs (dated fs limits))
 
-    under : (a b c : ℤ) → a ≤ℤ b → Below b c reach → Below a c reach
+    under : (a b c : ℤ) → a ≤ℤ b → Below b c deviation → Below a c deviation
     under a b c l k = omega (int, l, k)
 
-    over : (a b c : ℤ) → Below a b reach → b ≤ℤ c → Below a c reach
+    over : (a b c : ℤ) → Below a b deviation → b ≤ℤ c → Below a c deviation
     over a b c k l = omega (int, l, k)
 
-    pub estimates : length values ≡ 343 → Screened (p .curve) (p .components) nets values → Estimates e values reach
+    pub estimates : length values ≡ 343 → Screened (p .curve) (p .components) nets values → Estimates e values deviation
     estimates places screened =
         record {
           places = places;
@@ -64,5 +64,5 @@ module _ (p : Position) (ladder : List ℕ) (h : PositionLimits p ladder) where
               λ s k.
               let c = screened .cover s k in
               record { place = c .place; within = c .within; near = over _ _ _ (near (c .place) .high) (c .most) };
-          small = rw er (le-trans (reach-most fs limits) (mul-le-mul-right 200000 (h .schedules .few)));
+          small = rw er (le-trans (deviation-most fs limits) (mul-le-mul-right 200000 (h .schedules .few)));
         }

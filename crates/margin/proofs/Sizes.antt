@@ -26,7 +26,7 @@ module _ (e : Exposure) (h : FlowsFit e) where
 
   pub figures-limits : (s : ℕ) → MarginLimits (figuresAt e s)
   unfolding figuresAt
-  figures-limits s = record { base = value-size e h (e .nodes); loss = loss-size s }
+  figures-limits s = record { base = value-size e h (e .nodes); worstloss = loss-size s }
 
   pub margin-limits : MarginLimits (curveMargin e)
   unfolding curveMargin

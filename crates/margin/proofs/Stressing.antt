@@ -72,6 +72,6 @@ module _ (p : Position) (ladder : List ℕ) (h : PositionLimits p ladder) where
     base-is = base-read p ladder h (t .sum) (ap (λ (t : Total). t .sum) et)
 
     pub figures-are : (w : Loss) (s : ℕ) → w ≡ lossOf e s
-        → record { base = read (t .sum); loss = read (w .amount); scenario = w .scenario; currency = p .currency; tolerance = t .tolerance } ≡ figuresAt e s
+        → record { base = read (t .sum); worstloss = read (w .amount); scenario = w .scenario; currency = p .currency; tolerance = t .tolerance } ≡ figuresAt e s
     unfolding figuresAt
     figures-are w s ew = rw (base-is, loss-read s (w .amount) (ap (λ (w : Loss). w .amount) ew)) (cc (ew, et))

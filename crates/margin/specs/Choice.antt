@@ -18,26 +18,26 @@ use Rattle.margin.specs.Losses.{valueAt}
 use Rattle.ladder.specs.Totals.{mostFlows}
 use Rattle.margin.specs.declared.losses.Loss.{Loss}
 
--- some scenario's value is at most a number, but for the reach
-pub record Covered (e : Exposure) (v : ℤ) (reach : ℕ) : Type 0 where
+-- some scenario's value is at most a number, but for the deviation
+pub record SomeValueAtMost (e : Exposure) (v : ℤ) (deviation : ℕ) : Type 0 where
   pub place : ℕ
   pub within : place < scenarioCount (e .components)
-  pub near : Below (valueAt flowValue e place) v reach
+  pub near : Below (valueAt flowValue e place) v deviation
 
--- an estimate for each scenario: its value is at least that, and some scenario's value is at most that, but for a reach that is the same for all
-pub record Estimates (e : Exposure) (values : List ℤ) (reach : ℕ) : Type 0 where
+-- an estimate for each scenario: its value is at least that, and some scenario's value is at most that, but for a deviation that is the same for all
+pub record Estimates (e : Exposure) (values : List ℤ) (deviation : ℕ) : Type 0 where
   pub places : length values ≡ 343
-  pub below : (s : ℕ) → s < scenarioCount (e .components) → Below (getD values s (pos 0)) (valueAt flowValue e s) reach
-  pub cover : (s : ℕ) → s < scenarioCount (e .components) → Covered e (getD values s (pos 0)) reach
-  pub small : reach ≤ mostFlows * 200000
+  pub below : (s : ℕ) → s < scenarioCount (e .components) → Below (getD values s (pos 0)) (valueAt flowValue e s) deviation
+  pub cover : (s : ℕ) → s < scenarioCount (e .components) → SomeValueAtMost e (getD values s (pos 0)) deviation
+  pub small : deviation ≤ mostFlows * 200000
 
 -- what two estimates may be off together
 unfoldable pub slackOf : ℕ → ℕ
-slackOf reach = 2 * reach
+slackOf deviation = 2 * deviation
 
 -- above the least estimate by more than the slack, a scenario cannot be the worst
 abbrev pub limitOf : ℤ → ℕ → ℤ
-limitOf least reach = least +ℤ pos (slackOf reach)
+limitOf least deviation = least +ℤ pos (slackOf deviation)
 
 -- a scenario is kept where its estimate is at most a limit
 abbrev pub Kept : List ℤ → ℤ → ℕ → Type 0

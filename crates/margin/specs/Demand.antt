@@ -34,7 +34,7 @@ pub record CurveBounded (e : Exposure) (m : CurveMargin) : Type 0 where
   -- "The base value shown differs from the exact one by at most the curve's tolerance."
   pub base : Within (m .base) (exactBase e) (m .tolerance)
   -- "The worst loss shown differs from the exact worst loss over all listed scenarios by at most twice that tolerance."
-  pub loss : Within (m .loss) (exactWorst e) (2 * m .tolerance)
+  pub worstloss : Within (m .worstloss) (exactWorst e) (2 * m .tolerance)
   -- the scenario shown is a listed one
   pub listed : m .scenario < scenarioCount (e .components)
   -- "Every listed scenario has an exact loss of at most the exact loss of the scenario shown plus four tolerances."

@@ -21,7 +21,7 @@ unfoldable pub figuresAt : Exposure → ℕ → CurveMargin
 figuresAt e s =
     record {
       base = baseOf flowValue e;
-      loss = lossAt flowValue e s;
+      worstloss = lossAt flowValue e s;
       scenario = s;
       currency = e .currency;
       tolerance = toleranceOf e;
@@ -40,7 +40,7 @@ sumIn currency figure (m ∷ ms) =
 -- "initial is the sum of its curves' worst losses, variation the sum of base values, total is variation minus initial"
 unfoldable pub currencyMargin : ℕ → List CurveMargin → CurrencyMargin
 currencyMargin currency ms =
-    let initial : ℤ = sumIn currency (λ m. m .loss) ms in
+    let initial : ℤ = sumIn currency (λ m. m .worstloss) ms in
     let variation : ℤ = sumIn currency (λ m. m .base) ms in
     record { initial = initial; variation = variation; total = variation -ℤ initial }
 
@@ -51,7 +51,7 @@ hasCurrency currency (m ∷ ms) = eqb (m .currency) currency || hasCurrency curr
 
 -- the figures of a place with no curve, and of a currency that no curve has
 abbrev pub noCurve : CurveMargin
-noCurve = record { base = pos 0; loss = pos 0; scenario = 0; currency = 0; tolerance = 0 }
+noCurve = record { base = pos 0; worstloss = pos 0; scenario = 0; currency = 0; tolerance = 0 }
 
 abbrev pub noCurrency : CurrencyMargin
 noCurrency = record { initial = pos 0; variation = pos 0; total = pos 0 }
@@ -72,12 +72,12 @@ marginOf account es = assembled account (map curveMargin es)
 -- a curve's figures of at most so many flows: what keeps the sums over eight curves in 64 bits
 pub record MarginLimits (m : CurveMargin) : Type 0 where
   pub base : natAbs (m .base) ≤ mostFlows * unit
-  pub loss : natAbs (m .loss) ≤ 2 * (mostFlows * unit)
+  pub worstloss : natAbs (m .worstloss) ≤ 2 * (mostFlows * unit)
 
 -- what currency_margin adds up, with one curve more
 unfoldable pub plusCurve : ℕ → Sums → CurveMargin → Sums
 plusCurve currency t m =
-    cond (eqb (m .currency) currency) (record { initial = t .initial +ℤ m .loss; variation = t .variation +ℤ m .base }) t
+    cond (eqb (m .currency) currency) (record { initial = t .initial +ℤ m .worstloss; variation = t .variation +ℤ m .base }) t
 
 -- the sums of at most n curves
 pub record SumsLimits (n : ℕ) (t : Sums) : Type 0 where

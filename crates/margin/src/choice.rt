@@ -2,7 +2,7 @@
 ghost use mathlib.Core.Path.{_≡_};
 ghost use Prim.Native.Nat.{_*_, _≤_, _<_};
 ghost use lib.ListN.{length};
-ghost use Rattle.curve.specs.Limits.{Proper};
+ghost use Rattle.curve.specs.Limits.{ProperCurve};
 ghost use Rattle.curve.specs.Scenarios.{scenarioCount};
 ghost use Rattle.discount.specs.Flows.{flowValue};
 ghost use Rattle.ladder.specs.Exposure.{exposureOf};
@@ -35,7 +35,7 @@ fn first_kept(values: &[i64], limit: i64, n: u64) -> u64
 
 // Whether the nodes of two curves have the same rates.
 fn same_rates(a: Curve, b: Curve) -> bool
-    requires { ⌜ Proper a × Proper b × (a .count ≡ b .count) ⌝ }
+    requires { ⌜ ProperCurve a × ProperCurve b × (a .count ≡ b .count) ⌝ }
     ensures { λ r. ⌜ r ≡ sameRates a b ⌝ }
 {
     let n = a.count;
@@ -100,15 +100,15 @@ fn worst_estimated(
     ladder: &[u64],
     tables: &[u64],
     values: &[i64],
-    reach: u64,
+    deviation: u64,
 ) -> Loss
-    requires { ⌜ Based valued (now ladder) (now tables) × Estimates (exposureOf (valued .position) (now ladder)) (now values) reach ⌝ }
+    requires { ⌜ Based valued (now ladder) (now tables) × Estimates (exposureOf (valued .position) (now ladder)) (now values) deviation ⌝ }
     ensures { λ r. ⌜ r ≡ worstOf (exposureOf (valued .position) (now (ladder .entry))) ⌝ }
 {
     let position = valued.position;
     let components = position.components;
     let least = least_of(values, components.scenario_count());
-    let limit = values[least as usize] + 2 * reach as i64;
+    let limit = values[least as usize] + 2 * deviation as i64;
     worst_kept(valued, ladder, tables, values, limit)
 }
 
@@ -118,6 +118,6 @@ pub fn worst_of(valued: ValuedPosition, ladder: &[u64], tables: &[u64]) -> Loss
     ensures { λ r. ⌜ r ≡ worstOf (exposureOf (valued .position) (now (ladder .entry))) ⌝ }
 {
     let mut values = [0i64; 343];
-    let reach = estimate(valued.position, ladder, tables, &mut values);
-    worst_estimated(valued, ladder, tables, &values, reach)
+    let deviation = estimate(valued.position, ladder, tables, &mut values);
+    worst_estimated(valued, ladder, tables, &values, deviation)
 }

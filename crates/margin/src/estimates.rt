@@ -5,8 +5,8 @@ ghost use Rattle.logarithm.specs.Logarithms.{Tables};
 ghost use Rattle.ladder.specs.Exposure.{exposureOf, PositionLimits};
 ghost use Rattle.margin.specs.Choice.{Estimates};
 use ladder::Position;
+use ladder::net::deviation_of;
 use ladder::net::net_days;
-use ladder::net::reach_of;
 use screening::screen::screen;
 
 // An estimate of each scenario's value. Answers how far each may be off.
@@ -17,5 +17,5 @@ pub fn estimate(position: Position, ladder: &[u64], tables: &[u64], values: &mut
     let mut nets = [0i64; 10951];
     net_days(position.id, ladder, position.schedules, &mut nets);
     screen(position.curve, position.components, &nets, tables, values);
-    reach_of(position.id, ladder, position.schedules)
+    deviation_of(position.id, ladder, position.schedules)
 }

@@ -16,7 +16,7 @@ pub struct ValuedPosition {
 // The figures of a curve.
 pub struct CurveMargin {
     pub base: i64,
-    pub loss: i64,
+    pub worstloss: i64,
     pub scenario: u64,
     pub currency: u64,
     pub tolerance: u64,

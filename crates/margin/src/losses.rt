@@ -1,7 +1,7 @@
 // The losses of a curve's scenarios, in full.
 ghost use mathlib.Core.Path.{_≡_};
 ghost use Prim.Native.Nat.{_<_};
-ghost use Rattle.curve.specs.Limits.{Proper, ProperComponents};
+ghost use Rattle.curve.specs.Limits.{ProperCurve, ProperComponents};
 ghost use Rattle.curve.specs.Scenarios.{scenarioCount, scenarioAt};
 ghost use Rattle.curve.specs.Stress.{stressedCurve};
 ghost use Rattle.discount.specs.Flows.{flowValue};
@@ -16,7 +16,7 @@ use ladder::valuing::value_of;
 
 // The curve of a position in scenario s.
 pub fn curve_in(position: Position, s: u64) -> Curve
-    requires { ⌜ Proper (position .curve) × ProperComponents (position .components) × (s < scenarioCount (position .components)) ⌝ }
+    requires { ⌜ ProperCurve (position .curve) × ProperComponents (position .components) × (s < scenarioCount (position .components)) ⌝ }
     ensures { λ r. ⌜ r ≡ stressedCurve (scenarioAt (position .components) s) (position .curve) ⌝ }
 {
     let curve = position.curve;

@@ -37,7 +37,7 @@ pub fn curve_margin(position: Position, ladder: &[u64]) -> CurveMargin
     let loss = worst.amount;
     CurveMargin {
         base: base,
-        loss: loss,
+        worstloss: loss,
         scenario: worst.scenario,
         currency: position.currency,
         tolerance: total.tolerance,
@@ -60,7 +60,7 @@ impl Sums {
             return self;
         }
         Sums {
-            initial: self.initial + m.loss,
+            initial: self.initial + m.worstloss,
             variation: self.variation + m.base,
         }
     }
@@ -110,7 +110,7 @@ pub fn no_curve() -> CurveMargin
 {
     CurveMargin {
         base: 0,
-        loss: 0,
+        worstloss: 0,
         scenario: 0,
         currency: 0,
         tolerance: 0,

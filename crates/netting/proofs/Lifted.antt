@@ -7,7 +7,7 @@ use lib.Dec.{lit<}
 use lib.IntN.{ℤ, pos, negsuc, negℤ, natAbs, _+ℤ_, _-ℤ_, +ℤ-comm, pos-+ℤ-pos}
 use Rattle.laws.proofs.Powers.{sub-mul}
 use Rattle.laws.proofs.Signed.{sub-up, sub-down}
-use Rattle.sieve.specs.Cheap.{whole}
+use Rattle.cheap.specs.Cheap.{whole}
 use Rattle.netting.specs.Netting.{worth}
 
 -- 2 ^ 58, and how often 2 ^ 31 goes into it

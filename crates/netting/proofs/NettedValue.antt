@@ -1,4 +1,4 @@
--- The value of netted flows at cheap factors is within the flows' reach of their present values.
+-- The value of netted flows at cheap factors is within the flows' deviation of their present values.
 use mathlib.Core.Bool.{Bool}
 use mathlib.Core.List.{List, [], _∷_}
 use Prim.Native.Nat.{ℕ, _+_, _*_, _≤_, _<_}
@@ -16,10 +16,10 @@ use Rattle.decimal.proofs.HalfUp.{discounted-low, discounted-high}
 use Rattle.discount.specs.Discount.{factor, presentValue}
 use Rattle.discount.specs.declared.Flow.{Flow}
 use Rattle.discount.specs.Flows.{signed, total, sum, flowValue}
-use Rattle.sieve.specs.Cheap.{whole, cheapFactor, distance}
-use Rattle.sieve.proofs.Powers.{whole-pos}
-use Rattle.sieve.proofs.Bound.{cheap-near}
-use Rattle.netting.specs.Netting.{noNets, netOn, netWith, netted, listed, worth, netValue, cheapOn, distanceUp, moved, reach, flowReach, OnDays}
+use Rattle.cheap.specs.Cheap.{whole, cheapFactor, distance}
+use Rattle.cheap.proofs.Powers.{whole-pos}
+use Rattle.cheap.proofs.Bound.{cheap-near}
+use Rattle.netting.specs.Netting.{noNets, netOn, netWith, netted, listed, worth, netValue, cheapOn, distanceUp, moved, deviation, flowDeviation, OnDays}
 use Rattle.netting.proofs.Worths.{worth-more}
 use Rattle.netting.proofs.DaySums.{daysWorth, listed-worth, none-days, days-changed}
 
@@ -48,12 +48,12 @@ module _ (a r days : ℕ) (l : r ≤ 1000000) (k : days ≤ 10950) where
   unfolding moved
   covered = omega arith
 
-  room : a * distanceUp days * 2 + 3 * whole < (reach a days + 1) * (whole * 2)
-  unfolding reach
+  room : a * distanceUp days * 2 + 3 * whole < (deviation a days + 1) * (whole * 2)
+  unfolding deviation
   room = omega (arith, covered, lt-div-mul-add {a = moved a days} {b = 2 * whole} (omega (arith, whole-pos)))
 
   pub flow-within : (x : ℤ) (s : Bool)
-      → Within (worth (cheapFactor r days) (x +ℤ signed s a)) (worth (cheapFactor r days) x +ℤ signed s (presentValue a r days)) (reach a days)
+      → Within (worth (cheapFactor r days) (x +ℤ signed s a)) (worth (cheapFactor r days) x +ℤ signed s (presentValue a r days)) (deviation a days)
   unfolding presentValue
   flow-within x s =
       let f = factor r days in
@@ -61,7 +61,7 @@ module _ (a r days : ℕ) (l : r ≤ 1000000) (k : days ≤ 10950) where
       let d = distanceUp days in
       let p = discounted a f in
       let close = cheap-near r days l k in
-      worth-more c a p (a * d * 2) (reach a days)
+      worth-more c a p (a * d * 2) (deviation a days)
       (not-over a f unit c whole d p unit-pos (discounted-low a f) (omega (arith, close .above, distance-up days)))
       (not-under a f unit c whole d p unit-pos (discounted-high a f) (omega (arith, close .below, distance-up days)))
       room x s
@@ -70,7 +70,7 @@ module _ (a r days : ℕ) (l : r ≤ 1000000) (k : days ≤ 10950) where
 
 module _ (rate : ℕ → ℕ) (rated : (d : ℕ) → rate d ≤ 1000000) where
   flows-within : (fs : List Flow) (nets : List ℤ) → 10950 < length nets → OnDays fs
-      → Within (daysWorth (cheapOn rate) 0 (netted fs nets)) (daysWorth (cheapOn rate) 0 nets +ℤ total (flowValue rate) fs) (sum flowReach fs)
+      → Within (daysWorth (cheapOn rate) 0 (netted fs nets)) (daysWorth (cheapOn rate) 0 nets +ℤ total (flowValue rate) fs) (sum flowDeviation fs)
   unfolding netWith total sum
   flows-within [] nets l h = let z = daysWorth (cheapOn rate) 0 nets in omega (int, plus z (pos 0), up-pos 0, down-pos 0)
   flows-within (f ∷ fs) nets l h =
@@ -81,13 +81,13 @@ module _ (rate : ℕ → ℕ) (rated : (d : ℕ) → rate d ≤ 1000000) where
       let was = daysWorth (cheapOn rate) 0 nets in
       let now = daysWorth (cheapOn rate) 0 (netWith nets f) in
       let rest = total (flowValue rate) fs in
-      let one : Within now (was +ℤ v) (flowReach f) =
-      days-changed (cheapOn rate) 0 nets d y v (flowReach f) (omega (arith, h .0)) (rw zero-add (flow-within (f .amount) (rate d) d (rated d) (h .0) x (f .received))) in
+      let one : Within now (was +ℤ v) (flowDeviation f) =
+      days-changed (cheapOn rate) 0 nets d y v (flowDeviation f) (omega (arith, h .0)) (rw zero-add (flow-within (f .amount) (rate d) d (rated d) (h .0) x (f .received))) in
       let others = flows-within fs (netWith nets f) (rw length-set l) (h .1) in
       omega (int, one, others, plus was v, plus now rest, plus v rest, plus was (v +ℤ rest))
 
   pub netted-within : (fs : List Flow) → OnDays fs
-      → Within (netValue (cheapOn rate) (netted fs noNets) (listed (netted fs noNets))) (total (flowValue rate) fs) (sum flowReach fs)
+      → Within (netValue (cheapOn rate) (netted fs noNets) (listed (netted fs noNets))) (total (flowValue rate) fs) (sum flowDeviation fs)
   netted-within fs h =
       let all = flows-within fs noNets (rw length-replicate (lit< tt)) h in
       rw (listed-worth (cheapOn rate) (netted fs noNets)) (rw (none-days, +ℤ-idl) at all)

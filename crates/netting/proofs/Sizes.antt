@@ -1,4 +1,4 @@
--- How large netted flows can be: no larger than all amounts together; and the size of a reach.
+-- How large netted flows can be: no larger than all amounts together; and the size of a deviation.
 use mathlib.Core.Path.{_≡_, refl, _∙_}
 use mathlib.Core.Bool.{Bool, true, false}
 use mathlib.Core.List.{List, [], _∷_}
@@ -12,8 +12,8 @@ use Rattle.decimal.specs.Product.{unit}
 use Rattle.discount.specs.Discount.{year, products}
 use Rattle.discount.specs.declared.Flow.{Flow}
 use Rattle.discount.specs.Flows.{signed, sum}
-use Rattle.sieve.specs.Cheap.{whole}
-use Rattle.netting.specs.Netting.{noNets, netOn, netWith, netted, listed, worth, netValue, netSize, distanceUp, moved, reach}
+use Rattle.cheap.specs.Cheap.{whole}
+use Rattle.netting.specs.Netting.{noNets, netOn, netWith, netted, listed, worth, netValue, netSize, distanceUp, moved, deviation}
 use Rattle.netting.proofs.DaySums.{daysSize, listed-size, none-size, size-changed}
 
 -- ---- the net amounts
@@ -68,12 +68,12 @@ net-value-size c h nets (d ∷ ds) =
     let v = worth (c d) (netOn nets d) in
     omega (arith, abs-add v (netValue c nets ds), worth-size (c d) (netOn nets d) (h d), net-value-size c h nets ds)
 
--- ---- the reach of a flow
+-- ---- the deviation of a flow
 
 pub distance-size : (days : ℕ) → days ≤ 10950 → distanceUp days ≤ 393
 unfolding year products distanceUp
 distance-size days h = omega arith
 
-pub reach-size : (amount days : ℕ) → amount ≤ unit → days ≤ 10950 → reach amount days ≤ 200000
-unfolding unit whole moved reach
-reach-size amount days h k = omega (arith, mul-le-mul h (distance-size days k))
+pub deviation-size : (amount days : ℕ) → amount ≤ unit → days ≤ 10950 → deviation amount days ≤ 200000
+unfolding unit whole moved deviation
+deviation-size amount days h k = omega (arith, mul-le-mul h (distance-size days k))

@@ -9,8 +9,8 @@ use lib.IntN.{ℤ, pos, negsuc, negℤ, _+ℤ_}
 use Rattle.laws.specs.Distance.{Within}
 use Rattle.laws.proofs.Integer.{int, up, down, plus, up-pos, down-pos, up-neg, down-neg}
 use Rattle.discount.specs.Flows.{signed}
-use Rattle.sieve.specs.Cheap.{whole}
-use Rattle.sieve.proofs.Powers.{whole-pos}
+use Rattle.cheap.specs.Cheap.{whole}
+use Rattle.cheap.proofs.Powers.{whole-pos}
 use Rattle.netting.specs.Netting.{worth}
 
 module _ (c : ℕ) where

@@ -10,7 +10,7 @@ use Rattle.ground.specs.Limits.{lastDay, dayCount}
 use Rattle.discount.specs.declared.Flow.{Flow}
 use Rattle.discount.specs.Discount.{products}
 use Rattle.discount.specs.Flows.{signed}
-use Rattle.sieve.specs.Cheap.{whole, cheapFactor}
+use Rattle.cheap.specs.Cheap.{whole, cheapFactor}
 
 -- a net amount for each of the days 0 to 10,950, none at first
 abbrev pub noNets : List ℤ
@@ -67,11 +67,11 @@ unfoldable pub moved : ℕ → ℕ → ℕ
 moved amount days = 2 * amount * distanceUp days + 3 * whole
 
 -- in whole kuruş
-unfoldable pub reach : ℕ → ℕ → ℕ
-reach amount days = moved amount days / (2 * whole)
+unfoldable pub deviation : ℕ → ℕ → ℕ
+deviation amount days = moved amount days / (2 * whole)
 
-abbrev pub flowReach : Flow → ℕ
-flowReach f = reach (f .amount) (f .day)
+abbrev pub flowDeviation : Flow → ℕ
+flowDeviation f = deviation (f .amount) (f .day)
 
 -- every flow's day is one of document 01's
 abbrev pub OnDays : List Flow → Type 0

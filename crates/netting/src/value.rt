@@ -3,8 +3,8 @@ ghost use mathlib.Core.Path.{_≡_};
 ghost use Prim.Native.Nat.{_*_, _/_, _≤_};
 ghost use lib.IntN.{natAbs};
 ghost use Rattle.ground.specs.Limits.{lastDay};
-ghost use Rattle.sieve.specs.Cheap.{whole};
-ghost use Rattle.netting.specs.Netting.{worth, reach};
+ghost use Rattle.cheap.specs.Cheap.{whole};
+ghost use Rattle.netting.specs.Netting.{worth, deviation};
 
 // One, in a cheap factor: 2^31; and twice that.
 const WHOLE: u64 = 2_147_483_648;
@@ -35,9 +35,9 @@ pub fn worth(net: i64, factor: u64) -> i64
 }
 
 // How far a flow's part in the value of netted flows may be from its present value.
-pub fn reach(amount: u64, day: u64) -> u64
+pub fn deviation(amount: u64, day: u64) -> u64
     requires { ⌜ (amount ≤ 1_000_000_000_000) × (day ≤ lastDay) ⌝ }
-    ensures { λ r. ⌜ r ≡ reach amount day ⌝ }
+    ensures { λ r. ⌜ r ≡ deviation amount day ⌝ }
 {
     let products = day % 365 + day / 365;
     let distance = 16 + (9_700_000 * day / 365 + 2) / 1_048_576 + products * 44 / 10_000;

@@ -4,7 +4,7 @@ use mathlib.Core.List.{flatMap}
 use Rattle.margin.proofs.Buyer.{buyerCurve, buyerLira}
 use Rattle.text.specs.Text.{ascii, digitsWithin, decimalOf, withSign, letters}
 use Rattle.text.specs.Columns.{moneyText, rightAligned}
-use Rattle.page_line.specs.Line.{pageLine}
+use Rattle.page.specs.Line.{pageLine}
 use Rattle.page.specs.Page.{curveLeft, curveLine, currencyLine}
 
 pub curve-printed : curveLine 1 buyerCurve ≡ ascii "1 2 TRY                       100.00                300.00                  0.01\n"

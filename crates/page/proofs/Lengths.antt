@@ -13,14 +13,14 @@ use Rattle.margin.specs.Margins.{noCurve, hasCurrency}
 use Rattle.text.specs.Text.{ascii, decimalOf, letters, linesOf}
 use Rattle.text.proofs.Digits.{length-below, length-letters}
 use Rattle.text.proofs.Lines.{length-lines}
-use Rattle.page_line.specs.Line.{titleLine, recordLine}
-use Rattle.page_line.proofs.Lengths.{length-line, length-title-line, length-trade-lines}
+use Rattle.page.specs.Line.{titleLine, recordLine}
+use Rattle.page.proofs.LineLengths.{length-line, length-title-line, length-trade-lines}
 use Rattle.page.specs.Page.{curveLeft, curveLine, currencyLine, currencyPart, currencyPartOf, page, oneIf, currencyCount, pageLength}
-use Rattle.page.specs.Limits.{CurveLimits, CurrencyLimits, CurvesLimits, CurrenciesLimits, PageLimits}
+use Rattle.page.specs.Limits.{CurveLineLimits, CurrencyLineLimits, CurveLinesLimits, CurrencyLinesLimits, PageLimits}
 
 -- ---- a line
 
-module _ (id : ℕ) (m : CurveMargin) (few : id ≤ 8) (h : CurveLimits m) where
+module _ (id : ℕ) (m : CurveMargin) (few : id ≤ 8) (h : CurveLineLimits m) where
   pub length-id : length (decimalOf id) ≤ 1
   length-id = length-below 0 id (omega arith)
 
@@ -33,9 +33,9 @@ module _ (id : ℕ) (m : CurveMargin) (few : id ≤ 8) (h : CurveLimits m) where
 
   pub length-curve-line : length (curveLine id m) ≡ 81
   unfolding curveLine
-  length-curve-line = length-line (curveLeft id m) _ (h .base, (h .loss, (omega (arith, h .tolerance), tt))) (omega (arith, curve-left-fits))
+  length-curve-line = length-line (curveLeft id m) _ (h .base, (h .worstloss, (omega (arith, h .tolerance), tt))) (omega (arith, curve-left-fits))
 
-module _ (c : ℕ) (m : CurrencyMargin) (h : CurrencyLimits m) where
+module _ (c : ℕ) (m : CurrencyMargin) (h : CurrencyLineLimits m) where
   pub length-currency-line : length (currencyLine c m) ≡ 81
   unfolding currencyLine
   length-currency-line = length-line (letters c) _ (h .initial, (h .variation, (h .total, tt))) (omega (arith, length-letters c))
@@ -47,21 +47,21 @@ module _ (c : ℕ) (m : CurrencyMargin) (h : CurrencyLimits m) where
 
 -- ---- the page
 
-pub length-curve-lines : (n : ℕ) (curves : List CurveMargin) → CurvesLimits n curves → n ≤ length curves → length (linesOf curveLine 1 (take n curves)) ≡ 81 * n
+pub length-curve-lines : (n : ℕ) (curves : List CurveMargin) → CurveLinesLimits n curves → n ≤ length curves → length (linesOf curveLine 1 (take n curves)) ≡ 81 * n
 length-curve-lines n curves h l =
     let k = length-take-le n curves l in
     let each = length-lines curveLine 81 (take n curves) noCurve 1
     (λ i m. let e = getD-take n curves i noCurve (omega (arith, k, m)) in rw e (length-curve-line (1 + i) (getD curves i noCurve) (omega (arith, h .most, k, m)) (h .each i (omega (arith, k, m))))) in
     omega (arith, k, each)
 
-length-parts : (curves : List CurveMargin) (a b c : CurrencyMargin) → CurrencyLimits a → CurrencyLimits b → CurrencyLimits c
+length-parts : (curves : List CurveMargin) (a b c : CurrencyMargin) → CurrencyLineLimits a → CurrencyLineLimits b → CurrencyLineLimits c
     → length (linesOf (currencyPartOf curves) 1 (a ∷ b ∷ c ∷ [])) ≡ 81 * currencyCount curves
 unfolding linesOf
 length-parts curves a b c ha hb hc =
     simp length-append
     (omega (arith, length-part 1 a ha (hasCurrency 1 curves), length-part 2 b hb (hasCurrency 2 curves), length-part 3 c hc (hasCurrency 3 curves)))
 
-pub length-currency-lines : (curves : List CurveMargin) (l : List CurrencyMargin) → length l ≡ 3 → CurrenciesLimits l
+pub length-currency-lines : (curves : List CurveMargin) (l : List CurrencyMargin) → length l ≡ 3 → CurrencyLinesLimits l
     → length (linesOf (currencyPartOf curves) 1 l) ≡ 81 * currencyCount curves
 length-currency-lines curves [] e h = absurd (omega arith)
 length-currency-lines curves (a ∷ []) e h = absurd (omega arith)

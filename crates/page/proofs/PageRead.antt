@@ -20,11 +20,11 @@ use Rattle.text.specs.Text.{letters, linesOf}
 use Rattle.text.proofs.Digits.{length-letters}
 use Rattle.text.proofs.Lines.{part-within, part-lines}
 use Rattle.text.specs.Reading.{readAmount}
-use Rattle.page_line.specs.Line.{titleLine, tradeLeft, tradeLine, recordLine}
-use Rattle.page_line.proofs.Lengths.{length-title-line, trade-left-fits, length-trade-line, length-trade-lines}
-use Rattle.page_line.proofs.LineRead.{line-amount}
+use Rattle.page.specs.Line.{titleLine, tradeLeft, tradeLine, recordLine}
+use Rattle.page.proofs.LineLengths.{length-title-line, trade-left-fits, length-trade-line, length-trade-lines}
+use Rattle.page.proofs.LineRead.{line-amount}
 use Rattle.page.specs.Page.{curveLeft, curveLine, currencyLine, currencyPart, currencyPartOf, page, oneIf}
-use Rattle.page.specs.Limits.{CurrenciesLimits, PageLimits}
+use Rattle.page.specs.Limits.{CurrencyLinesLimits, PageLimits}
 use Rattle.page.specs.PageRead.{amountAt, currenciesBelow}
 use Rattle.page.proofs.Lengths.{curve-left-fits, length-curve-line, length-curve-lines, length-currency-line, length-part}
 
@@ -35,7 +35,7 @@ has-line : (c : ℕ) (m : CurrencyMargin) (has : Bool) → has ≡ true → curr
 unfolding currencyPart
 has-line c m has e = rw e
 
-module _ (curves : List CurveMargin) (a b d : CurrencyMargin) (limits : CurrenciesLimits (a ∷ b ∷ d ∷ [])) (o : ℕ) (r : o + 22 ≤ 81) where
+module _ (curves : List CurveMargin) (a b d : CurrencyMargin) (limits : CurrencyLinesLimits (a ∷ b ∷ d ∷ [])) (o : ℕ) (r : o + 22 ≤ 81) where
   abbrev lira : List ℕ
   lira = currencyPartOf curves 1 a
 
@@ -75,7 +75,7 @@ module _ (curves : List CurveMargin) (a b d : CurrencyMargin) (limits : Currenci
       ∙ part-within euro [] o 22 (omega (arith, long))
       ∙ ap (λ (t : List ℕ). part t o 22) e
 
-currency-part : (curves : List CurveMargin) (l : List CurrencyMargin) → length l ≡ 3 → CurrenciesLimits l → (c : ℕ) → 1 ≤ c → c ≤ 3 → hasCurrency c curves ≡ true → (o : ℕ) → o + 22 ≤ 81
+currency-part : (curves : List CurveMargin) (l : List CurrencyMargin) → length l ≡ 3 → CurrencyLinesLimits l → (c : ℕ) → 1 ≤ c → c ≤ 3 → hasCurrency c curves ≡ true → (o : ℕ) → o + 22 ≤ 81
     → part (linesOf (currencyPartOf curves) 1 l) (81 * currenciesBelow curves c + o) 22 ≡ part (currencyLine c (getD l (c - 1) noCurrency)) o 22
 unfolding linesOf
 currency-part curves (a ∷ b ∷ d ∷ []) e h (suc zero) k m has o r = lira-part curves a b d h o r has
@@ -123,7 +123,7 @@ module _ (n : ℕ) (m : Margin) (records : List (List ℕ)) (h : PageLimits n m 
 
   -- amount j of curve i, both from 0: base, worst loss, tolerance
   pub curve-read : (i : ℕ) → i < n → (j : ℕ) → j < 3
-      → let c = getD (m .curves) i noCurve in amountAt (page n m records) (1 + length records + i) (14 + 22 * j) ≡ getD (c .base ∷ c .loss ∷ pos (c .tolerance) ∷ []) j (pos 0)
+      → let c = getD (m .curves) i noCurve in amountAt (page n m records) (1 + length records + i) (14 + 22 * j) ≡ getD (c .base ∷ c .worstloss ∷ pos (c .tolerance) ∷ []) j (pos 0)
   unfolding page amountAt curveLine
   curve-read i l j b =
       let c = getD (m .curves) i noCurve in
@@ -144,7 +144,7 @@ module _ (n : ℕ) (m : Margin) (records : List (List ℕ)) (h : PageLimits n m 
       ∙ part-lines curveLine 81 (take n (m .curves)) noCurve 1 each i o 22 (omega (arith, all)) (omega arith)
       ∙ ap (λ (x : CurveMargin). part (curveLine (1 + i) x) o 22) (getD-take n (m .curves) i noCurve l)) in
       ap readAmount text
-      ∙ line-amount (curveLeft (1 + i) c) (c .base ∷ c .loss ∷ pos (c .tolerance) ∷ []) (limits .base, (limits .loss, (omega (arith, limits .tolerance), tt))) (omega (arith, curve-left-fits (1 + i) c few limits)) j (pos 0) b
+      ∙ line-amount (curveLeft (1 + i) c) (c .base ∷ c .worstloss ∷ pos (c .tolerance) ∷ []) (limits .base, (limits .worstloss, (omega (arith, limits .tolerance), tt))) (omega (arith, curve-left-fits (1 + i) c few limits)) j (pos 0) b
 
   -- amount j of a currency that a curve has: initial, variation, total
   pub currency-read : (c : ℕ) → 1 ≤ c → c ≤ 3 → hasCurrency c (take n (m .curves)) ≡ true → (j : ℕ) → j < 3

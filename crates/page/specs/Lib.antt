@@ -1,3 +1,5 @@
+pub mod Line
+pub mod LineLimits
 pub mod Page
 pub mod Limits
 pub mod PageRead

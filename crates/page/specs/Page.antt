@@ -9,7 +9,7 @@ use Rattle.margin.specs.declared.CurrencyMargin.{CurrencyMargin}
 use Rattle.margin.specs.declared.Margin.{Margin}
 use Rattle.margin.specs.Margins.{hasCurrency}
 use Rattle.text.specs.Text.{decimalOf, letters, figure, currencyNamed, linesOf}
-use Rattle.page_line.specs.Line.{pageLine, titleLine, recordLine}
+use Rattle.page.specs.Line.{pageLine, titleLine, recordLine}
 
 -- "a curve's id, scenario and currency letters"
 unfoldable pub curveLeft : ℕ → CurveMargin → List ℕ
@@ -17,7 +17,7 @@ curveLeft id m = decimalOf id ++ figure " " (m .scenario) ++ currencyNamed " " (
 
 -- "in the report's order, tolerance among them"
 unfoldable pub curveLine : ℕ → CurveMargin → List ℕ
-curveLine id m = pageLine (curveLeft id m) (m .base ∷ m .loss ∷ pos (m .tolerance) ∷ [])
+curveLine id m = pageLine (curveLeft id m) (m .base ∷ m .worstloss ∷ pos (m .tolerance) ∷ [])
 
 -- "a currency's letters", and its figures
 unfoldable pub currencyLine : ℕ → CurrencyMargin → List ℕ

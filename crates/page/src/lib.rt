@@ -1,5 +1,7 @@
 // The lines of the account statement that show a margin, written into lent bytes: those of curves and of currencies; the length of a page.
 // Each function writes from a place on and answers the place behind what it wrote.
+pub mod line;
+
 use margin::CurrencyMargin;
 use margin::CurveMargin;
 use margin::margins::has_currency;
@@ -17,7 +19,7 @@ ghost use lib.ListN.{length, take};
 ghost use Rattle.text.specs.Text.{linesOf, TextWritten};
 ghost use Rattle.text.specs.Columns.{amountColumn};
 ghost use Rattle.page.specs.Page.{curveLeft, curveLine, currencyLine, currencyPart, currencyPartOf, oneIf, currencyCount, pageLength};
-ghost use Rattle.page.specs.Limits.{CurveLimits, CurvesLimits, CurrenciesLimits};
+ghost use Rattle.page.specs.Limits.{CurveLineLimits, CurveLinesLimits, CurrencyLinesLimits};
 
 // Three amounts, each in its columns.
 fn put_amounts(out: &mut [u8], at: usize, first: i64, second: i64, third: i64) -> usize
@@ -31,7 +33,7 @@ fn put_amounts(out: &mut [u8], at: usize, first: i64, second: i64, third: i64) -
 }
 
 fn put_curve_left(out: &mut [u8], at: usize, id: u64, m: CurveMargin) -> usize
-    requires { ⌜ (at + 81 ≤ length (now out)) × ((id ≤ 8) × CurveLimits m) ⌝ }
+    requires { ⌜ (at + 81 ≤ length (now out)) × ((id ≤ 8) × CurveLineLimits m) ⌝ }
     ensures { λ r. ⌜ TextWritten (now (out .entry)) at (curveLeft id m) (now (out .exit)) r ⌝ }
     ensures { λ r. ⌜ r ≤ at + 14 ⌝ }
 {
@@ -42,12 +44,12 @@ fn put_curve_left(out: &mut [u8], at: usize, id: u64, m: CurveMargin) -> usize
 
 // The line of a curve.
 fn put_curve(out: &mut [u8], at: usize, id: u64, m: CurveMargin) -> usize
-    requires { ⌜ (at + 81 ≤ length (now out)) × ((id ≤ 8) × CurveLimits m) ⌝ }
+    requires { ⌜ (at + 81 ≤ length (now out)) × ((id ≤ 8) × CurveLineLimits m) ⌝ }
     ensures { λ r. ⌜ TextWritten (now (out .entry)) at (curveLine id m) (now (out .exit)) r ⌝ }
 {
     let left = put_curve_left(out, at, id, m);
     let base = put_blanks(out, left, at + 14 - left);
-    let end = put_amounts(out, base, m.base, m.loss, m.tolerance as i64);
+    let end = put_amounts(out, base, m.base, m.worstloss, m.tolerance as i64);
     put_text(out, end, b"\n")
 }
 
@@ -81,7 +83,7 @@ fn put_currency_part(
 
 // The lines of the first count curves.
 pub fn put_curves(out: &mut [u8], at: usize, curves: [CurveMargin; 8], count: usize) -> usize
-    requires { ⌜ CurvesLimits count curves × (at + length (linesOf curveLine 1 (take count curves)) ≤ length (now out)) ⌝ }
+    requires { ⌜ CurveLinesLimits count curves × (at + length (linesOf curveLine 1 (take count curves)) ≤ length (now out)) ⌝ }
     ensures { λ r. ⌜ TextWritten (now (out .entry)) at (linesOf curveLine 1 (take count curves)) (now (out .exit)) r ⌝ }
 {
     let mut next = at;
@@ -102,7 +104,7 @@ pub fn put_currencies(
     count: usize,
     currencies: [CurrencyMargin; 3],
 ) -> usize
-    requires { ⌜ (count ≤ 8) × CurrenciesLimits currencies ⌝ }
+    requires { ⌜ (count ≤ 8) × CurrencyLinesLimits currencies ⌝ }
     requires { ⌜ at + length (linesOf (currencyPartOf (take count curves)) 1 currencies) ≤ length (now out) ⌝ }
     ensures { λ r. ⌜ TextWritten (now (out .entry)) at (linesOf (currencyPartOf (take count curves)) 1 currencies) (now (out .exit)) r ⌝ }
 {

@@ -10,7 +10,7 @@ use Rattle.ground.specs.declared.Verdict.the-variants.{Accepted}
 use Rattle.ground.specs.Verdicts.{bytesAfter}
 use Rattle.layout.specs.Bytes.{put, AreBytes}
 use Rattle.layout.proofs.Bytes.{length-put, part-put}
-use Rattle.book.specs.Verdict.{verdict}
+use Rattle.book.specs.Verdict.{blocksVerdict}
 use Rattle.book.proofs.Accepted.{Sound, sound}
 use Rattle.edit.specs.Refusals.{appendVerdict}
 use Rattle.edit.specs.Edits.{appendedBook, appended}
@@ -56,7 +56,7 @@ module _ (room : List ℕ) (wide : length room ≡ 65536) (s : List ℕ) (used :
         added-is : u ≡ appendedBook s r ++ rest
         added-is = added ∙ ap (λ (b : List ℕ). b ++ rest) same-appended
 
-        pub copy-accepted-with-record : verdict u n ≡ Accepted
+        pub copy-accepted-with-record : blocksVerdict u n ≡ Accepted
         copy-accepted-with-record = rw (added-is, size ∙ ap length same-appended) (with-record-accepted s used bytes r long w rest)
 
         -- its report is the preview

@@ -69,24 +69,24 @@ pub record Coupons (d : Days) : Type 0 where
   pub last : lastPaymentDay (d .first) (d .period) (d .payments) ≤ lastDay
 
 pub record DaysKept (f : Form) (d : Days) : Type 0 where
-  pub bought : isOutright (f .kind) ≡ true → d .day1 ≤ lastDay
-  pub lent : isOutright (f .kind) ≡ false → (d .term ≤ 730) × (d .day2 ≤ lastDay)
-  pub ahead : isOutright (f .kind) ≡ false → hasSettled (f .kind) (f .phase) ≡ false → d .day1 < d .day2
+  pub bought : isOutright (f .kind) ≡ true → d .valueday1 ≤ lastDay
+  pub lent : isOutright (f .kind) ≡ false → (d .term ≤ 730) × (d .valueday2 ≤ lastDay)
+  pub ahead : isOutright (f .kind) ≡ false → hasSettled (f .kind) (f .phase) ≡ false → d .valueday1 < d .valueday2
   pub paid : hasSecurity (f .security) ≡ true → d .first ≤ lastDay
   pub coupons : hasCoupons (f .security) ≡ true → Coupons d
 
 -- a repo's two cases
 module _ (d : Days) where
-  ahead-tests : legsAhead d ≡ true → (InLimits 1 (d .term) 730) × ((d .day1 < d .day2) × (d .day2 ≤ lastDay))
+  ahead-tests : legsAhead d ≡ true → (InLimits 1 (d .term) 730) × ((d .valueday1 < d .valueday2) × (d .valueday2 ≤ lastDay))
   ahead-tests h =
-      let p = four (inLimits 1 (d .term) 730) (ltb (d .day1) (d .day2)) (eqb (d .day2 - d .day1) (d .term)) (inReach (d .day2)) h in
-      (in-limits 1 (d .term) 730 (p .0), (ltb-true (d .day1) (d .day2) (p .1 .0), leb-true (d .day2) lastDay (p .1 .1 .1)))
+      let p = four (inLimits 1 (d .term) 730) (ltb (d .valueday1) (d .valueday2)) (eqb (d .valueday2 - d .valueday1) (d .term)) (inReach (d .valueday2)) h in
+      (in-limits 1 (d .term) 730 (p .0), (ltb-true (d .valueday1) (d .valueday2) (p .1 .0), leb-true (d .valueday2) lastDay (p .1 .1 .1)))
 
-  repo-days : (settled : Bool) → cond settled (secondLegAhead d) (legsAhead d) ≡ true → (d .term ≤ 730) × (d .day2 ≤ lastDay)
+  repo-days : (settled : Bool) → cond settled (secondLegAhead d) (legsAhead d) ≡ true → (d .term ≤ 730) × (d .valueday2 ≤ lastDay)
   repo-days true h =
-      let p = both (inLimits 1 (d .term) 730) (leb (d .day2) (d .term)) h in
+      let p = both (inLimits 1 (d .term) 730) (leb (d .valueday2) (d .term)) h in
       let t = in-limits 1 (d .term) 730 (p .0) in
-      (t .high, omega (arith, leb-true (d .day2) (d .term) (p .1)))
+      (t .high, omega (arith, leb-true (d .valueday2) (d .term) (p .1)))
   repo-days false h = let p = ahead-tests h in (p .0 .high, p .1 .1)
 
 pub days-kept : (f : Form) (d : Days) → breaksDays f d ≡ false → DaysKept f d
@@ -100,11 +100,11 @@ days-kept f d h =
     let rule = couponDaysFit (d .first) (d .period) (d .payments) in
     let p = three (valueDaysFit f d) (asked paying (firstPaymentFits f d)) (asked coupons rule) (not-false _ h) in
     record {
-      bought = λ e. leb-true (d .day1) lastDay (first-arm o (inReach (d .day1)) repo (p .0) e);
-      lent = λ e. repo-days d s (other-arm o (inReach (d .day1)) repo (p .0) e);
-      ahead = λ e g. ahead-tests d (other-arm s (secondLegAhead d) (legsAhead d) (other-arm o (inReach (d .day1)) repo (p .0) e) g) .1 .0;
+      bought = λ e. leb-true (d .valueday1) lastDay (first-arm o (inReach (d .valueday1)) repo (p .0) e);
+      lent = λ e. repo-days d s (other-arm o (inReach (d .valueday1)) repo (p .0) e);
+      ahead = λ e g. ahead-tests d (other-arm s (secondLegAhead d) (legsAhead d) (other-arm o (inReach (d .valueday1)) repo (p .0) e) g) .1 .0;
       paid = λ e.
-          let after = cond s (ltb 0 (d .first)) (ltb (d .day1) (d .first)) in
+          let after = cond s (ltb 0 (d .first)) (ltb (d .valueday1) (d .first)) in
           leb-true (d .first) lastDay (both after (inReach (d .first)) (asked-true paying (firstPaymentFits f d) (p .1 .0) e) .1);
       coupons = λ e.
           let q = both (countsFit (d .period) (d .payments)) (inReach (lastPaymentDay (d .first) (d .period) (d .payments))) (asked-true coupons rule (p .1 .1) e) in
@@ -115,9 +115,9 @@ days-kept f d h =
 
 pub record Priced (f : Form) (d : Days) (a : Amounts) : Type 0 where
   pub blank : f .blank ≡ 0
-  pub bought : isOutright (f .kind) ≡ true → (d .day2 ≡ 0) × ((d .term ≡ 0) × ((a .cash ≡ 0) × (a .price ≤ 4000000)))
+  pub bought : isOutright (f .kind) ≡ true → (d .valueday2 ≡ 0) × ((d .term ≡ 0) × ((a .cash ≡ 0) × (a .price ≤ 4000000)))
   pub lent : isOutright (f .kind) ≡ false → (a .accrued ≡ 0) × (a .price ≤ 1000000)
-  pub settled : hasSettled (f .kind) (f .phase) ≡ true → d .day1 ≡ 0
+  pub settled : hasSettled (f .kind) (f .phase) ≡ true → d .valueday1 ≡ 0
   pub bare : hasSecurity (f .security) ≡ false → (d .first ≡ 0) × (a .nominal ≡ 0)
   pub flat : hasCoupons (f .security) ≡ false → (d .period ≡ 0) × ((d .payments ≡ 0) × (a .coupon ≡ 0))
   pub plain : isIndexed (f .security) ≡ false → (a .index ≡ 0) × (a .issue ≡ 0)
@@ -137,9 +137,9 @@ priced f d a h =
     let i = isIndexed (f .security) in
     let p = six (eqb (f .blank) 0) (unusedDaysFit f d) (principalsFit f a) (priceFits f a) (couponsFit f a) (indicesFit f a) (not-false _ h) in
     -- the days
-    let noLeg = eqb (d .day2) 0 && eqb (d .term) 0 in
+    let noLeg = eqb (d .valueday2) 0 && eqb (d .term) 0 in
     let noCoupon = eqb (d .period) 0 && eqb (d .payments) 0 in
-    let z = four (asked o noLeg) (asked s (eqb (d .day1) 0)) (asked (not paying) (eqb (d .first) 0)) (asked (not coupons) noCoupon) (p .1 .0) in
+    let z = four (asked o noLeg) (asked s (eqb (d .valueday1) 0)) (asked (not paying) (eqb (d .first) 0)) (asked (not coupons) noCoupon) (p .1 .0) in
     -- the amounts
     let sums = both (usedInLimits paying 1 (a .nominal) unit) (usedInLimits (not o) 1 (a .cash) unit) (p .1 .1 .0) in
     let rates = both (usedInLimits o 0 (a .accrued) 1000000) (usedInLimits coupons 0 (a .coupon) 1000000) (p .1 .1 .1 .1 .0) in
@@ -147,7 +147,7 @@ priced f d a h =
     record {
       blank = eqb-true _ 0 (p .0);
       bought = λ e.
-          let q = both (eqb (d .day2) 0) (eqb (d .term) 0) (asked-true o noLeg (z .0) e) in (
+          let q = both (eqb (d .valueday2) 0) (eqb (d .term) 0) (asked-true o noLeg (z .0) e) in (
             eqb-true _ 0 (q .0),
             (
               eqb-true _ 0 (q .1),
@@ -161,7 +161,7 @@ priced f d a h =
         unused o 0 (a .accrued) 1000000 (rates .0) e,
         leb-true _ 1000000 (other-arm o (inLimits 1 (a .price) 4000000) (leb (a .price) 1000000) (p .1 .1 .1 .0) e),
       );
-      settled = λ e. eqb-true _ 0 (asked-true s (eqb (d .day1) 0) (z .1 .0) e);
+      settled = λ e. eqb-true _ 0 (asked-true s (eqb (d .valueday1) 0) (z .1 .0) e);
       bare = λ e. (
         eqb-true _ 0 (asked-true (not paying) (eqb (d .first) 0) (z .1 .1 .0) (rw e)),
         unused paying 1 (a .nominal) unit (sums .0) e,

@@ -26,7 +26,7 @@ module _ {curves : Curves} (f : Fields) (few : curves .count < 256) (r : Formed 
   kinds (specified k p) = (omega (arith, p .high), omega (arith, p .high))
 
   -- value day 1 is before value day 2, or unused and 0
-  ahead : isOutright (f .form .kind) ≡ false → f .days .day1 ≤ lastDay
+  ahead : isOutright (f .form .kind) ≡ false → f .days .valueday1 ≤ lastDay
   ahead o =
       either-way (hasSettled (f .form .kind) (f .form .phase)) (λ e. omega (arith, a .settled e)) (λ e. omega (arith, d .ahead o e, d .lent o .1))
 

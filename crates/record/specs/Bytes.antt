@@ -24,8 +24,8 @@ formOf s = record {
 
 unfoldable pub daysOf : List ℕ → Days
 daysOf s = record {
-  day1 = u16At s 8;
-  day2 = u16At s 10;
+  valueday1 = u16At s 8;
+  valueday2 = u16At s 10;
   first = u16At s 12;
   period = u16At s 14;
   payments = u16At s 16;
@@ -57,8 +57,8 @@ recordRow f =
     ∷ (1, f .form .cashcurve)
     ∷ (1, f .form .security)
     ∷ (2, f .form .blank)
-    ∷ (2, f .days .day1)
-    ∷ (2, f .days .day2)
+    ∷ (2, f .days .valueday1)
+    ∷ (2, f .days .valueday2)
     ∷ (2, f .days .first)
     ∷ (2, f .days .period)
     ∷ (2, f .days .payments)

@@ -43,18 +43,18 @@ inReach day = leb day lastDay
 
 -- "In pool phases 1, 2 and specified phase 1, value day 1 is before value day 2 and the term is their difference."
 abbrev pub legsAhead : Days → Bool
-legsAhead d = inLimits 1 (d .term) 730 && ltb (d .day1) (d .day2) && eqb (d .day2 - d .day1) (d .term) && inReach (d .day2)
+legsAhead d = inLimits 1 (d .term) 730 && ltb (d .valueday1) (d .valueday2) && eqb (d .valueday2 - d .valueday1) (d .term) && inReach (d .valueday2)
 
 -- "In pool phase 3 and specified phase 2 the first leg has settled: value day 1 is unused, value day 2 is at most the term."
 abbrev pub secondLegAhead : Days → Bool
-secondLegAhead d = inLimits 1 (d .term) 730 && leb (d .day2) (d .term)
+secondLegAhead d = inLimits 1 (d .term) 730 && leb (d .valueday2) (d .term)
 
 abbrev pub valueDaysFit : Form → Days → Bool
-valueDaysFit f d = cond (isOutright (f .kind)) (inReach (d .day1)) (cond (hasSettled (f .kind) (f .phase)) (secondLegAhead d) (legsAhead d))
+valueDaysFit f d = cond (isOutright (f .kind)) (inReach (d .valueday1)) (cond (hasSettled (f .kind) (f .phase)) (secondLegAhead d) (legsAhead d))
 
 -- document 02: "Rule 9 asks only that the first payment come after value day 1, or after day 0 where value day 1 is unused."
 abbrev pub firstPaymentFits : Form → Days → Bool
-firstPaymentFits f d = cond (hasSettled (f .kind) (f .phase)) (ltb 0 (d .first)) (ltb (d .day1) (d .first)) && inReach (d .first)
+firstPaymentFits f d = cond (hasSettled (f .kind) (f .phase)) (ltb 0 (d .first)) (ltb (d .valueday1) (d .first)) && inReach (d .first)
 
 -- "period (1 to 366)", "payments (1 to 120)"
 abbrev pub countsFit : ℕ → ℕ → Bool
@@ -76,8 +76,8 @@ breaksDays f d = not (
 -- settled first leg leaves value day 1 unused
 abbrev pub unusedDaysFit : Form → Days → Bool
 unusedDaysFit f d =
-    asked (isOutright (f .kind)) (eqb (d .day2) 0 && eqb (d .term) 0)
-    && asked (hasSettled (f .kind) (f .phase)) (eqb (d .day1) 0)
+    asked (isOutright (f .kind)) (eqb (d .valueday2) 0 && eqb (d .term) 0)
+    && asked (hasSettled (f .kind) (f .phase)) (eqb (d .valueday1) 0)
     && asked (not (hasSecurity (f .security))) (eqb (d .first) 0)
     && asked (not (hasCoupons (f .security))) (eqb (d .period) 0 && eqb (d .payments) 0)
 

@@ -27,8 +27,8 @@ fn days_of(s: &[u8]) -> Days
     ensures { λ r. ⌜ r ≡ daysOf (now (s .entry)) ⌝ }
 {
     Days {
-        day1: layout::u16_at(s, 8),
-        day2: layout::u16_at(s, 10),
+        valueday1: layout::u16_at(s, 8),
+        valueday2: layout::u16_at(s, 10),
         first: layout::u16_at(s, 12),
         period: layout::u16_at(s, 14),
         payments: layout::u16_at(s, 16),

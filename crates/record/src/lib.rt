@@ -18,8 +18,8 @@ pub struct Form {
 
 // Its value days, first payment day, days between payments, number of payments and repo term.
 pub struct Days {
-    pub day1: u64,
-    pub day2: u64,
+    pub valueday1: u64,
+    pub valueday2: u64,
     pub first: u64,
     pub period: u64,
     pub payments: u64,

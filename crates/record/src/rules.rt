@@ -132,15 +132,15 @@ fn legs_ahead(d: Days) -> bool
     ensures { λ r. ⌜ r ≡ legsAhead d ⌝ }
 {
     in_limits(1, d.term, 730)
-        & (d.day1 < d.day2)
-        & (minus(d.day2, d.day1) == d.term)
-        & in_reach(d.day2)
+        & (d.valueday1 < d.valueday2)
+        & (minus(d.valueday2, d.valueday1) == d.term)
+        & in_reach(d.valueday2)
 }
 
 fn second_leg_ahead(d: Days) -> bool
     ensures { λ r. ⌜ r ≡ secondLegAhead d ⌝ }
 {
-    in_limits(1, d.term, 730) & (d.day2 <= d.term)
+    in_limits(1, d.term, 730) & (d.valueday2 <= d.term)
 }
 
 fn value_days_fit(f: Form, d: Days) -> bool
@@ -148,7 +148,7 @@ fn value_days_fit(f: Form, d: Days) -> bool
 {
     pick(
         is_outright(f.kind),
-        in_reach(d.day1),
+        in_reach(d.valueday1),
         pick(
             has_settled(f.kind, f.phase),
             second_leg_ahead(d),
@@ -160,7 +160,12 @@ fn value_days_fit(f: Form, d: Days) -> bool
 fn first_payment_fits(f: Form, d: Days) -> bool
     ensures { λ r. ⌜ r ≡ firstPaymentFits f d ⌝ }
 {
-    pick(has_settled(f.kind, f.phase), 0 < d.first, d.day1 < d.first) & in_reach(d.first)
+    pick(
+        has_settled(f.kind, f.phase),
+        0 < d.first,
+        d.valueday1 < d.first,
+    )
+        & in_reach(d.first)
 }
 
 fn counts_fit(period: u64, payments: u64) -> bool
@@ -205,8 +210,8 @@ pub fn breaks_days(f: Form, d: Days) -> bool
 fn unused_days_fit(f: Form, d: Days) -> bool
     ensures { λ r. ⌜ r ≡ unusedDaysFit f d ⌝ }
 {
-    asked(is_outright(f.kind), (d.day2 == 0) & (d.term == 0))
-        & asked(has_settled(f.kind, f.phase), d.day1 == 0)
+    asked(is_outright(f.kind), (d.valueday2 == 0) & (d.term == 0))
+        & asked(has_settled(f.kind, f.phase), d.valueday1 == 0)
         & asked(!has_security(f.security), d.first == 0)
         & asked(
             !has_coupons(f.security),

@@ -14,7 +14,7 @@ use Rattle.ground.specs.declared.Verdict.the-variants.{Accepted}
 use Rattle.ground.specs.Space.{breaksSpace}
 use Rattle.ground.proofs.Verdicts.{unless-accepted, orElse-accepted}
 use Rattle.decimal.specs.Product.{unit}
-use Rattle.curve.specs.Limits.{Limits}
+use Rattle.curve.specs.Limits.{NodeLimits}
 use Rattle.curve.proofs.Rates.{each-limits}
 use Rattle.book.specs.Parts.{curveCount}
 use Rattle.book.proofs.Accepted.{Sound, sound, curve-sound}
@@ -22,7 +22,7 @@ use Rattle.margin.specs.declared.CurrencyMargin.{CurrencyMargin}
 use Rattle.margin.specs.Margins.{curveMargin, currencyMargin, noCurve, noCurrency}
 use Rattle.ladder.proofs.Sizes.{value-fits}
 use Rattle.margin.proofs.Sizes.{loss-fits}
-use Rattle.margin.proofs.Bounded.{AllLimits, curve-bounded, initial-bounded}
+use Rattle.margin.proofs.Bounded.{AllNodeLimits, curve-bounded, initial-bounded}
 use Rattle.report_block.specs.Report.{reportBytes}
 use Rattle.report_block.specs.Shown.{curveShown, currencyShown, shownInitial, CurveFits, CurrencyFits}
 use Rattle.report_block.proofs.Shown.{curve-shown, currency-shown}
@@ -38,7 +38,7 @@ use Rattle.report.proofs.Answers.{space}
 module _ (s : List ℕ) (used : ℕ) (b : Sound s used) where
   -- ---- curve k of the book
 
-  nodes-limits : (k : ℕ) → 1 ≤ k → k ≤ curveCount s → All Limits (exposureAt s k .nodes)
+  nodes-limits : (k : ℕ) → 1 ≤ k → k ≤ curveCount s → All NodeLimits (exposureAt s k .nodes)
   unfolding exposureAt
   nodes-limits k l m = each-limits _ (curve-sound s used b k l m .curve)
 
@@ -48,7 +48,7 @@ module _ (s : List ℕ) (used : ℕ) (b : Sound s used) where
       let sizes = curve-sizes s used b k l m in
       record {
         base = fits (figures .base) (value-fits (figures .base) (sizes .base)) .sfits;
-        loss = fits (figures .loss) (loss-fits (figures .loss) (sizes .loss)) .sfits;
+        worstloss = fits (figures .worstloss) (loss-fits (figures .worstloss) (sizes .worstloss)) .sfits;
         scenario = omega (arith, sizes .scenario);
         currency = omega (arith, sizes .currency);
         tolerance = omega (arith, sizes .tolerance);
@@ -60,12 +60,12 @@ module _ (s : List ℕ) (used : ℕ) (b : Sound s used) where
   curve-is rest k l m =
       curve-shown (marginIn s) (places s used b) rest k noCurve (omega (arith, b .most)) (rw (place-of s used b k l m) (figures-fit k l m)) ∙ place-of s used b k l m
 
-  all-limits : (i n : ℕ) → 1 ≤ i → i + n ≤ curveCount s + 1 → AllLimits (table (exposureAt s) i n)
+  all-limits : (i n : ℕ) → 1 ≤ i → i + n ≤ curveCount s + 1 → AllNodeLimits (table (exposureAt s) i n)
   unfolding table
   all-limits i zero l m = tt
   all-limits i (suc n) l m = (nodes-limits i l (omega arith), all-limits (suc i) n (omega arith) (omega arith))
 
-  exposures-limits : AllLimits (exposures s)
+  exposures-limits : AllNodeLimits (exposures s)
   unfolding exposures
   exposures-limits = all-limits 1 (curveCount s) (omega arith) (omega arith)
 

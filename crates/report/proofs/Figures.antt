@@ -30,7 +30,7 @@ use Rattle.report.proofs.Placed.{length-exposures, length-figures, figu
 -- the figures of a curve come to at most this
 pub record CurveSizes (m : CurveMargin) : Type 0 where
   pub base : natAbs (m .base) ≤ mostFlows * unit
-  pub loss : natAbs (m .loss) ≤ 2 * (mostFlows * unit)
+  pub worstloss : natAbs (m .worstloss) ≤ 2 * (mostFlows * unit)
   pub scenario : m .scenario < 343
   pub currency : m .currency ≤ 3
   pub tolerance : m .tolerance ≤ mostFlows * 1000
@@ -65,7 +65,7 @@ module _ (s : List ℕ) (used : ℕ) (b : Sound s used) where
       let c = curve-sound s used b k l m in
       record {
         base = limits .base;
-        loss = limits .loss;
+        worstloss = limits .worstloss;
         scenario = omega (arith, first-largest (exposureAt s k) .within, scenarios-most _ (c .components));
         currency = c .most;
         tolerance = tolerance-most (exposureAt s k) f;
@@ -78,14 +78,14 @@ module _ (s : List ℕ) (used : ℕ) (b : Sound s used) where
   currency-sizes currency =
       let all = exposures-fit s used b in
       let few : length (exposures s) ≤ 8 = omega (arith, length-exposures s, b .most) in
-      let lost = sum-size currency (λ m. m .loss) (2 * (mostFlows * unit)) (λ e f. margin-limits e f .loss) (exposures s) all in
+      let lost = sum-size currency (λ m. m .worstloss) (2 * (mostFlows * unit)) (λ e f. margin-limits e f .worstloss) (exposures s) all in
       let based = sum-size currency (λ m. m .base) (mostFlows * unit) (λ e f. margin-limits e f .base) (exposures s) all in
       let i = le-trans lost (mul-le-mul-right (2 * (mostFlows * unit)) few) in
       let v = le-trans based (mul-le-mul-right (mostFlows * unit) few) in
       record {
         initial = omega (arith, i);
         variation = v;
-        total = omega (arith, i, v, abs-sub (sumIn currency (λ m. m .base) (map curveMargin (exposures s))) (sumIn currency (λ m. m .loss) (map curveMargin (exposures s))));
+        total = omega (arith, i, v, abs-sub (sumIn currency (λ m. m .base) (map curveMargin (exposures s))) (sumIn currency (λ m. m .worstloss) (map curveMargin (exposures s))));
       }
 
   -- ---- the margin's places

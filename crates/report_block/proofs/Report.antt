@@ -84,7 +84,7 @@ absent-currency = refl
 
 pub curve-put : (s a b c d e : List ℕ) (at : ℕ) (m : CurveMargin)
     → a ≡ put s at (bytesOf 8 (twos (m .base)))
-    → b ≡ put a (at + 8) (bytesOf 8 (twos (m .loss)))
+    → b ≡ put a (at + 8) (bytesOf 8 (twos (m .worstloss)))
     → c ≡ put b (at + 16) (bytesOf 4 (m .scenario))
     → d ≡ put c (at + 20) (bytesOf 4 (m .currency))
     → e ≡ put d (at + 24) (bytesOf 8 (m .tolerance))

@@ -39,7 +39,7 @@ signed-back z e h = rw e (signed-bytes 8 z (omega arith) (omega arith) h)
 
 same-curve : {base base' loss loss' : ℤ} {scenario scenario' currency currency' tolerance tolerance' : ℕ}
     → base ≡ base' → loss ≡ loss' → scenario ≡ scenario' → currency ≡ currency' → tolerance ≡ tolerance'
-    → _≡_ {A = CurveMargin} (record { base = base; loss = loss; scenario = scenario; currency = currency; tolerance = tolerance }) (record { base = base'; loss = loss'; scenario = scenario'; currency = currency'; tolerance = tolerance' })
+    → _≡_ {A = CurveMargin} (record { base = base; worstloss = loss; scenario = scenario; currency = currency; tolerance = tolerance }) (record { base = base'; worstloss = loss'; scenario = scenario'; currency = currency'; tolerance = tolerance' })
 same-curve p q r s t = rw (p, q, r, s, t)
 
 same-currency : {initial initial' variation variation' total total' : ℤ} → initial ≡ initial' → variation ≡ variation' → total ≡ total'
@@ -93,9 +93,9 @@ module _ (m : Margin) (places : Places m) (rest : List ℕ) where
     unfolding curveBytes numberAt bytesOf
     shown-base h = signed-back (curve .base) (ap (numberAt 8 (reportBytes m ++ rest)) (sym (add-zero (curvePlace k))) ∙ curve-field 8 0 k d most (omega arith)) h
 
-    pub shown-loss : mag (curve .loss) < 2 ^ 63 → shownLoss (reportBytes m ++ rest) k ≡ curve .loss
+    pub shown-loss : mag (curve .worstloss) < 2 ^ 63 → shownLoss (reportBytes m ++ rest) k ≡ curve .worstloss
     unfolding curveBytes numberAt bytesOf
-    shown-loss h = signed-back (curve .loss) (curve-field 8 8 k d most (omega arith)) h
+    shown-loss h = signed-back (curve .worstloss) (curve-field 8 8 k d most (omega arith)) h
 
     pub shown-scenario : curve .scenario < 2 ^ 32 → shownScenario (reportBytes m ++ rest) k ≡ curve .scenario
     unfolding curveBytes numberAt bytesOf
@@ -115,7 +115,7 @@ module _ (m : Margin) (places : Places m) (rest : List ℕ) where
     curve-shown h =
         same-curve
         (shown-base (h .base))
-        (shown-loss (h .loss))
+        (shown-loss (h .worstloss))
         (shown-scenario (h .scenario))
         (shown-currency (h .currency))
         (shown-tolerance (h .tolerance))

@@ -11,7 +11,7 @@ use Rattle.margin.specs.declared.Margin.{Margin}
 -- "32 bytes a curve (base i64, worst loss i64, scenario 4 bytes, currency 4 bytes, tolerance 8 bytes)"
 unfoldable pub curveBytes : CurveMargin → List ℕ
 curveBytes m =
-    bytesOf 8 (twos (m .base)) ++ bytesOf 8 (twos (m .loss)) ++ bytesOf 4 (m .scenario) ++ bytesOf 4 (m .currency) ++ bytesOf 8 (m .tolerance)
+    bytesOf 8 (twos (m .base)) ++ bytesOf 8 (twos (m .worstloss)) ++ bytesOf 4 (m .scenario) ++ bytesOf 4 (m .currency) ++ bytesOf 8 (m .tolerance)
 
 -- "initial, variation, total (i64)"
 unfoldable pub currencyBytes : CurrencyMargin → List ℕ

@@ -47,7 +47,7 @@ unfoldable pub curveShown : List ℕ → ℕ → CurveMargin
 curveShown b k =
     record {
       base = shownBase b k;
-      loss = shownLoss b k;
+      worstloss = shownLoss b k;
       scenario = shownScenario b k;
       currency = shownCurrency b k;
       tolerance = shownTolerance b k;
@@ -59,7 +59,7 @@ currencyShown b c = record { initial = shownInitial b c; variation = shownVariat
 -- the figures fit their fields
 pub record CurveFits (m : CurveMargin) : Type 0 where
   pub base : mag (m .base) < 2 ^ 63
-  pub loss : mag (m .loss) < 2 ^ 63
+  pub worstloss : mag (m .worstloss) < 2 ^ 63
   pub scenario : m .scenario < 2 ^ 32
   pub currency : m .currency < 2 ^ 32
   pub tolerance : m .tolerance < 2 ^ 64

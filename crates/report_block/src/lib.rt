@@ -17,7 +17,7 @@ fn put_curve(out: &mut [u8], at: usize, m: CurveMargin)
     ensures { λ _. ⌜ now (out .exit) ≡ put (now (out .entry)) at (curveBytes m) ⌝ }
 {
     put_signed(out, at, 8, m.base);
-    put_signed(out, at + 8, 8, m.loss);
+    put_signed(out, at + 8, 8, m.worstloss);
     put_le(out, at + 16, 4, m.scenario);
     put_le(out, at + 20, 4, m.currency);
     put_le(out, at + 24, 8, m.tolerance);

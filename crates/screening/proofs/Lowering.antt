@@ -16,8 +16,8 @@ use Rattle.curve.specs.declared.Components.{Components}
 use Rattle.curve.specs.Rates.{nodesOf, rateAt}
 use Rattle.curve.specs.Scenarios.{scenarioCount, scenarioAt}
 use Rattle.curve.specs.Stress.{stressed}
-use Rattle.sieve.proofs.Bound.{cheap-le}
-use Rattle.sieve.proofs.Powers.{whole-is}
+use Rattle.cheap.proofs.Bound.{cheap-le}
+use Rattle.cheap.proofs.Powers.{whole-is}
 use Rattle.netting.specs.Netting.{listed, netSize, cheapOn}
 use Rattle.netting.proofs.Sizes.{net-value-size}
 use Rattle.estimate.specs.Values.{scenarioValue, ScenarioValues}

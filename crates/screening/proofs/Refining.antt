@@ -14,7 +14,7 @@ use Rattle.curve.specs.declared.Curve.{Curve}
 use Rattle.curve.specs.declared.Components.{Components}
 use Rattle.curve.specs.Scenarios.{scenarioCount}
 use Rattle.estimate.specs.Values.{scenarioValue, ScenarioValues}
-use Rattle.screening.specs.Screening.{Covered, NoneAbove, Screened, refinedValue}
+use Rattle.screening.specs.Screening.{SomeCheapValueAtMost, NoneAbove, Screened, refinedValue}
 
 module _ (c : Curve) (x : Components) (nets : List ℤ) where
   -- values that are all taken from every day
@@ -71,7 +71,7 @@ module _ (c : Curve) (x : Components) (nets : List ℤ) where
           below s k true = ≤ℤ-refl (scenarioValue c x nets s)
           below s k false = low .each s k
 
-          cover : (s : ℕ) → s < scenarioCount x → (t : Bool) → leZ (getD values₀ s (pos 0)) limit ≡ t → Covered c x nets (cond t (scenarioValue c x nets s) (getD values₀ s (pos 0)))
+          cover : (s : ℕ) → s < scenarioCount x → (t : Bool) → leZ (getD values₀ s (pos 0)) limit ≡ t → SomeCheapValueAtMost c x nets (cond t (scenarioValue c x nets s) (getD values₀ s (pos 0)))
           cover s k true q = record { place = s; within = k; most = ≤ℤ-refl (scenarioValue c x nets s) }
           cover s k false q =
               let above : limit <ℤ getD values₀ s (pos 0) = leZ-no (getD values₀ s (pos 0)) limit q in

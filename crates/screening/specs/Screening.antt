@@ -17,7 +17,7 @@ pub record Least (values : List ℤ) (n m : ℕ) : Type 0 where
   pub least : (s : ℕ) → s < n → getD values m (pos 0) ≤ℤ getD values s (pos 0)
 
 -- some scenario's cheap value, from every day, is at most a number
-pub record Covered (c : Curve) (x : Components) (nets : List ℤ) (v : ℤ) : Type 0 where
+pub record SomeCheapValueAtMost (c : Curve) (x : Components) (nets : List ℤ) (v : ℤ) : Type 0 where
   pub place : ℕ
   pub within : place < scenarioCount x
   pub most : scenarioValue c x nets place ≤ℤ v
@@ -29,7 +29,7 @@ pub record NoneAbove (c : Curve) (x : Components) (nets values : List ℤ) : Typ
 -- and none below that of every scenario: so the least estimate is the least cheap value
 pub record Screened (c : Curve) (x : Components) (nets values : List ℤ) : Type 0 where
   pub below : NoneAbove c x nets values
-  pub cover : (s : ℕ) → s < scenarioCount x → Covered c x nets (getD values s (pos 0))
+  pub cover : (s : ℕ) → s < scenarioCount x → SomeCheapValueAtMost c x nets (getD values s (pos 0))
 
 -- an estimate at most a limit is taken from every day
 unfoldable pub refinedValue : Curve → Components → List ℤ → ℤ → ℕ → ℤ → ℤ

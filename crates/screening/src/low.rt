@@ -4,7 +4,7 @@ ghost use mathlib.Core.Bool.{true};
 ghost use Prim.Native.Nat.{_≤_};
 ghost use lib.IntN.{pos, _-ℤ_};
 ghost use lib.ListN.{length};
-ghost use Rattle.curve.specs.Limits.{Proper, ProperComponents};
+ghost use Rattle.curve.specs.Limits.{ProperCurve, ProperComponents};
 ghost use Rattle.curve.specs.Scenarios.{scenarioCount};
 ghost use Rattle.logarithm.specs.Logarithms.{Tables};
 ghost use Rattle.mapping.specs.Mapping.{spareOf, Mappable};
@@ -48,7 +48,7 @@ pub fn low_values(
     spare: u64,
     values: &mut [i64],
 ) -> bool
-    requires { ⌜ Proper curve × ProperComponents components × Mappable (now nets) (now days) × Tables (now tables) × (spare ≡ spareOf (now nets) (now days)) × (length (now values) ≡ 343) ⌝ }
+    requires { ⌜ ProperCurve curve × ProperComponents components × Mappable (now nets) (now days) × Tables (now tables) × (spare ≡ spareOf (now nets) (now days)) × (length (now values) ≡ 343) ⌝ }
     ensures kept { λ _. ⌜ length (now (values .exit)) ≡ length (now (values .entry)) ⌝ }
     ensures low { λ r. ⌜ (r ≡ true → NoneAbove curve components (now (nets .entry)) (now (values .exit)) × AllSmall (now (values .exit)) (scenarioCount components)) ⌝ }
 {

@@ -2,7 +2,7 @@
 ghost use mathlib.Core.Path.{_≡_};
 ghost use Prim.Native.Nat.{_≤_};
 ghost use lib.ListN.{length};
-ghost use Rattle.curve.specs.Limits.{Proper, ProperComponents};
+ghost use Rattle.curve.specs.Limits.{ProperCurve, ProperComponents};
 ghost use Rattle.curve.specs.Scenarios.{scenarioCount};
 ghost use Rattle.logarithm.specs.Logarithms.{Tables};
 ghost use Rattle.estimate.specs.Values.{Listed};
@@ -22,7 +22,7 @@ pub fn refine(
     tables: &[u64],
     values: &mut [i64],
 )
-    requires { ⌜ Proper curve × ProperComponents components × Listed (now nets) (now days) × Tables (now tables) × (scenarioCount components ≤ length (now values)) × NoneAbove curve components (now nets) (now values) × AllSmall (now values) (scenarioCount components) ⌝ }
+    requires { ⌜ ProperCurve curve × ProperComponents components × Listed (now nets) (now days) × Tables (now tables) × (scenarioCount components ≤ length (now values)) × NoneAbove curve components (now nets) (now values) × AllSmall (now values) (scenarioCount components) ⌝ }
     ensures kept { λ _. ⌜ length (now (values .exit)) ≡ length (now (values .entry)) ⌝ }
     ensures each { λ _. ⌜ Screened curve components (now (nets .entry)) (now (values .exit)) ⌝ }
 {

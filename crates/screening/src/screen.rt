@@ -4,7 +4,7 @@ ghost use mathlib.Core.Bool.{true};
 ghost use Prim.Native.Nat.{_≤_};
 ghost use lib.ListN.{length};
 ghost use Rattle.ground.specs.Limits.{dayCount};
-ghost use Rattle.curve.specs.Limits.{Proper, ComponentLimits, ProperComponents};
+ghost use Rattle.curve.specs.Limits.{ProperCurve, ComponentLimits, ProperComponents};
 ghost use Rattle.logarithm.specs.Logarithms.{Tables};
 ghost use Rattle.netting.specs.Netting.{listed, netSize};
 ghost use Rattle.estimate.specs.Values.{Listed};
@@ -78,7 +78,7 @@ fn pays(
     spare: u64,
     values: &mut [i64],
 ) -> bool
-    requires { ⌜ Proper curve × ProperComponents components × Listed (now nets) (now days) × Mappable (now nets) (now days) × Tables (now tables) × (spare ≡ spareOf (now nets) (now days)) × (length (now values) ≡ 343) ⌝ }
+    requires { ⌜ ProperCurve curve × ProperComponents components × Listed (now nets) (now days) × Mappable (now nets) (now days) × Tables (now tables) × (spare ≡ spareOf (now nets) (now days)) × (length (now values) ≡ 343) ⌝ }
     ensures { λ r. ⌜ length (now (values .exit)) ≡ length (now (values .entry)) ⌝ }
 {
     let few = outermost(components);
@@ -103,7 +103,7 @@ fn screen_mapped(
     spare: u64,
     values: &mut [i64],
 )
-    requires { ⌜ Proper curve × ProperComponents components × Listed (now nets) (now days) × Mappable (now nets) (now days) × Tables (now tables) × (spare ≡ spareOf (now nets) (now days)) × (length (now values) ≡ 343) ⌝ }
+    requires { ⌜ ProperCurve curve × ProperComponents components × Listed (now nets) (now days) × Mappable (now nets) (now days) × Tables (now tables) × (spare ≡ spareOf (now nets) (now days)) × (length (now values) ≡ 343) ⌝ }
     ensures kept { λ _. ⌜ length (now (values .exit)) ≡ length (now (values .entry)) ⌝ }
     ensures each { λ _. ⌜ Screened curve components (now (nets .entry)) (now (values .exit)) ⌝ }
 {
@@ -139,7 +139,7 @@ pub fn screen(
     tables: &[u64],
     values: &mut [i64],
 )
-    requires { ⌜ Proper curve × ProperComponents components × Tables (now tables) × (length (now nets) ≡ dayCount) × (netSize (now nets) (listed (now nets)) ≤ 140_000_000_000_000_000) × (length (now values) ≡ 343) ⌝ }
+    requires { ⌜ ProperCurve curve × ProperComponents components × Tables (now tables) × (length (now nets) ≡ dayCount) × (netSize (now nets) (listed (now nets)) ≤ 140_000_000_000_000_000) × (length (now values) ≡ 343) ⌝ }
     ensures kept { λ _. ⌜ length (now (values .exit)) ≡ length (now (values .entry)) ⌝ }
     ensures each { λ _. ⌜ Screened curve components (now (nets .entry)) (now (values .exit)) ⌝ }
 {

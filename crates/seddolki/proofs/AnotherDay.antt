@@ -5,7 +5,7 @@ use Prim.Native.Nat.{ℕ}
 use Rattle.ground.specs.declared.Ground.the-variants.{ValuationDay}
 use Rattle.ground.specs.declared.Verdict.the-variants.{Accepted, Refused}
 use Rattle.book.specs.Parts.{headerOf}
-use Rattle.book.specs.Verdict.{verdict}
+use Rattle.book.specs.Verdict.{blocksVerdict}
 use Rattle.acceptance.specs.declared.Today.the-variants.{Given}
 use Rattle.acceptance.specs.Verdict.{bookVerdict}
 use Rattle.acceptance.proofs.Laws.{other-day}
@@ -20,7 +20,7 @@ use Rattle.bootstrap.specs.Refusals.{bootstrapVerdict}
 use Rattle.bootstrap.proofs.Theorems.{refused-bootstrap}
 use Rattle.seddolki.specs.AnotherDay.{AnotherDay}
 
-module _ (s : List ℕ) (used day : ℕ) (ok : verdict s used ≡ Accepted) (other : headerOf s .day ≡ day → ⊥) where
+module _ (s : List ℕ) (used day : ℕ) (ok : blocksVerdict s used ≡ Accepted) (other : headerOf s .day ≡ day → ⊥) where
   refused : bookVerdict s used (Given day) ≡ Refused ValuationDay 0
   refused = other-day s used day ok other
 

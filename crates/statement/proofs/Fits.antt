@@ -10,7 +10,7 @@ use Rattle.ground.specs.declared.Verdict.the-variants.{Accepted}
 use Rattle.decimal.specs.Product.{unit}
 use Rattle.ladder.specs.Totals.{mostFlows}
 use Rattle.record.specs.declared.Fields.{Fields}
-use Rattle.book.specs.Verdict.{verdict}
+use Rattle.book.specs.Verdict.{blocksVerdict}
 use Rattle.book.proofs.Accepted.{sound, trade-count-most}
 use Rattle.margin.specs.declared.CurveMargin.{CurveMargin}
 use Rattle.margin.specs.declared.CurrencyMargin.{CurrencyMargin}
@@ -19,11 +19,11 @@ use Rattle.text.specs.Text.{ascii, digitsWithin, decimalOf}
 use Rattle.text.specs.Columns.{moneyText}
 use Rattle.text.proofs.Digits.{length-below, length-letters}
 use Rattle.text.proofs.Amounts.{length-largest}
-use Rattle.page_line.specs.Line.{lineDay, tradeLeft}
-use Rattle.page_line.specs.Limits.{TradeLimits}
-use Rattle.page_line.proofs.Lengths.{length-kind, length-side}
+use Rattle.page.specs.Line.{lineDay, tradeLeft}
+use Rattle.page.specs.LineLimits.{TradeLineLimits}
+use Rattle.page.proofs.LineLengths.{length-kind, length-side}
 use Rattle.page.specs.Page.{curveLeft}
-use Rattle.page.specs.Limits.{CurveLimits}
+use Rattle.page.specs.Limits.{CurveLineLimits}
 use Rattle.page.proofs.Lengths.{length-id, length-scenario}
 use Rattle.statement.specs.Fits.{Whole, CurveWhole, CurrencyWhole, EveryAmountFits}
 use Rattle.statement.proofs.Limits.{record-limits, curve-limits}
@@ -65,7 +65,7 @@ unfolding ascii
 curve-fits m h =
     record {
       base = omega (arith, length-largest (m .base) (mostFlows * unit) (h .base), ap length largest-base);
-      loss = omega (arith, length-largest (m .loss) (2 * (mostFlows * unit)) (h .loss), ap length largest-loss);
+      worstloss = omega (arith, length-largest (m .worstloss) (2 * (mostFlows * unit)) (h .worstloss), ap length largest-loss);
       tolerance = omega (arith, length-largest (pos (m .tolerance)) (mostFlows * 1000) (h .tolerance), ap length largest-tolerance);
     }
 
@@ -85,7 +85,7 @@ nominal-fits n h = omega (arith, length-largest (pos n) unit h, ap length larges
 -- ---- what stands from the left
 
 -- "1133 3 2 10950" is the longest
-trade-left : (position : ℕ) (f : Fields) → position < 1134 → TradeLimits f → length (tradeLeft position f) ≤ 14
+trade-left : (position : ℕ) (f : Fields) → position < 1134 → TradeLineLimits f → length (tradeLeft position f) ≤ 14
 unfolding tradeLeft ascii
 trade-left position f few h =
     simp length-append
@@ -98,14 +98,14 @@ trade-left position f few h =
     ))
 
 -- "8 342 TRY" is
-curve-left : (id : ℕ) (m : CurveMargin) → id ≤ 8 → CurveLimits m → length (curveLeft id m) ≤ 9
+curve-left : (id : ℕ) (m : CurveMargin) → id ≤ 8 → CurveLineLimits m → length (curveLeft id m) ≤ 9
 unfolding curveLeft ascii
 curve-left id m few h =
     simp length-append (omega (arith, length-id id m few h, length-scenario id m few h, length-letters (m .currency)))
 
 -- ---- an accepted book
 
-pub every-amount-fits : (s : List ℕ) (used : ℕ) → verdict s used ≡ Accepted → EveryAmountFits s
+pub every-amount-fits : (s : List ℕ) (used : ℕ) → blocksVerdict s used ≡ Accepted → EveryAmountFits s
 every-amount-fits s used ok =
     let b = sound s used ok in
     record {

@@ -11,7 +11,7 @@ use lib.ListN.{length, take}
 use lib.Seq.{length-take-le}
 use Rattle.ground.specs.declared.Verdict.the-variants.{Accepted}
 use Rattle.book.specs.Parts.{curveCount, tradeCount}
-use Rattle.book.specs.Verdict.{verdict}
+use Rattle.book.specs.Verdict.{blocksVerdict}
 use Rattle.book.proofs.Accepted.{Sound, sound, blocks-taken}
 use Rattle.margin.specs.declared.CurveMargin.{CurveMargin}
 use Rattle.margin.specs.Margins.{hasCurrency}
@@ -64,5 +64,5 @@ module _ (s : List ℕ) (used : ℕ) (b : Sound s used) where
           omega (arith, one, one-curve curves (omega (arith, long, one)), blocks-taken s used b .most, b .blocks, b .limit)
       go (no l) = omega (arith, three-most curves, blocks-taken s used b .most, b .blocks, b .limit)
 
-pub page-most : (s : List ℕ) (used : ℕ) → verdict s used ≡ Accepted → length (pageOf s) ≤ 92097
+pub page-most : (s : List ℕ) (used : ℕ) → blocksVerdict s used ≡ Accepted → length (pageOf s) ≤ 92097
 page-most s used ok = let b = sound s used ok in omega (arith, length-pageOf s used b, lines-most s used b)

@@ -23,10 +23,10 @@ use Rattle.margin.specs.Margins.{noCurrency}
 use Rattle.exposure.proofs.Collected.{accepted-at}
 use Rattle.report.specs.Entry.{marginIn}
 use Rattle.report.proofs.Figures.{CurveSizes, CurrencySizes, curve-sizes, currency-sizes, places, place-of, currency-at}
-use Rattle.page_line.specs.Line.{lineDay}
-use Rattle.page_line.specs.Limits.{TradeLimits}
+use Rattle.page.specs.Line.{lineDay}
+use Rattle.page.specs.LineLimits.{TradeLineLimits}
 use Rattle.page.specs.Page.{pageLength}
-use Rattle.page.specs.Limits.{CurveLimits, CurrencyLimits, PageLimits}
+use Rattle.page.specs.Limits.{CurveLineLimits, CurrencyLineLimits, PageLimits}
 use Rattle.page.proofs.Lengths.{length-page}
 use Rattle.statement.specs.Entry.{pageOf}
 
@@ -57,10 +57,10 @@ module _ (curves : Curves) (f : Fields) (h : AcceptedRecord curves f) where
           let none : (f .days .payments - 1) * f .days .period ≡ 0 = rw (z .0) (omega arith) in
           (omega (arith, z .0), omega (arith, z .1 .0), omega (arith, none, first-most))
 
-  second-most : f .days .day2 ≤ lastDay
+  second-most : f .days .valueday2 ≤ lastDay
   second-most = go (isOutright (f .form .kind)) refl
     where
-      go : (t : Bool) → isOutright (f .form .kind) ≡ t → f .days .day2 ≤ lastDay
+      go : (t : Bool) → isOutright (f .form .kind) ≡ t → f .days .valueday2 ≤ lastDay
       go true e = omega (arith, priced (f .form) (f .days) (f .amounts) (h .amounts) .bought e .0)
       go false e = days-kept (f .form) (f .days) (h .days) .lent e .1
 
@@ -68,12 +68,12 @@ module _ (curves : Curves) (f : Fields) (h : AcceptedRecord curves f) where
   unfolding lineDay
   day-most = go (hasSecurity (f .form .security)) counts-most second-most
     where
-      go : (t : Bool) → (f .days .period ≤ 366) × (f .days .payments ≤ 120) × (lastPaymentDay (f .days .first) (f .days .period) (f .days .payments) ≤ lastDay) → f .days .day2 ≤ lastDay
-          → cond t (lastPaymentDay (f .days .first) (f .days .period) (f .days .payments)) (f .days .day2) ≤ lastDay
+      go : (t : Bool) → (f .days .period ≤ 366) × (f .days .payments ≤ 120) × (lastPaymentDay (f .days .first) (f .days .period) (f .days .payments) ≤ lastDay) → f .days .valueday2 ≤ lastDay
+          → cond t (lastPaymentDay (f .days .first) (f .days .period) (f .days .payments)) (f .days .valueday2) ≤ lastDay
       go true p q = p .2
       go false p q = q
 
-  pub trade-limits : TradeLimits f
+  pub trade-limits : TradeLineLimits f
   trade-limits =
       let form = formed curves (f .form) (h .form) in
       record {
@@ -88,19 +88,19 @@ module _ (curves : Curves) (f : Fields) (h : AcceptedRecord curves f) where
 
 -- ---- figures
 
-pub curve-limits : {m : CurveMargin} → CurveSizes m → CurveLimits m
+pub curve-limits : {m : CurveMargin} → CurveSizes m → CurveLineLimits m
 unfolding unit
 curve-limits h =
-    record { base = omega (arith, h .base); loss = omega (arith, h .loss); scenario = h .scenario; tolerance = omega (arith, h .tolerance) }
+    record { base = omega (arith, h .base); worstloss = omega (arith, h .worstloss); scenario = h .scenario; tolerance = omega (arith, h .tolerance) }
 
-pub currency-limits : {m : CurrencyMargin} → CurrencySizes m → CurrencyLimits m
+pub currency-limits : {m : CurrencyMargin} → CurrencySizes m → CurrencyLineLimits m
 unfolding unit
 currency-limits h = record { initial = omega (arith, h .initial); variation = omega (arith, h .variation); total = omega (arith, h .total) }
 
 -- ---- all of a book
 
 module _ (s : List ℕ) (used : ℕ) (b : Sound s used) where
-  pub record-limits : (i : ℕ) → i < tradeCount s → TradeLimits (fieldsOf (recordAt s i))
+  pub record-limits : (i : ℕ) → i < tradeCount s → TradeLineLimits (fieldsOf (recordAt s i))
   record-limits i l = trade-limits _ (fieldsOf (recordAt s i)) (accepted-at s used b i l)
 
   pub page-limits : PageLimits (curveCount s) (marginIn s) (records s)

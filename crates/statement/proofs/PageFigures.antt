@@ -9,7 +9,7 @@ use lib.ListN.{length, getD, take}
 use Rattle.ground.specs.declared.Verdict.the-variants.{Accepted}
 use Rattle.record.specs.Bytes.{fieldsOf}
 use Rattle.book.specs.Parts.{curveCount, tradeCount, recordAt, records}
-use Rattle.book.specs.Verdict.{verdict}
+use Rattle.book.specs.Verdict.{blocksVerdict}
 use Rattle.book.proofs.Accepted.{Sound, sound}
 use Rattle.book.proofs.Places.{length-records, record-of}
 use Rattle.margin.specs.declared.CurveMargin.{CurveMargin}
@@ -39,13 +39,13 @@ module _ (s : List ℕ) (used : ℕ) (b : Sound s used) (rest : List ℕ) where
     curve-of = place-of s used b k least most ∙ sym (curve-is s used b rest k least most)
 
     curve-amount : (j : ℕ) → j < 3
-        → let c = curveShown (reportBytes (marginIn s) ++ rest) k in amountAt (pageOf s) (tradeCount s + k) (14 + 22 * j) ≡ getD (c .base ∷ c .loss ∷ pos (c .tolerance) ∷ []) j (pos 0)
+        → let c = curveShown (reportBytes (marginIn s) ++ rest) k in amountAt (pageOf s) (tradeCount s + k) (14 + 22 * j) ≡ getD (c .base ∷ c .worstloss ∷ pos (c .tolerance) ∷ []) j (pos 0)
     unfolding pageOf
     curve-amount j l =
         let e : tradeCount s + k ≡ 1 + length (records s) + (k - 1) = omega (arith, length-records s) in
         ap (λ (line : ℕ). amountAt (pageOf s) line (14 + 22 * j)) e
         ∙ curve-read (curveCount s) (marginIn s) (records s) (page-limits s used b) (k - 1) (omega arith) j l
-        ∙ ap (λ (c : CurveMargin). getD (c .base ∷ c .loss ∷ pos (c .tolerance) ∷ []) j (pos 0)) curve-of
+        ∙ ap (λ (c : CurveMargin). getD (c .base ∷ c .worstloss ∷ pos (c .tolerance) ∷ []) j (pos 0)) curve-of
 
   module _ (c : ℕ) (least : 1 ≤ c) (most : c ≤ 3) (has : hasCurrency c (take (curveCount s) (marginIn s .curves)) ≡ true) where
     currency-of : getD (marginIn s .currencies) (c - 1) noCurrency ≡ currencyShown (reportBytes (marginIn s) ++ rest) c
@@ -61,13 +61,13 @@ module _ (s : List ℕ) (used : ℕ) (b : Sound s used) (rest : List ℕ) where
         ∙ currency-read (curveCount s) (marginIn s) (records s) (page-limits s used b) c least most has j l
         ∙ ap (λ (f : CurrencyMargin). getD (f .initial ∷ f .variation ∷ f .total ∷ []) j (pos 0)) currency-of
 
-pub page-reads : (s : List ℕ) (used : ℕ) → verdict s used ≡ Accepted → (rest : List ℕ) → PageReads s rest
+pub page-reads : (s : List ℕ) (used : ℕ) → blocksVerdict s used ≡ Accepted → (rest : List ℕ) → PageReads s rest
 page-reads s used ok rest =
     let b = sound s used ok in
     record {
       nominal = nominal-of s used b rest;
       base = λ k l m. curve-amount s used b rest k l m 0 (omega arith);
-      loss = λ k l m. curve-amount s used b rest k l m 1 (omega arith);
+      worstloss = λ k l m. curve-amount s used b rest k l m 1 (omega arith);
       tolerance = λ k l m. curve-amount s used b rest k l m 2 (omega arith);
       initial = λ c l m has. currency-amount s used b rest c l m has 0 (omega arith);
       variation = λ c l m has. currency-amount s used b rest c l m has 1 (omega arith);

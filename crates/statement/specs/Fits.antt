@@ -12,7 +12,7 @@ use Rattle.margin.specs.Margins.{curveMargin, currencyMargin}
 use Rattle.exposure.specs.Exposures.{exposureAt, exposures}
 use Rattle.text.specs.Text.{letters}
 use Rattle.text.specs.Columns.{amountText}
-use Rattle.page_line.specs.Line.{tradeLeft}
+use Rattle.page.specs.Line.{tradeLeft}
 use Rattle.page.specs.Page.{curveLeft}
 
 abbrev pub Whole : ℤ → Type 0
@@ -20,7 +20,7 @@ Whole z = length (amountText z) ≤ 22
 
 pub record CurveWhole (m : CurveMargin) : Type 0 where
   pub base : Whole (m .base)
-  pub loss : Whole (m .loss)
+  pub worstloss : Whole (m .worstloss)
   pub tolerance : Whole (pos (m .tolerance))
 
 pub record CurrencyWhole (m : CurrencyMargin) : Type 0 where

@@ -22,7 +22,7 @@ currencyLineOf s c = 1 + tradeCount s + curveCount s + currenciesBelow (take (cu
 pub record PageReads (s rest : List ℕ) : Type 0 where
   pub nominal : (i : ℕ) → i < tradeCount s → amountAt (pageOf s) (1 + i) 58 ≡ pos (fieldsOf (recordAt s i) .amounts .nominal)
   pub base : (k : ℕ) → 1 ≤ k → k ≤ curveCount s → amountAt (pageOf s) (tradeCount s + k) 14 ≡ curveShown (reportBytes (marginIn s) ++ rest) k .base
-  pub loss : (k : ℕ) → 1 ≤ k → k ≤ curveCount s → amountAt (pageOf s) (tradeCount s + k) 36 ≡ curveShown (reportBytes (marginIn s) ++ rest) k .loss
+  pub worstloss : (k : ℕ) → 1 ≤ k → k ≤ curveCount s → amountAt (pageOf s) (tradeCount s + k) 36 ≡ curveShown (reportBytes (marginIn s) ++ rest) k .worstloss
   pub tolerance : (k : ℕ) → 1 ≤ k → k ≤ curveCount s → amountAt (pageOf s) (tradeCount s + k) 58 ≡ pos (curveShown (reportBytes (marginIn s) ++ rest) k .tolerance)
   pub initial : (c : ℕ) → 1 ≤ c → c ≤ 3 → hasCurrency c (take (curveCount s) (marginIn s .curves)) ≡ true → amountAt (pageOf s) (currencyLineOf s c) 14 ≡ currencyShown (reportBytes (marginIn s) ++ rest) c .initial
   pub variation : (c : ℕ) → 1 ≤ c → c ≤ 3 → hasCurrency c (take (curveCount s) (marginIn s .curves)) ≡ true → amountAt (pageOf s) (currencyLineOf s c) 36 ≡ currencyShown (reportBytes (marginIn s) ++ rest) c .variation

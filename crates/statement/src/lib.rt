@@ -13,7 +13,7 @@ ghost use Rattle.book.specs.Parts.{records};
 ghost use Rattle.book.specs.Verdict.{StartsWithBook};
 ghost use Rattle.report.specs.Entry.{marginIn};
 ghost use Rattle.text.specs.Text.{linesOf, inFront, TextWritten};
-ghost use Rattle.page_line.specs.Line.{recordLine};
+ghost use Rattle.page.specs.Line.{recordLine};
 ghost use Rattle.statement.specs.Entry.{pageOf, pageVerdict, statementAnswer, statementBytes};
 
 // The lines of the trades of an accepted book, from a place on, and the place behind them.
@@ -27,7 +27,7 @@ fn put_trades(book: &[u8], out: &mut [u8], at: usize) -> usize
     let mut i: usize = 0;
     while i < count {
         let r = parts::record_at(book, i);
-        next = page_line::put_trade(out, next, i as u64, record::bytes::fields_of(&r));
+        next = page::line::put_trade(out, next, i as u64, record::bytes::fields_of(&r));
         i += 1;
     }
     next
@@ -43,7 +43,7 @@ fn write_page(book: &[u8], m: Margin, out: &mut [u8]) -> usize
     let count = parts::curve_count(book);
     let curves = m.curves;
     let currencies = m.currencies;
-    let first = page_line::put_title(out, 0, m.account);
+    let first = page::line::put_title(out, 0, m.account);
     let second = put_trades(book, out, first);
     let third = page::put_curves(out, second, curves, count);
     page::put_currencies(out, third, curves, count, currencies)

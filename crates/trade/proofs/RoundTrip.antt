@@ -81,8 +81,8 @@ module _ {curves : Curves} (f : Fields) (r : FormAndAmounts curves f) where
           blank = sym (r .amounts .blank) i;
         };
         days = record {
-          day1 = f .days .day1;
-          day2 = sym (unused .0) i;
+          valueday1 = f .days .valueday1;
+          valueday2 = sym (unused .0) i;
           first = b .first;
           period = b .period;
           payments = b .payments;
@@ -113,8 +113,8 @@ module _ {curves : Curves} (f : Fields) (r : FormAndAmounts curves f) where
           blank = sym (r .amounts .blank) i;
         };
         days = record {
-          day1 = f .days .day1;
-          day2 = f .days .day2;
+          valueday1 = f .days .valueday1;
+          valueday2 = f .days .valueday2;
           first = b .first;
           period = b .period;
           payments = b .payments;

@@ -42,7 +42,7 @@ abbrev pub outrightOf : Fields → OutrightTrade
 outrightOf f = record {
   side = f .form .side;
   cashcurve = f .form .cashcurve;
-  day1 = f .days .day1;
+  valueday1 = f .days .valueday1;
   price = record { 0 = f .amounts .price };
   accrued = f .amounts .accrued;
   security = securityOf f;
@@ -53,8 +53,8 @@ repoOf f = record {
   side = f .form .side;
   phase = f .form .phase;
   cashcurve = f .form .cashcurve;
-  day1 = f .days .day1;
-  day2 = f .days .day2;
+  valueday1 = f .days .valueday1;
+  valueday2 = f .days .valueday2;
   term = f .days .term;
   cash = f .amounts .cash;
   rate = f .amounts .price;

@@ -26,7 +26,7 @@ filledBy (Indexed i) = i
 unfoldable pub fieldsOfOutright : OutrightTrade → Fields
 fieldsOfOutright t = let i = filledBy (t .security) in let b = i .bond in record {
   form = record { kind = 1; side = t .side; phase = 0; securitycurve = b .curve; cashcurve = t .cashcurve; security = numberOf (t .security); blank = 0 };
-  days = record { day1 = t .day1; day2 = 0; first = b .first; period = b .period; payments = b .payments; term = 0 };
+  days = record { valueday1 = t .valueday1; valueday2 = 0; first = b .first; period = b .period; payments = b .payments; term = 0 };
   amounts = record {
     coupon = b .coupon;
     nominal = b .nominal;
@@ -41,7 +41,7 @@ fieldsOfOutright t = let i = filledBy (t .security) in let b = i .bond in record
 unfoldable pub fieldsOfRepo : ℕ → RepoTrade → Fields
 fieldsOfRepo kind t = let i = filledBy (t .security) in let b = i .bond in record {
   form = record { kind = kind; side = t .side; phase = t .phase; securitycurve = b .curve; cashcurve = t .cashcurve; security = numberOf (t .security); blank = 0 };
-  days = record { day1 = t .day1; day2 = t .day2; first = b .first; period = b .period; payments = b .payments; term = t .term };
+  days = record { valueday1 = t .valueday1; valueday2 = t .valueday2; first = b .first; period = b .period; payments = b .payments; term = t .term };
   amounts = record {
     coupon = b .coupon;
     nominal = b .nominal;

@@ -17,7 +17,7 @@ use Rattle.layout.proofs.Sealed.{length-sealed}
 use Rattle.book.specs.Parts.{blockAt, curveCount, tradeBlocks}
 use Rattle.book.specs.Encode.{blocksFor}
 use Rattle.book.proofs.Places.{block-put, block-apart}
-use Rattle.trade_edit.specs.Blocks.{withRecord, bareBlock, withTradeBlocks, lengthened, placeOf, recordMoved, endOf, cutBack, blockSealed}
+use Rattle.trade_edit.specs.Blocks.{withRecord, bareBlock, withTradeBlocks, withNewBlock, placeOf, recordMoved, endOf, cutBack, blockSealed}
 
 -- ---- lengths
 
@@ -58,8 +58,8 @@ module _ (f : List ℕ → List ℕ) (same : (b : List ℕ) → length (f b) ≡
 
 pub grow-left : (s : List ℕ) (used : ℕ) (r : List ℕ) {blocks : ℕ} {bare b t u : List ℕ} → 512 ≤ length s
     → blocks ≡ tradeBlocks s → bare ≡ bareBlock (used / 512) → b ≡ withRecord bare 0 r → t ≡ put s used b → u ≡ withTradeBlocks (part t 0 512) (blocks + 1)
-    → take 0 t ++ (u ++ drop 512 (drop 0 t)) ≡ lengthened s used r
-unfolding lengthened
+    → take 0 t ++ (u ++ drop 512 (drop 0 t)) ≡ withNewBlock s used r
+unfolding withNewBlock
 grow-left s used r {blocks} {bare} {b} {t} h en ea eb et eu =
     let all : t ≡ put s used (withRecord (bareBlock (used / 512)) 0 r) = et ∙ rw (eb, ea) in
     block-left (λ (d : List ℕ). withTradeBlocks d (blocks + 1)) (length-withTradeBlocks (blocks + 1)) t 0 (rw (all, length-put) h) eu ∙ rw (en, all)

@@ -25,8 +25,8 @@ withTradeBlocks b n = sealed (put b 10 (bytesOf 2 n))
 -- ---- steps
 
 -- a new block behind the book, with the record, and the header's count
-unfoldable pub lengthened : List ℕ → ℕ → List ℕ → List ℕ
-lengthened s used r =
+unfoldable pub withNewBlock : List ℕ → ℕ → List ℕ → List ℕ
+withNewBlock s used r =
     onBlock (λ (b : List ℕ). withTradeBlocks b (tradeBlocks s + 1)) (put s used (withRecord (bareBlock (used / 512)) 0 r)) 0
 
 -- where the record at a position stands, behind so many curves

@@ -13,12 +13,12 @@ ghost use lib.ListN.{length};
 ghost use Rattle.laws.specs.Walk.{run};
 ghost use Rattle.layout.specs.Bytes.{part, put};
 ghost use Rattle.book.specs.Parts.{curveCount};
-ghost use Rattle.trade_edit.specs.Blocks.{lengthened, placeOf, recordMoved, endOf, cutBack, blockSealed};
+ghost use Rattle.trade_edit.specs.Blocks.{withNewBlock, placeOf, recordMoved, endOf, cutBack, blockSealed};
 
 // A new block behind the book, with the record, and the header's count.
 pub fn grow(book: &mut [u8], used: usize, r: [u8; 56])
     requires { ⌜ (512 ≤ used) × (used + 512 ≤ length (now book)) ⌝ }
-    ensures { λ _. ⌜ now (book .exit) ≡ lengthened (now (book .entry)) used r ⌝ }
+    ensures { λ _. ⌜ now (book .exit) ≡ withNewBlock (now (book .entry)) used r ⌝ }
 {
     let blocks = trade_blocks(&book[..]);
     let mut b = bare_block(used / 512);

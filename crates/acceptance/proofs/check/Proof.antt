@@ -13,13 +13,13 @@ use Rattle.acceptance.proofs.check.Tie as tie
 returns : tie.Need-returns
 unfolding bookVerdict
 returns c =
-    let e = c .before .before .check .ensures in
+    let e = c .before .before .blocks-verdict .ensures in
     e ∙ sym (stops _ _ (rw e at (sym (c .before .is-accepted .ensures) ∙ not-true _ (c .if1 .taken))))
 
 valuation-day-requires : tie.Need-valuation-day-requires
 valuation-day-requires c κs =
     let accepted = is-accepted _ (sym (c .before .is-accepted .ensures) ∙ not-false _ (c .if1 .left)) in
-    let b = sound _ _ (sym (c .before .before .check .ensures) ∙ accepted) in
+    let b = sound _ _ (sym (c .before .before .blocks-verdict .ensures) ∙ accepted) in
     omega (arith, b .blocks, b .lent)
 
 returns-2 : tie.Need-returns-2
@@ -27,7 +27,7 @@ unfolding bookVerdict
 returns-2 c =
     let day = c .before .before in
     let checked = day .before .before .before in
-    also ValuationDay 0 (checked .check .ensures) (rw (day .valuation-day .ensures) at (c .before .breaks-valuation-day .ensures)) (c .or-if .ensures)
+    also ValuationDay 0 (checked .blocks-verdict .ensures) (rw (day .valuation-day .ensures) at (c .before .breaks-valuation-day .ensures)) (c .or-if .ensures)
 
 pub check-spec : {M : Type 1} → statement M
 check-spec =

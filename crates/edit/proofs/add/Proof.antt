@@ -9,7 +9,7 @@ use Rattle.book.specs.Parts.{tradeCount}
 use Rattle.book.proofs.Accepted.{sound}
 use Rattle.trade_edit.specs.Blocks.{withRecord}
 use Rattle.trade_edit.proofs.StepLaws.{length-withRecord, block-left}
-use Rattle.edit.proofs.Added.{filled-lent, lengthened-lent}
+use Rattle.edit.proofs.Added.{filled-lent, new-block-lent}
 use Rattle.edit.proofs.Given.{record-admitted, room}
 use borrow.Author.Needs.{needs}
 use Rattle.edit.proofs.add.Statement.{statement}
@@ -48,7 +48,7 @@ returns c =
     let bytes : AreBytes s = λ k. omega (arith, counted .before .before .slice-known .given k) in
     let full = ap (λ (n : ℕ). n % 9) (sym (counted .trade-count .ensures)) ∙ tested .if1 .taken in
     let space = room (tradeCount s) used (length s) (w .roomy) full in
-    let a = lengthened-lent s used bytes (w .accepted) r long full (space .within) in
+    let a = new-block-lent s used bytes (w .accepted) r long full (space .within) in
     (a .0, c .before .before .grow .ensures ∙ a .1)
 
 sub-put-record : tie.Need-sub-put-record

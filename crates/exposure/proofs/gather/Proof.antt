@@ -7,7 +7,7 @@ use lib.ListN.{length}
 use Rattle.record.specs.Bytes.{fieldsOf}
 use Rattle.trade.specs.Read.{tradeOf}
 use Rattle.flows.specs.Legs.{flowsOf, breaksFlowLimit}
-use Rattle.flows.specs.Limits.{Valued}
+use Rattle.flows.specs.Limits.{SoundTrade}
 use Rattle.book.specs.Parts.{tradeCount}
 use Rattle.book.proofs.Accepted.{Sound, sound, place-held, length-recordAt}
 use Rattle.exposure.specs.Exposures.{tradeAt}
@@ -62,11 +62,11 @@ module _ (c : tie.After-trade-of Inv-loop μ-loop) where
   trade-is =
       c .trade-of .ensures ∙ ap tradeOf (c .before .fields-of .ensures ∙ ap fieldsOf (c .before .before .before .record-at .ensures))
 
-  can-be-valued : Valued (tradeAt (start .args .book .now) (turn .before .loop .i))
-  can-be-valued = accepted-at (start .args .book .now) (start .pre .0 .used) (here start) (turn .before .loop .i) (at turn) .valued
+  trade-sound : SoundTrade (tradeAt (start .args .book .now) (turn .before .loop .i))
+  trade-sound = accepted-at (start .args .book .now) (start .pre .0 .used) (here start) (turn .before .loop .i) (at turn) .trade
 
 legs-of-requires : tie.Need-legs-of-requires Inv-loop μ-loop
-legs-of-requires c κs = rw (trade-is c) (can-be-valued c)
+legs-of-requires c κs = rw (trade-is c) (trade-sound c)
 
 push-legs-requires : tie.Need-push-legs-requires Inv-loop μ-loop
 unfolding breaksFlowLimit
@@ -75,7 +75,7 @@ push-legs-requires c κs =
     let read = legs .before in
     let inv = turn read .before .loop .inv in (
       omega (arith, inv .1, inv .2 .few, at (turn read), start read .pre .1),
-      record { reach = legs .legs-of .ensures .1; within = rw (legs .legs-of .ensures .0, trade-is read) (can-be-valued read .within) },
+      record { reach = legs .legs-of .ensures .1; within = rw (legs .legs-of .ensures .0, trade-is read) (trade-sound read .within) },
     )
 
 add-i : tie.Need-add-i Inv-loop μ-loop

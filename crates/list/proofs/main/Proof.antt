@@ -2,7 +2,7 @@
 use mathlib.Core.Path.{sym}
 use lib.Seq.{length-take-le}
 use borrow.Author.Needs.{needs}
-use Rattle.account_list.proofs.Sufficing.{length-listed, never-refused}
+use Rattle.list.proofs.Sufficing.{length-listed, never-refused}
 use Rattle.list.proofs.main.Statement.{statement}
 use Rattle.list.proofs.main.Tie as tie
 

@@ -12,7 +12,7 @@ use Rattle.listing.proofs.put_curve_figures.Tie as tie
 fits-base : (s : tie.Start) → SFits w64 (s .args .m .base)
 fits-base s = search needs
 
-fits-loss : (s : tie.Start) → SFits w64 (s .args .m .loss)
+fits-loss : (s : tie.Start) → SFits w64 (s .args .m .worstloss)
 fits-loss s = search needs
 
 returns : tie.Need-returns

@@ -2,7 +2,7 @@
 use native.Mathlib.Omega.{arith}
 use borrow.Author.Needs.{needs}
 use Rattle.layout.proofs.Signed.{code-read}
-use Rattle.page_line.proofs.LineWritten.{one-amount, more-amounts}
+use Rattle.page.proofs.LineWritten.{one-amount, more-amounts}
 use Rattle.page.proofs.put_amounts.Statement.{statement}
 use Rattle.page.proofs.put_amounts.Tie as tie
 

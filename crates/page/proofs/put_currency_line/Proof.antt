@@ -11,7 +11,7 @@ use Rattle.layout.proofs.Signed.{code-read}
 use Rattle.text.specs.Text.{letters}
 use Rattle.text.proofs.Digits.{length-letters}
 use Rattle.page.specs.Page.{currencyLine}
-use Rattle.page_line.proofs.LineWritten.{line-written}
+use Rattle.page.proofs.LineWritten.{line-written}
 use Rattle.page.proofs.put_currency_line.Statement.{statement}
 use Rattle.page.proofs.put_currency_line.Tie as tie
 

@@ -12,14 +12,14 @@ use Rattle.laws.proofs.Signed.{cast-is}
 use Rattle.layout.proofs.Signed.{code-read}
 use Rattle.text.proofs.Amounts.{length-blanks}
 use Rattle.page.specs.Page.{curveLeft, curveLine}
-use Rattle.page_line.proofs.LineWritten.{line-written}
+use Rattle.page.proofs.LineWritten.{line-written}
 use Rattle.page.proofs.put_curve.Statement.{statement}
 use Rattle.page.proofs.put_curve.Tie as tie
 
 fits-base : (s : tie.Start) → SFits w64 (s .args .m .base)
 fits-base s = search needs
 
-fits-loss : (s : tie.Start) → SFits w64 (s .args .m .loss)
+fits-loss : (s : tie.Start) → SFits w64 (s .args .m .worstloss)
 fits-loss s = search needs
 
 put-amounts-requires : tie.Need-put-amounts-requires
@@ -67,7 +67,7 @@ returns c =
     let text = curveLeft (s .args .id) (s .args .m) in
     let gap : s .args .at + 14 - left .put-curve-left .result ≡ 80 - 22 * 3 - length text = omega (arith, left .put-curve-left .ensures .0 .place) in
     let three = rw (code-read _ (fits-base s), code-read _ (fits-loss s), cast-is (s .args .m .tolerance) (s .pre .1 .1 .tolerance)) at (amounts .put-amounts .ensures .0) in
-    line-written text (s .args .m .base ∷ s .args .m .loss ∷ pos (s .args .m .tolerance) ∷ []) _ gap (left .put-curve-left .ensures .0) (filled .put-blanks .ensures) three (end .put-text .ensures)
+    line-written text (s .args .m .base ∷ s .args .m .worstloss ∷ pos (s .args .m .tolerance) ∷ []) _ gap (left .put-curve-left .ensures .0) (filled .put-blanks .ensures) three (end .put-text .ensures)
 
 pub put-curve-spec : {M : Type 1} → statement M
 put-curve-spec =

@@ -11,7 +11,7 @@ use Rattle.report_block.proofs.put_curve.Tie as tie
 fits-base : (s : tie.Start) → SFits w64 (s .args .m .base)
 fits-base s = search needs
 
-fits-loss : (s : tie.Start) → SFits w64 (s .args .m .loss)
+fits-loss : (s : tie.Start) → SFits w64 (s .args .m .worstloss)
 fits-loss s = search needs
 
 returns : tie.Need-returns
@@ -29,7 +29,7 @@ returns c =
     let s = after-slice-known .before in
     curve-put _ _ _ _ _ _ _ (s .args .m)
     (first .put-signed .ensures ∙ read-back _ _ 8 (s .args .m .base) (fits-base s))
-    (second .put-signed2 .ensures ∙ read-back _ _ 8 (s .args .m .loss) (fits-loss s))
+    (second .put-signed2 .ensures ∙ read-back _ _ 8 (s .args .m .worstloss) (fits-loss s))
     (third .put-le .ensures)
     (fourth .put-le2 .ensures)
     (fifth .put-le3 .ensures)

@@ -12,8 +12,8 @@ use Rattle.book.proofs.Places.{length-records, record-of}
 use Rattle.text.specs.Text.{linesOf}
 use Rattle.text.proofs.Lines.{lines-next, lines-none}
 use Rattle.text.proofs.Writing.{TextLeft, text-all, text-room, text-next, text-none}
-use Rattle.page_line.specs.Line.{recordLine}
-use Rattle.page_line.proofs.Lengths.{length-trade-line}
+use Rattle.page.specs.Line.{recordLine}
+use Rattle.page.proofs.LineLengths.{length-trade-line}
 use Rattle.statement.proofs.Limits.{record-limits}
 use Rattle.statement.proofs.put_trades.Statement.{statement}
 use Rattle.statement.proofs.put_trades.Tie as tie

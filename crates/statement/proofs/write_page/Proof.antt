@@ -10,8 +10,8 @@ use Rattle.book.specs.Parts.{curveCount, records}
 use Rattle.book.proofs.Accepted.{Sound, sound}
 use Rattle.text.specs.Text.{linesOf}
 use Rattle.text.proofs.Writing.{and-then, written-as}
-use Rattle.page_line.specs.Line.{titleLine, recordLine}
-use Rattle.page_line.proofs.Lengths.{length-title-line}
+use Rattle.page.specs.Line.{titleLine, recordLine}
+use Rattle.page.proofs.LineLengths.{length-title-line}
 use Rattle.page.specs.Page.{curveLine, currencyPartOf, page}
 use Rattle.page.specs.Limits.{PageLimits}
 use Rattle.page.proofs.Lengths.{length-parts-of}

@@ -5,12 +5,12 @@ use Rattle.bond.proofs.value.value_of.Statement.{statement}
 use Rattle.bond.proofs.value.value_of.Tie as tie
 
 returns : tie.Need-returns
-returns c = c .before .settled-payment .ensures (c .if1 .taken)
+returns c = c .before .fine-value-of .ensures (c .if1 .taken)
 
 present-value-requires : tie.Need-present-value-requires
 present-value-requires c κs =
-    let after-settled = c .before .before in
-    let start = after-settled .before .before in
+    let after-found = c .before .before in
+    let start = after-found .before .before in
     (start .pre .1, rw (c .rate-at .ensures) (rate-most _ _ (start .pre .0)))
 
 returns-2 : tie.Need-returns-2

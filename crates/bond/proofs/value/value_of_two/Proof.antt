@@ -13,20 +13,20 @@ use Rattle.bond.proofs.value.value_of_two.Tie as tie
 
 -- where both are known
 module _ (c : tie.Then1) where
-  abbrev settled : tie.After-settled-payment2
-  settled = c .before .before .before
+  abbrev found : tie.After-fine-value-of2
+  found = c .before .before .before
 
   abbrev start : tie.Start
-  start = settled .before .before .before
+  start = found .before .before .before
 
-  known : (settled .before .settled-payment .result .known ≡ true) × (settled .settled-payment2 .result .known ≡ true)
-  known = both (settled .before .settled-payment .result .known) (settled .settled-payment2 .result .known) (c .if1 .taken)
+  known : (found .before .fine-value-of .result .known ≡ true) × (found .fine-value-of2 .result .known ≡ true)
+  known = both (found .before .fine-value-of .result .known) (found .fine-value-of2 .result .known) (c .if1 .taken)
 
-  first : settled .before .settled-payment .result .value ≡ flowValue (rateAt (nodesOf (start .args .c))) (start .args .f)
-  first = settled .before .settled-payment .ensures (known .0)
+  first : found .before .fine-value-of .result .value ≡ flowValue (rateAt (nodesOf (start .args .c))) (start .args .f)
+  first = found .before .fine-value-of .ensures (known .0)
 
-  second : settled .settled-payment2 .result .value ≡ flowValue (rateAt (nodesOf (start .args .c))) (start .args .g)
-  second = settled .settled-payment2 .ensures (known .1)
+  second : found .fine-value-of2 .result .value ≡ flowValue (rateAt (nodesOf (start .args .c))) (start .args .g)
+  second = found .fine-value-of2 .ensures (known .1)
 
 add-result : tie.Need-add-result
 unfolding unit

@@ -1,4 +1,4 @@
--- `discount::daily::day_power` meets its contract, by those of `run` and `settled`.
+-- `discount::daily::day_power` meets its contract, by those of `run` and `power_from_guess`.
 use Prim.Native.Nat.{zero-le}
 use native.Mathlib.Omega.{arith}
 use borrow.Author.Needs.{needs}
@@ -22,12 +22,12 @@ run-requires-2 c κs =
     let guessed = c .before .before in
     (guessed .guess .ensures, guessed .before .pre .1, c .run .ensures)
 
-settled-requires : tie.Need-settled-requires
+power-from-guess-requires : tie.Need-power-from-guess-requires
 unfolding unit year
-settled-requires c κs =
+power-from-guess-requires c κs =
     let at-k = c .before in
     let guessed = at-k .before .before in
     (guessed .before .pre .0, guessed .guess .ensures, at-k .run .ensures .low-is, c .run2 .ensures)
 
 pub day-power-spec : {M : Type 1} → statement M
-day-power-spec = tie.close (tie.spec guess-requires (λ c κs. search needs) run-requires run-requires-2 settled-requires (λ c. c .settled .ensures))
+day-power-spec = tie.close (tie.spec guess-requires (λ c κs. search needs) run-requires run-requires-2 power-from-guess-requires (λ c. c .power-from-guess .ensures))

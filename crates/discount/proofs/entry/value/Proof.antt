@@ -13,12 +13,12 @@ use Rattle.discount.proofs.entry.value.Statement.{statement}
 use Rattle.discount.proofs.entry.value.Tie as tie
 
 -- what is asked of the entry is in its limits
-record Limits (amount rate day : ℕ) : Type 0 where
+record ValueLimits (amount rate day : ℕ) : Type 0 where
   amount-le : amount ≤ unit
   rate-le : rate ≤ million
   day-le : day ≤ 10950
 
-limits : (amount rate day : ℕ) → breaksValueRange amount rate day ≡ false → Limits amount rate day
+limits : (amount rate day : ℕ) → breaksValueRange amount rate day ≡ false → ValueLimits amount rate day
 unfolding breaksValueRange
 limits amount rate day h =
     let outer = neither (ltb unit amount || ltb million rate) (ltb 10950 day) h in
@@ -29,7 +29,7 @@ limits amount rate day h =
       day-le = ltb-false 10950 day (outer .1);
     }
 
-here : (c : tie.Else1) → Limits (c .before .before .args .amount) (c .before .before .args .rate) (c .before .before .args .day)
+here : (c : tie.Else1) → ValueLimits (c .before .before .args .amount) (c .before .before .args .rate) (c .before .before .args .day)
 here c = limits _ _ _ (sym (c .before .breaks-value-range .ensures) ∙ c .if1 .left)
 
 returns : tie.Need-returns

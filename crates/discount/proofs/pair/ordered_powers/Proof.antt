@@ -1,4 +1,4 @@
--- `discount::pair::ordered_powers` meets its contract, by those of `run` and `settled`.
+-- `discount::pair::ordered_powers` meets its contract, by those of `run` and `power_from_guess`.
 use Prim.Native.Nat.{zero-le}
 use native.Mathlib.Omega.{arith}
 use borrow.Author.Needs.{needs}
@@ -39,17 +39,17 @@ run-requires-3 c κs =
     let start = guessed .before .before in
     (guessed .before .guess .ensures, guessed .guess2 .ensures, start .pre .3, c .run2 .ensures .0, c .run2 .ensures .1)
 
-settled-requires : tie.Need-settled-requires
+power-from-guess-requires : tie.Need-power-from-guess-requires
 unfolding unit year
-settled-requires c κs =
+power-from-guess-requires c κs =
     let ends = c .before .before in
     let at-j = ends .before .before in
     let guessed = at-j .before .before .before in
     (guessed .before .before .pre .0, guessed .before .guess .ensures, at-j .run .ensures .0 .low-is, ends .run3 .ensures .0)
 
-settled-requires-2 : tie.Need-settled-requires-2
+power-from-guess-requires-2 : tie.Need-power-from-guess-requires-2
 unfolding unit year
-settled-requires-2 c κs =
+power-from-guess-requires-2 c κs =
     let ends = c .before .before .before in
     let at-k = ends .before in
     let at-j = at-k .before in
@@ -58,10 +58,10 @@ settled-requires-2 c κs =
 
 returns : tie.Need-returns
 returns c =
-    let first = c .before .settled .ensures in
-    (first .0, first .1, c .settled2 .ensures .0, c .settled2 .ensures .1)
+    let first = c .before .power-from-guess .ensures in
+    (first .0, first .1, c .power-from-guess2 .ensures .0, c .power-from-guess2 .ensures .1)
 
 pub ordered-powers-spec : {M : Type 1} → statement M
 ordered-powers-spec =
     tie.close
-    (tie.spec guess-requires guess-requires-2 (λ c κs. search needs) (λ c κs. search needs) run-requires run-requires-2 run-requires-3 settled-requires settled-requires-2 returns)
+    (tie.spec guess-requires guess-requires-2 (λ c κs. search needs) (λ c κs. search needs) run-requires run-requires-2 run-requires-3 power-from-guess-requires power-from-guess-requires-2 returns)

@@ -3,7 +3,7 @@ use borrow.Author.Needs.{needs}
 use Prim.Native.Nat.{ℕ, _+_, _*_, _≤_}
 use native.Mathlib.Omega.{arith}
 use Rattle.laws.proofs.Signed.{fits, read-is, back}
-use Rattle.estimate.specs.Lines.{parts}
+use Rattle.estimate.specs.Lines.{lineScale}
 use Rattle.estimate.proofs.LineCode.{moved-size, code-moved, code-start, start-size}
 use Rattle.estimate.proofs.lines.line_from.Statement.{statement}
 use Rattle.estimate.proofs.lines.line_from.Tie as tie
@@ -14,7 +14,7 @@ module _ (s : tie.Start) where
   high = s .args .a .rate * 134217728 + s .args .above
 
   high-most : high ≤ 140000000000000
-  unfolding parts
+  unfolding lineScale
   high-most = omega (arith, s .pre .0 .rate, s .pre .1)
 
 mul-t8 : tie.Need-mul-t8
@@ -32,7 +32,7 @@ sub-t9 c =
     (fits _ (start-size (a .slope) (a .a .day) (s .pre .2) (s .pre .0 .day) (high s) (high-most s)))
 
 returns : tie.Need-returns
-unfolding parts
+unfolding lineScale
 returns c =
     let s = c .before .before in
     let a = s .args in

@@ -6,7 +6,7 @@ use Prim.Native.Nat.{ℕ, _≤_}
 use native.Mathlib.Omega.{arith}
 use lib.IntN.{ℤ, pos, negℤ}
 use Rattle.laws.proofs.Signed.{fits}
-use Rattle.estimate.specs.Lines.{parts, lineFrom, rising, falling, lineOf, steepest}
+use Rattle.estimate.specs.Lines.{lineScale, lineFrom, rising, falling, lineOf, steepest}
 use Rattle.estimate.proofs.Slopes.{slope-size}
 use Rattle.estimate.proofs.LineCode.{code-up, down-size, code-down, down-read}
 use Rattle.estimate.proofs.lines.line_of.Statement.{statement}
@@ -24,7 +24,7 @@ module _ (c : tie.After-slope) where
   up-most = rw (c .slope .ensures) (slope-size _ _ (omega (arith, start .pre .to .rate)))
 
 line-from-requires : tie.Need-line-from-requires
-unfolding parts
+unfolding lineScale
 line-from-requires c κs = (start c .pre .from, omega arith, rw (code-up _ (up-most c)) (up-most c))
 
 returns : tie.Need-returns
@@ -51,12 +51,12 @@ sub-line-from-2 c =
     rw (code-down _ (down-most c)) (fits _ (omega (arith, down-size _ (down-most c))))
 
 line-from-requires-2 : tie.Need-line-from-requires-2
-unfolding parts
+unfolding lineScale
 line-from-requires-2 c κs =
     (entry c .pre .from, omega arith, rw (down-read _ (down-most c)) (down-size _ (down-most c)))
 
 returns-2 : tie.Need-returns-2
-unfolding lineOf falling parts
+unfolding lineOf falling lineScale
 returns-2 c =
     let s = c .before in
     let a = entry s .args in

@@ -2,8 +2,8 @@
 use borrow.Author.Needs.{needs}
 use native.Mathlib.Omega.{arith}
 use Rattle.laws.proofs.Signed.{read-is, back}
-use Rattle.sieve.specs.Cheap.{whole}
-use Rattle.sieve.proofs.Bound.{cheap-le}
+use Rattle.cheap.specs.Cheap.{whole}
+use Rattle.cheap.proofs.Bound.{cheap-le}
 use Rattle.netting.specs.Netting.{cheapOn}
 use Rattle.netting.proofs.Sizes.{worth-size}
 use Rattle.estimate.specs.Lines.{rateOn}

@@ -6,7 +6,7 @@ use lib.IntN.{ℤ}
 use Rattle.curve.specs.declared.Node.{Node}
 use Rattle.curve.specs.declared.Curve.{Curve}
 use Rattle.curve.specs.declared.Scenario.{Scenario}
-use Rattle.curve.specs.Limits.{Proper}
+use Rattle.curve.specs.Limits.{ProperCurve}
 use Rattle.curve.specs.Rates.{nodesOf}
 use Rattle.curve.specs.Stress.{stressed, stressedCurve}
 use Rattle.curve.proofs.Stress.{nodes-stressed, proper-stressed}
@@ -26,7 +26,7 @@ value-on-requires c κs =
     (rw (c .stressed .ensures) (proper-stressed _ _ (p .0)), rw (c .stressed .ensures) (ends-stressed _ _ (p .0) _ _ (p .2)), p .3, p .4)
 
 -- what is worth at the nodes of a stressed curve
-at-stressed : (s : Scenario) (c : Curve) → Proper c → (e : Curve) (nets : List ℤ) (z : ℤ) → e ≡ stressedCurve s c → z ≡ cheapValue (nodesOf e) nets
+at-stressed : (s : Scenario) (c : Curve) → ProperCurve c → (e : Curve) (nets : List ℤ) (z : ℤ) → e ≡ stressedCurve s c → z ≡ cheapValue (nodesOf e) nets
     → z ≡ cheapValue (map (stressed s) (nodesOf c)) nets
 at-stressed s c p e nets z f v = v ∙ ap (λ (ns : List Node). cheapValue ns nets) (rw f (nodes-stressed s c p))
 

@@ -20,10 +20,10 @@ returns c =
     let found = c .before .before .before in
     let a = found .before .args in
     let t = a .t in
-    let p = both (not (a .settled)) (ltb (t .day2) (found .first-payment-of .result)) (c .before .if1 .taken) in
-    let behind = ltb-true (t .day2) (found .first-payment-of .result) (p .1) in
+    let p = both (not (a .settled)) (ltb (t .valueday2) (found .first-payment-of .result)) (c .before .if1 .taken) in
+    let behind = ltb-true (t .valueday2) (found .first-payment-of .result) (p .1) in
     c .no-leg .ensures
-    ∙ rw (not-true (a .settled) (p .0), all-behind (a .sign) (t .security) (t .day1) (t .day2) (omega (arith, behind, found .first-payment-of .ensures)), capped-none)
+    ∙ rw (not-true (a .settled) (p .0), all-behind (a .sign) (t .security) (t .valueday1) (t .valueday2) (omega (arith, behind, found .first-payment-of .ensures)), capped-none)
 
 counted-leg-requires : tie.Need-counted-leg-requires
 counted-leg-requires c κs =
@@ -38,7 +38,7 @@ returns-2 c =
     let a = start .args in
     let t = a .t in
     c .counted-leg .ensures
-    ∙ rw (c .before .payment-leg .ensures, back (a .sign) (start .fits .sign .sfits)) (counted-capped (a .settled) (t .day1) (t .day2) (signedLeg (a .sign) (paymentsOf (t .security))))
+    ∙ rw (c .before .payment-leg .ensures, back (a .sign) (start .fits .sign .sfits)) (counted-capped (a .settled) (t .valueday1) (t .valueday2) (signedLeg (a .sign) (paymentsOf (t .security))))
 
 pub repo-payments-spec : {M : Type 1} → statement M
 repo-payments-spec =

@@ -7,11 +7,11 @@ use Rattle.ladder.proofs.KeptFactors.{value-of-factor}
 use Rattle.ladder.proofs.kept.kept_value.Statement.{statement}
 use Rattle.ladder.proofs.kept.kept_value.Tie as tie
 
-settled-by-requires : tie.Need-settled-by-requires
-settled-by-requires c κs = let odd = c .before in (odd .before .pre .0, rw (c .bracket-in .ensures) (odd .before .pre .1 .bracket (odd .if1 .taken)))
+fine-value-in-requires : tie.Need-fine-value-in-requires
+fine-value-in-requires c κs = let odd = c .before in (odd .before .pre .0, rw (c .bracket-in .ensures) (odd .before .pre .1 .bracket (odd .if1 .taken)))
 
 returns : tie.Need-returns
-returns c rate day k = let at = c .before in c .settled-by .ensures .1 rate day (rw (at .bracket-in .ensures) (k .bracket (at .before .if1 .taken)))
+returns c rate day k = let at = c .before in c .fine-value-in .ensures .1 rate day (rw (at .bracket-in .ensures) (k .bracket (at .before .if1 .taken)))
 
 even : (c : tie.Else1) → c .before .args .entry % 2 ≡ 0
 even c = omega (arith, c .if1 .left)
@@ -23,4 +23,4 @@ returns-2 : tie.Need-returns-2
 returns-2 c rate day k e = c .discounted .ensures ∙ value-of-factor (c .before .before .args .amount) rate day (k .factor (even (c .before)))
 
 pub kept-value-spec : {M : Type 1} → statement M
-kept-value-spec = tie.close (tie.spec (λ c κs. search needs) settled-by-requires returns discounted-requires returns-2)
+kept-value-spec = tie.close (tie.spec (λ c κs. search needs) fine-value-in-requires returns discounted-requires returns-2)

@@ -37,7 +37,7 @@ returns-2 c =
     let s = start (rated .before .before) in
     let e = found .bracket-at .ensures in
     let between = rw (rated .rate-at .ensures) at (e .1 .1) in
-    (c .settled-by .ensures .1 _ _ between, kept-with _ _ (s .pre .3) (bracket-kept _ _ (kept-now .entry-of .ensures .0) (kept-now .entry-of .ensures .1) (e .1 .0) between))
+    (c .fine-value-in .ensures .1 _ _ between, kept-with _ _ (s .pre .3) (bracket-kept _ _ (kept-now .entry-of .ensures .0) (kept-now .entry-of .ensures .1) (e .1 .0) between))
 
 pub known-value-spec : {M : Type 1} → statement M
 known-value-spec =

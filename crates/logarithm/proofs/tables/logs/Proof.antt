@@ -9,7 +9,7 @@ use borrow.Author.Count.{below-none, below-more}
 use borrow.Author.Needs.{needs}
 use lib.ListN.{length, getD, set, length-set}
 use lib.Seq.{getD-set-same, getD-set-other}
-use Rattle.logarithm.specs.Logarithms.{step, logOf, slopeOf}
+use Rattle.logarithm.specs.Logarithms.{step, logOf, logSlope}
 use Rattle.logarithm.proofs.Steps.{step-le}
 use Rattle.logarithm.proofs.Rows.{log-none, log-more, log-le, slope-is}
 use Rattle.logarithm.proofs.tables.logs.Statement.{statement}
@@ -19,7 +19,7 @@ abbrev Inv-loop : tie.InvT-loop
 Inv-loop tables₀ log₀ m₀ i₀ tables log m i =
     (i ≤ 489) × (length tables ≡ length tables₀) × (log ≡ logOf i) × (m ≡ 1000000 + 2048 * i)
     × ((k : ℕ) → k < i → getD tables k 0 ≡ logOf k)
-    × ((k : ℕ) → k < i → getD tables (489 + k) 0 ≡ slopeOf k)
+    × ((k : ℕ) → k < i → getD tables (489 + k) 0 ≡ logSlope k)
 
 abbrev μ-loop : tie.MeasureT-loop
 μ-loop tables₀ log₀ m₀ i₀ tables log m i = 489 - i
@@ -70,7 +70,7 @@ loop-again c =
       below-more (λ k. getD (set (set tables i log) (489 + i) slope) k 0 ≡ logOf k) i
           (λ k l. other k (λ e. omega arith) ∙ getD-set-other tables i k log 0 (λ e. omega arith) ∙ inv .4 k l)
           (other i (λ e. omega arith) ∙ getD-set-same tables i log 0 (omega arith) ∙ inv .2),
-      below-more (λ k. getD (set (set tables i log) (489 + i) slope) (489 + k) 0 ≡ slopeOf k) i
+      below-more (λ k. getD (set (set tables i log) (489 + i) slope) (489 + k) 0 ≡ logSlope k) i
           (λ k l. other (489 + k) (λ e. omega arith) ∙ getD-set-other tables i (489 + k) log 0 (λ e. omega arith) ∙ inv .5 k l)
           (getD-set-same (set tables i log) (489 + i) slope 0 (simp length-set (omega arith)) ∙ ap (λ (n : ℕ). 2251799813685248 / n - 4) (inv .3) ∙ sym (slope-is i)),
     )

@@ -4,7 +4,7 @@ use Prim.Native.Nat.{ℕ, _+_, _*_, _/_, _≤_}
 use native.Mathlib.Nat.{mul-le-mul, div-mul-le-self}
 use native.Mathlib.Omega.{arith}
 use borrow.Author.Needs.{needs}
-use Rattle.logarithm.specs.Logarithms.{scale, first, third, step}
+use Rattle.logarithm.specs.Logarithms.{scale, firstTerm, thirdTerm, step}
 use Rattle.logarithm.proofs.Steps.{first-le, a-le, b-le}
 use Rattle.logarithm.proofs.tables.step.Statement.{statement}
 use Rattle.logarithm.proofs.tables.step.Tie as tie
@@ -20,7 +20,7 @@ module _ (c : tie.Start) where
   b = a * a / 64
 
   w-le : w ≤ 4606968482701
-  unfolding first scale
+  unfolding firstTerm scale
   w-le = first-le (c .args .m) (c .args .j) (c .pre .0) (c .pre .2)
 
   a-few : a ≤ 8787095
@@ -57,7 +57,7 @@ add-result : tie.Need-add-result
 add-result c = omega (arith, product-le c, w-le c)
 
 returns : tie.Need-returns
-unfolding step third first scale
+unfolding step thirdTerm firstTerm scale
 returns c = refl
 
 pub step-spec : {M : Type 1} → statement M

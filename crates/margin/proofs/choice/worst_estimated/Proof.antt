@@ -45,20 +45,20 @@ module _ (c : tie.After-least-of) where
   index =
       omega (arith, least .within, entry .pre .1 .places, scenarios-most (entry .args .valued .position .components) (entry .pre .0 .limits .stress))
 
-  size : natAbs lowest ≤ mostFlows * unit + entry .args .reach
+  size : natAbs lowest ≤ mostFlows * unit + entry .args .deviation
   size = estimate-size _ _ (entry .pre .0 .limits) _ _ (entry .pre .1) _ (least .within)
 
   -- the limit, as the code has it
-  limit : read (read lowest +ℤ read (pos 2 *ℤ cast (entry .args .reach))) ≡ limitOf lowest (entry .args .reach)
-  limit = limit-read (entry .args .reach) (entry .pre .1 .small) lowest size
+  limit : read (read lowest +ℤ read (pos 2 *ℤ cast (entry .args .deviation))) ≡ limitOf lowest (entry .args .deviation)
+  limit = limit-read (entry .args .deviation) (entry .pre .1 .small) lowest size
 
 mul-limit-2 : tie.Need-mul-limit-2
-mul-limit-2 c = let s = entry (c .before) in twice-fits (s .args .reach) (s .pre .1 .small)
+mul-limit-2 c = let s = entry (c .before) in twice-fits (s .args .deviation) (s .pre .1 .small)
 
 add-limit : tie.Need-add-limit
 add-limit c =
     let l = c .before in
-    limit-fits (entry l .args .reach) (entry l .pre .1 .small) (lowest l) (size l)
+    limit-fits (entry l .args .deviation) (entry l .pre .1 .small) (lowest l) (size l)
 
 worst-kept-requires : tie.Need-worst-kept-requires
 worst-kept-requires c κs =

@@ -48,7 +48,7 @@ returns c =
     let lent = v .before .before .before in
     let netted = lent .before in
     let s = start netted in
-    estimates _ _ (s .pre .0) _ _ _ (netted .net-days .ensures) (c .reach-of .ensures) (v .screen .ensures .0 ∙ s .pre .2) (v .screen .ensures .1)
+    estimates _ _ (s .pre .0) _ _ _ (netted .net-days .ensures) (c .deviation-of .ensures) (v .screen .ensures .0 ∙ s .pre .2) (v .screen .ensures .1)
 
 pub estimate-spec : {M : Type 1} → statement M
 estimate-spec =

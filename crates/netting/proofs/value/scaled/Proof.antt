@@ -4,7 +4,7 @@ use Prim.Native.Nat.{ℕ, _+_, _*_, _/_, _%_, _≤_}
 use native.Mathlib.Nat.{mul-le-mul, add-mul-div-right, div-add-mod', add-comm}
 use native.Mathlib.Omega.{arith}
 use lib.Dec.{lit<}
-use Rattle.sieve.specs.Cheap.{whole}
+use Rattle.cheap.specs.Cheap.{whole}
 use Rattle.netting.proofs.value.scaled.Statement.{statement}
 use Rattle.netting.proofs.value.scaled.Tie as tie
 

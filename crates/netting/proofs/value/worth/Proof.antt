@@ -5,7 +5,7 @@ use native.Mathlib.Nat.{mul-le-mul-left, div-le-of-le-mul}
 use native.Mathlib.Omega.{arith}
 use lib.IntN.{pos, natAbs, _+ℤ_, _-ℤ_}
 use Rattle.laws.proofs.Signed.{fits, cast, read, back, cast-is, read-is, abs-add, abs-sub, to-u64}
-use Rattle.sieve.specs.Cheap.{whole}
+use Rattle.cheap.specs.Cheap.{whole}
 use Rattle.netting.proofs.Lifted.{lift, wholes, lifted, worth-lifted}
 use Rattle.netting.proofs.value.worth.Statement.{statement}
 use Rattle.netting.proofs.value.worth.Tie as tie

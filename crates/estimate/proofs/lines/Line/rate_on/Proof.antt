@@ -2,7 +2,7 @@
 use borrow.Author.Needs.{needs}
 use native.Mathlib.Omega.{arith}
 use Rattle.laws.proofs.Signed.{fits, to-u64}
-use Rattle.estimate.specs.Lines.{parts, rateOn}
+use Rattle.estimate.specs.Lines.{lineScale, rateOn}
 use Rattle.estimate.proofs.LineCode.{moved-size, stands-size, code-moved, code-stands, stands-read}
 use Rattle.estimate.proofs.lines.Line.rate_on.Statement.{statement}
 use Rattle.estimate.proofs.lines.Line.rate_on.Tie as tie
@@ -27,7 +27,7 @@ cast-result-2 c =
     rw (code-stands _ _ d) (to-u64 _ (d .above) (omega (arith, stands-size _ _ d)))
 
 returns : tie.Need-returns
-unfolding rateOn parts
+unfolding rateOn lineScale
 returns c = let d = start c .pre in rw (code-stands _ _ d, stands-read _ _ d)
 
 pub rate-on-spec : {M : Type 1} → statement M

@@ -1,4 +1,0 @@
-pub mod LineWritten
-pub mod Lengths
-pub mod LineRead
-pub mod Figures
