@@ -7,12 +7,13 @@ use lib.ListN.{length, take, drop, length-take, take-append-drop}
 use Rattle.laws.proofs.Tables.{table-same, table-part}
 use Rattle.ground.specs.declared.Verdict.the-variants.{Accepted}
 use Rattle.layout.specs.Bytes.{AreBytes}
+use Rattle.layout.proofs.Bytes.{bytes-part}
 use Rattle.book.specs.Parts.{blockAt, headerOf, curveCount, tradeBlocks, curveBlocks, curvesOf, recordCount, recordIn, tradeCount, recordAt, records}
 use Rattle.book.specs.Verdict.{blocksVerdict}
 use Rattle.book.specs.Encode.{headerBlock, tradeBlock, blocksFor, recordsOfBlock, encode}
 use Rattle.book.proofs.Places.{head-fields, head-curves, head-trades, length-curveBlocks, curve-block, length-records, record-of}
 use Rattle.book.proofs.Verdicts.{any-block}
-use Rattle.book.proofs.HeaderBlock.{bytes-part, header-fits, header-of}
+use Rattle.book.proofs.HeaderBlock.{header-fits, header-of}
 use Rattle.book.proofs.TradeBlock.{recordsIn, trades-of}
 use Rattle.book.proofs.Accepted.{Sound, sound, blocks-for, length-blockAt, length-recordAt, held, accepted-record}
 use Rattle.book.proofs.Encoded.{Encodable, Acceptable, LaidOut, laid-encoded}

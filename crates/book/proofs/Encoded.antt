@@ -14,7 +14,7 @@ use Rattle.laws.proofs.Walk.{length-table, getD-table}
 use Rattle.laws.proofs.Tables.{Each, length-flatten, part-flatten, flatten-parts, table-same, table-of, table-by}
 use Rattle.ground.specs.declared.Verdict.the-variants.{Accepted}
 use Rattle.curve_block.specs.Verdict.{curveVerdict}
-use Rattle.book.specs.Parts.{Header, Parts, blockAt, headerOf, curveCount, tradeBlocks, curveBlocks, curvesIn, curvesOf, tradeCount, recordAt, records, partsOf}
+use Rattle.book.specs.Parts.{Header, blockAt, headerOf, curveCount, tradeBlocks, curveBlocks, curvesIn, curvesOf, tradeCount, recordAt, records, partsOf}
 use Rattle.book.specs.Verdict.{bytesVerdict, blockVerdict, blocksVerdict}
 use Rattle.book.specs.Encode.{headerBlock, tradeBlock, blocksFor, recordsOfBlock, tradeBlocksOf, bookBlocks, encode}
 use Rattle.book.proofs.First.{first-of}

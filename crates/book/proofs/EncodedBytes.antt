@@ -1,12 +1,12 @@
 -- An encoding is bytes where its parts are.
 use mathlib.Core.List.{List, [], _∷_, _++_, flatten}
-use Prim.Native.Nat.{ℕ, zero, suc, _+_, _-_, _*_, _<_}
+use Prim.Native.Nat.{ℕ, suc, _+_, _-_, _*_, _<_}
 use native.Mathlib.Omega.{arith}
 use lib.ListN.{length, getD, replicate}
 use Rattle.layout.specs.Bytes.{AreBytes}
 use Rattle.layout.specs.Field.{bytesOf}
 use Rattle.layout.specs.Row.{rowBytes}
-use Rattle.layout.proofs.Bytes.{bytes-zeros, bytes-append}
+use Rattle.layout.proofs.Bytes.{bytes-zeros, bytes-cons, bytes-append}
 use Rattle.layout.proofs.Field.{bytes-bytes}
 use Rattle.layout.proofs.Row.{bytes-row}
 use Rattle.layout.proofs.Sealed.{bytes-sealed}
@@ -17,10 +17,6 @@ use Rattle.book.proofs.Encoded.{length-nine, nine-at, each-block, lengt
 -- every list of a list is bytes
 abbrev pub AllBytes : List (List ℕ) → Type 0
 AllBytes L = (k : ℕ) → k < length L → AreBytes (getD L k [])
-
-bytes-cons : (b : ℕ) (s : List ℕ) → b < 256 → AreBytes s → AreBytes (b ∷ s)
-bytes-cons b s small h zero = small
-bytes-cons b s small h (suc k) = h k
 
 bytes-flatten : (L : List (List ℕ)) → AllBytes L → AreBytes (flatten L)
 unfolding flatten

@@ -4,14 +4,13 @@ use mathlib.Core.Logic.{_⊎_, inl, inr}
 use mathlib.Core.Bool.{true}
 use mathlib.Core.List.{List}
 use Prim.Native.Nat.{ℕ, _+_, _^_, _≤_, _<_}
-use native.Mathlib.Decide.{decLt}
 use native.Mathlib.Omega.{arith}
-use lib.ListN.{length, take, length-take, List·getD-eq-default}
+use lib.ListN.{length, take}
 use Rattle.layout.specs.Bytes.{byteAt, part, put, zeros, AreBytes}
 use Rattle.layout.specs.Field.{numberAt, u16At, bytesOf}
-use Rattle.layout.specs.Row.{Field, Fits, fieldIn, rowBytes, widthOf}
+use Rattle.layout.specs.Row.{Field, Fits, fieldIn, rowBytes, rowWidth}
 use Rattle.layout.specs.Check.{sealed}
-use Rattle.layout.proofs.Bytes.{length-put, byte-apart, bytes-put, byte-part, zeros-at, zeros-of}
+use Rattle.layout.proofs.Bytes.{length-put, byte-apart, bytes-put, zeros-at, zeros-of}
 use Rattle.layout.proofs.Field.{field-bound, length-bytes, bytes-bytes, bytes-number, field-put, field-apart}
 use Rattle.layout.proofs.Row.{length-row, row-back, row-part}
 use Rattle.layout.proofs.Sealed.{sound-sealed, place-kept}
@@ -25,15 +24,6 @@ use Rattle.book.proofs.Verdicts.{HeaderSound}
 -- the bytes of a block's number
 pub number-part : (b : List ℕ) (number : ℕ) → AreBytes b → length b ≡ 512 → u16At b 2 ≡ number → part b 2 2 ≡ bytesOf 2 number
 number-part b number bytes h e = sym (rw e at (bytes-number 2 b 2 bytes (omega arith)))
-
-pub bytes-part : (s : List ℕ) (at n : ℕ) → AreBytes s → AreBytes (part s at n)
-bytes-part s at n bytes k = go (decLt k n)
-  where
-    go : Dec (k < n) → byteAt (part s at n) k < 256
-    go (yes l) = rw (byte-part s at n k l) (bytes (at + k))
-    go (no l) =
-        let m : length (part s at n) ≤ k = simp length-take (omega arith) in
-        rw (List·getD-eq-default (part s at n) 0 m) (omega arith)
 
 -- ---- the header
 
@@ -66,7 +56,7 @@ module _ (header : Header) (c t : ℕ) where
   length-header = rw is-header (length-block 1 0 0 named short)
 
   -- its fields are read back
-  back : (k : ℕ) → Fits (fieldIn row k) → numberAt (fieldIn row k .0) (headerBlock header c t) (4 + widthOf (take k row)) ≡ fieldIn row k .1
+  back : (k : ℕ) → Fits (fieldIn row k) → numberAt (fieldIn row k .0) (headerBlock header c t) (4 + rowWidth (take k row)) ≡ fieldIn row k .1
   back = row-back row (headerBlock header c t) 4 (rw is-header (rw length-named at (block-named 1 0 0 named short)))
 
   pub header-read : HeaderFits header → headerOf (headerBlock header c t) ≡ header

@@ -16,7 +16,7 @@ use Rattle.layout.proofs.Bytes.{length-put}
 use Rattle.layout.proofs.Field.{field-apart}
 use Rattle.curve_block.specs.Parts.{currencyOf}
 use Rattle.curve_block.specs.Verdict.{curveVerdict}
-use Rattle.book.specs.Parts.{blockAt, headerOf, curveCount, tradeBlocks, curveBlocks, curvesIn, curvesOf, tradeCount, recordAt, records, partsOf}
+use Rattle.book.specs.Parts.{blockAt, curveCount, tradeBlocks, curveBlocks, curvesIn, curvesOf, tradeCount, recordAt, records, partsOf}
 use Rattle.book.specs.Edited.{withCurve}
 use Rattle.book.specs.Verdict.{blockVerdict, blocksVerdict}
 use Rattle.book.proofs.First.{first-of}

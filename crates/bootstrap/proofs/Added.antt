@@ -8,7 +8,7 @@ use lib.ListN.{length, take, drop, length-set}
 use Rattle.ground.specs.declared.Verdict.the-variants.{Accepted}
 use Rattle.ground.proofs.Verdicts.{orElse-accepted, unbroken}
 use Rattle.layout.specs.Bytes.{part, onBlock, AreBytes}
-use Rattle.layout.proofs.Bytes.{length-put, length-part, onBlock-lent}
+use Rattle.layout.proofs.Bytes.{length-put, length-part, onBlock-lent, bytes-part}
 use Rattle.layout.proofs.Sealed.{length-sealed}
 use Rattle.curve.specs.declared.Node.{Node}
 use Rattle.curve.specs.Limits.{NodeLimits}
@@ -23,7 +23,6 @@ use Rattle.book.specs.Verdict.{blocksVerdict}
 use Rattle.acceptance.specs.declared.Today.the-variants.{Given}
 use Rattle.acceptance.specs.Verdict.{bookVerdict}
 use Rattle.acceptance.proofs.Laws.{book-accepted}
-use Rattle.book.proofs.HeaderBlock.{bytes-part}
 use Rattle.book.proofs.Accepted.{Sound, sound, curve-block-accepted, curve-sound, length-blockAt}
 use Rattle.bond.specs.Limits.{Extends}
 use Rattle.bond.specs.Value.{breaksRateRange}

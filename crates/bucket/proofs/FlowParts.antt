@@ -206,9 +206,9 @@ module _ (rate : ℕ → ℕ) (rated : (d : ℕ) → rate d ≤ 1000000) (a day 
       (values-under whole a a₀ a₁ m c₀ c₁ c p₀ p₁ p q sum few-excess (near-value a₀ _ _ (rated _) (lim .first)) (near-value a₁ _ _ (rated _) (lim .last)) (near-value a _ _ (rated _) on) (near-value m _ _ (rated _) (lim .first)) worth-under)
 
   -- the deviations of the flow, of its parts and of its excess are in the allowance too
-  deviation-most : (x days : ℕ) → days ≤ 10950 → deviation x days * (2 * whole) ≤ 786 * x + 3 * whole
+  deviation-scaled : (x days : ℕ) → days ≤ 10950 → deviation x days * (2 * whole) ≤ 786 * x + 3 * whole
   unfolding deviation moved
-  deviation-most x days l = omega (arith, div-mul-le-self (2 * x * distanceUp days + 3 * whole) (2 * whole), mul-le-mul-left x (distance-size days l))
+  deviation-scaled x days l = omega (arith, div-mul-le-self (2 * x * distanceUp days + 3 * whole) (2 * whole), mul-le-mul-left x (distance-size days l))
 
   room-most : chordRoom a * (2 * whole) ≤ 1603 * a + 786 + 6 * whole
   unfolding chordRoom
@@ -221,7 +221,7 @@ module _ (rate : ℕ → ℕ) (rated : (d : ℕ) → rate d ≤ 1000000) (a day 
   all-allowed = go allRoom found
     where
       found : allRoom * (2 * whole) ≤ 3176 * a + 1572 + 18 * whole
-      found = omega (arith, room-most, deviation-most a day on, deviation-most a₀ (k .first) (lim .first), deviation-most a₁ (k .last) (lim .last), deviation-most m (k .first) (lim .first), few-excess, sum)
+      found = omega (arith, room-most, deviation-scaled a day on, deviation-scaled a₀ (k .first) (lim .first), deviation-scaled a₁ (k .last) (lim .last), deviation-scaled m (k .first) (lim .first), few-excess, sum)
 
       go : (n : ℕ) → n * (2 * whole) ≤ 3176 * a + 1572 + 18 * whole → n ≤ allowance a
       go n l = allowed a n (rw whole-is at l)

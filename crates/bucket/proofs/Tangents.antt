@@ -1,14 +1,14 @@
 -- Powers of the base of the logarithms are above their tangents, and so logarithms under theirs.
-use mathlib.Core.Path.{_≡_, refl}
+use mathlib.Core.Path.{_≡_}
 use Prim.Native.Nat.{ℕ, zero, suc, _+_, _-_, _*_, _^_, _≤_, _<_}
 use native.Mathlib.Nat.{mul-le-mul-left, mul-le-mul-right, le-of-mul-le-mul-right, pow-zero, pow-suc, pow-le-pow-left, one-le-pow}
 use native.Mathlib.Decide.{decLe}
 use native.Mathlib.Omega.{arith}
-use lib.Dec.{lit<, lit≤}
+use lib.Dec.{lit<}
 use lib.Pow.{pow-add}
 use Rattle.discount.specs.Discount.{million}
 use Rattle.logarithm.specs.Logarithms.{scale, baseNumerator, baseDenominator}
-use Rattle.logarithm.proofs.Exponents.{Low, High, Logged, over-pos}
+use Rattle.logarithm.proofs.Exponents.{Low, High, Logged, denominator-pos, numerator-scale, numerator-denominator}
 
 -- ---- powers of a / (a + 2), with a ≤ s ≤ a + 2
 
@@ -33,23 +33,11 @@ module _ (a s : ℕ) (low : a ≤ s) (high : s ≤ a + 2) where
       omega (arith, mul-le-mul-right (a + 2) ih, mul-le-mul-left (2 * s) less, mul-le-mul-right (2 * (a + 2) ^ c) high) in
       simp pow-suc all
 
-under-scale' : baseNumerator ≤ scale
-unfolding baseNumerator scale
-under-scale' = lit≤ tt
-
-scale-over : scale ≤ baseNumerator + 2
-unfolding baseNumerator scale
-scale-over = lit≤ tt
-
-over-is : baseNumerator + 2 ≡ baseDenominator
-unfolding baseNumerator baseDenominator
-over-is = refl
-
 base-most : (c : ℕ) → (scale + 2 * c) * baseNumerator ^ c ≤ scale * baseDenominator ^ c
-base-most c = rw over-is at (fallen-most baseNumerator scale under-scale' scale-over c)
+base-most c = rw numerator-denominator at (fallen-most baseNumerator scale (omega (arith, numerator-scale)) (omega (arith, numerator-scale)) c)
 
 base-least : (c : ℕ) → scale * baseDenominator ^ c ≤ scale * baseNumerator ^ c + 2 * c * baseDenominator ^ c
-base-least c = rw over-is at (fallen-least baseNumerator scale under-scale' scale-over c)
+base-least c = rw numerator-denominator at (fallen-least baseNumerator scale (omega (arith, numerator-scale)) (omega (arith, numerator-scale)) c)
 
 -- ---- c / z is at most the base to the power x, and d / y at least the base to the power w: d / y is above the tangent of c / z
 
@@ -60,7 +48,7 @@ module _ (z c x y d w : ℕ) (low : Low z c x) (high : High y d w) where
       let h : y * (baseNumerator ^ x * baseNumerator ^ k) ≤ d * (baseDenominator ^ x * baseDenominator ^ k) = rw (← pow-add baseNumerator x k, ← pow-add baseDenominator x k, ← e) (high .high) in
       let scaled : scale * c * y * (baseDenominator ^ x * baseDenominator ^ k) ≤ (scale * d * z + 2 * k * c * y) * (baseDenominator ^ x * baseDenominator ^ k) =
       all (baseDenominator ^ x) (baseDenominator ^ k) (baseNumerator ^ x) (baseNumerator ^ k) (low .low) h (base-least k) in
-      le-of-mul-le-mul-right scaled (rw (← pow-add baseDenominator x k) (one-le-pow (x + k) baseDenominator over-pos))
+      le-of-mul-le-mul-right scaled (rw (← pow-add baseDenominator x k) (one-le-pow (x + k) baseDenominator denominator-pos))
     where
       all : (ox ok ux uk : ℕ) → c * ox ≤ z * ux → y * (ux * uk) ≤ d * (ox * ok) → scale * ok ≤ scale * uk + 2 * k * ok
           → scale * c * y * (ox * ok) ≤ (scale * d * z + 2 * k * c * y) * (ox * ok)
@@ -73,7 +61,7 @@ module _ (z c x y d w : ℕ) (low : Low z c x) (high : High y d w) where
       let l : c * (baseDenominator ^ w * baseDenominator ^ k) ≤ z * (baseNumerator ^ w * baseNumerator ^ k) = rw (← pow-add baseNumerator w k, ← pow-add baseDenominator w k, ← e) (low .low) in
       let scaled : (scale + 2 * k) * c * y * (baseDenominator ^ w * baseDenominator ^ k) ≤ scale * d * z * (baseDenominator ^ w * baseDenominator ^ k) =
       all (baseDenominator ^ w) (baseDenominator ^ k) (baseNumerator ^ w) (baseNumerator ^ k) l (high .high) (base-most k) in
-      le-of-mul-le-mul-right scaled (rw (← pow-add baseDenominator w k) (one-le-pow (w + k) baseDenominator over-pos))
+      le-of-mul-le-mul-right scaled (rw (← pow-add baseDenominator w k) (one-le-pow (w + k) baseDenominator denominator-pos))
     where
       all : (ow ok uw uk : ℕ) → c * (ow * ok) ≤ z * (uw * uk) → y * uw ≤ d * ow → (scale + 2 * k) * uk ≤ scale * ok
           → (scale + 2 * k) * c * y * (ow * ok) ≤ scale * d * z * (ow * ok)

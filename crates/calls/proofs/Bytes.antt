@@ -5,17 +5,16 @@ use Prim.Native.Nat.{ℕ, _+_, _-_, _*_, _<_}
 use native.Mathlib.Decide.{decLt}
 use native.Mathlib.Omega.{arith}
 use lib.ListN.{length, getD, drop, replicate, List·getD-append}
-use lib.Seq.{getD-at, getD-drop}
+use lib.Seq.{getD-at}
 use Rattle.ground.specs.declared.Verdict.{Verdict}
 use Rattle.ground.specs.declared.Verdict.the-variants.{Accepted, Refused}
 use Rattle.ground.specs.Verdicts.{bytesAfter}
 use Rattle.layout.specs.Bytes.{put, onBlock, AreBytes}
-use Rattle.layout.proofs.Bytes.{bytes-zeros, bytes-put, bytes-append}
+use Rattle.layout.proofs.Bytes.{bytes-zeros, bytes-put, bytes-drop, bytes-append, bytes-part}
 use Rattle.curve_edit.specs.Lengthen.{withNode}
 use Rattle.curve_edit.proofs.Lengthened.{bytes-with-node}
 use Rattle.book.specs.Parts.{blockAt, curveCount, tradeCount, curveBlocks, records, partsOf}
 use Rattle.book.specs.Edited.{without, appendedParts, struckParts}
-use Rattle.book.proofs.HeaderBlock.{bytes-part}
 use Rattle.book.proofs.Places.{length-curveBlocks, curve-block, length-records, record-of}
 use Rattle.book.proofs.EncodedBytes.{AllBytes, bytes-encoded}
 use Rattle.acceptance.specs.declared.Today.the-variants.{Given}
@@ -29,9 +28,6 @@ use Rattle.bootstrap.specs.declared.Quote.{Quote}
 use Rattle.bootstrap.specs.Refusals.{curveAt, bootstrapVerdict}
 use Rattle.bootstrap.specs.Bootstrap.{newNode, bootstrapped}
 use Rattle.bootstrap.proofs.Added.{addable}
-
-bytes-drop : (n : ℕ) (s : List ℕ) → AreBytes s → AreBytes (drop n s)
-bytes-drop n s h k = rw (getD-drop n s k 0) (h (n + k))
 
 -- ---- the parts of bytes
 

@@ -10,13 +10,13 @@ use lib.Seq.{take-all, take-append-le, drop-append-le, getD-at}
 use Rattle.laws.proofs.Tables.{Each}
 use Rattle.ground.specs.declared.Verdict.the-variants.{Accepted}
 use Rattle.layout.specs.Bytes.{byteAt, put, onBlock, AreBytes}
-use Rattle.layout.proofs.Bytes.{length-put, byte-apart, drop-kept}
+use Rattle.layout.proofs.Bytes.{length-put, byte-apart, drop-kept, bytes-part}
 use Rattle.book.specs.Parts.{blockAt, headerOf, curveCount, tradeBlocks, tradeCount, records}
 use Rattle.book.specs.Verdict.{blocksVerdict}
 use Rattle.book.specs.Encode.{headerBlock, tradeBlock, blocksFor, recordsOfBlock}
 use Rattle.book.proofs.Places.{head-fields, head-curves, curve-block, block-put, block-apart}
 use Rattle.book.proofs.Accepted.{sound, length-blockAt}
-use Rattle.book.proofs.HeaderBlock.{bytes-part, header-recounted}
+use Rattle.book.proofs.HeaderBlock.{header-recounted}
 use Rattle.book.proofs.TradeBlock.{Holds}
 use Rattle.book.proofs.Encoded.{length-nine}
 use Rattle.book.proofs.Canonical.{header-block, trade-block}

@@ -5,6 +5,7 @@ use Prim.Native.Nat.{ℕ, _+_, _*_, _/_, _%_, _<_}
 use native.Mathlib.Omega.{arith}
 use Rattle.ground.specs.declared.Verdict.the-variants.{Accepted}
 use Rattle.layout.specs.Bytes.{AreBytes}
+use Rattle.layout.proofs.Bytes.{bytes-part}
 use Rattle.record.proofs.RoundTrip.{fields-bytes-fields, length-recordBytes}
 use Rattle.record.proofs.Widths.{rules-narrow}
 use Rattle.trade.specs.declared.Trade.{Trade}
@@ -16,7 +17,6 @@ use Rattle.book.specs.Parts.{blockAt, curveCount, curvesOf, recordPlace, tradeC
 use Rattle.book.specs.Verdict.{bytesVerdict, blocksVerdict}
 use Rattle.book.proofs.Places.{curves-count}
 use Rattle.book.proofs.Accepted.{sound, accepted-record, length-recordAt}
-use Rattle.book.proofs.HeaderBlock.{bytes-part}
 use Rattle.acceptance.specs.declared.Today.the-variants.{Given}
 use Rattle.acceptance.proofs.Laws.{book-accepted}
 use Rattle.edit.specs.declared.Found.{Found}

@@ -1,5 +1,5 @@
--- What a reader of books may count on: records stand where an append and a strike leave them, an edited book is accepted, an append can
--- be taken back, and ground 15 is given only where no block is to be had.
+-- What a reader of books may count on: records stand where an append and a strike leave them, an edited book is accepted, and an append can be
+-- taken back.
 use mathlib.Core.Path.{_≡_, refl, sym, _∙_, ap}
 use mathlib.Core.Bool.{Bool, true, false, cond}
 use mathlib.Core.List.{List, [], _∷_, _++_, append-assoc, append-nil}

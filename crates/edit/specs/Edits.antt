@@ -34,7 +34,7 @@ found s used position =
 
 -- ---- append
 
--- "Append adds a record behind the last"
+-- the book with the record
 unfoldable pub appendedBook : List ℕ → List ℕ → List ℕ
 appendedBook s r = bookOf (appendedParts (partsOf s) r)
 
@@ -55,7 +55,7 @@ BookAppended s t r = partsOf t ≡ appendedParts (partsOf s) r
 
 -- ---- strike
 
--- "Strike closes the gap"
+-- the book without it
 unfoldable pub struckBook : List ℕ → ℕ → List ℕ
 struckBook s position = bookOf (struckParts (partsOf s) position)
 

@@ -17,9 +17,9 @@ use Rattle.curve.proofs.Interpolation.{interpolated-line, interpolated-size}
 use Rattle.estimate.specs.Lines.{lineScale, slopeOf, level, lineFrom, rising, falling, lineOf, standsAt, rateOn, Ahead, Drawn, steepest}
 use Rattle.estimate.proofs.Slopes.{slope-exact, slope-size}
 
-parts-some : 0 < lineScale
+line-scale-pos : 0 < lineScale
 unfolding lineScale
-parts-some = omega arith
+line-scale-pos = omega arith
 
 -- ---- where a line stands, from a node's rate r in parts
 
@@ -81,7 +81,7 @@ module _ (a b : Node) (t : ℕ) (h : Ahead a b) (m : BetweenNodes a b t) where
     rising-rate : rateOn (rising a b) t ≡ natAbs (interpolated a b t)
     unfolding rateOn
     rising-rate =
-        rw (rising-stands, mul-add-div-right parts-some (a .rate) (climb * gone), way-is (b .rate - a .rate), interpolated-line a b t m)
+        rw (rising-stands, mul-add-div-right line-scale-pos (a .rate) (climb * gone), way-is (b .rate - a .rate), interpolated-line a b t m)
         (sym (line-up (a .rate) (b .rate) gone run l))
 
     rising-drawn : Drawn (rising a b) t
@@ -108,14 +108,14 @@ module _ (a b : Node) (t : ℕ) (h : Ahead a b) (m : BetweenNodes a b t) where
     unfolding falling
     falling-stands =
         let e = days-split drop in
-        let f = fall-le (a .rate) lineScale (drop * gone) parts-some drop-less in
+        let f = fall-le (a .rate) lineScale (drop * gone) line-scale-pos drop-less in
         rw (mul-neg drop (a .day), mul-neg drop t, negℤ-negℤ (pos (drop * a .day)), pos-+ℤ-pos (a .rate * lineScale + (lineScale - 1)) (drop * a .day))
         (sub-up (a .rate * lineScale + (lineScale - 1) + drop * a .day) (drop * t) (omega arith) ∙ ap pos (omega arith))
 
     falling-rate : rateOn (falling a b) t ≡ natAbs (interpolated a b t)
     unfolding rateOn
     falling-rate =
-        rw (falling-stands, fallen (a .rate) lineScale (drop * gone) parts-some drop-less, way-is (a .rate - b .rate), interpolated-line a b t m)
+        rw (falling-stands, fallen (a .rate) lineScale (drop * gone) line-scale-pos drop-less, way-is (a .rate - b .rate), interpolated-line a b t m)
         (sym (line-down (a .rate) (b .rate) gone run l))
 
     falling-drawn : Drawn (falling a b) t
@@ -155,7 +155,7 @@ module _ (rate t : ℕ) where
 
   pub level-rate : rateOn (level rate) t ≡ rate
   unfolding rateOn
-  level-rate = rw level-stands (div-eq-of-lt-le lineScale (omega arith) (omega (arith, parts-some)))
+  level-rate = rw level-stands (div-eq-of-lt-le lineScale (omega arith) (omega (arith, line-scale-pos)))
 
   pub level-drawn : rate ≤ highestRate → t ≤ 10950 → Drawn (level rate) t
   unfolding level lineScale

@@ -1,4 +1,4 @@
-// What an account has on a curve: its position, with the cash flow ladder gathered from the trades of its book.
+// What an account has on a curve, from its book: the cash flow ladder, gathered from the trades, and the components.
 ghost use mathlib.Core.Path.{_≡_};
 ghost use Prim.Native.Nat.{_+_, _*_, _≤_};
 ghost use lib.ListN.{length};
@@ -9,12 +9,11 @@ ghost use Rattle.curve.specs.Limits.{ProperComponents};
 ghost use Rattle.curve_block.specs.Parts.{componentsOf};
 ghost use Rattle.book.specs.Parts.{blockAt, curveCount, tradeCount};
 ghost use Rattle.book.specs.Verdict.{StartsWithBook};
-ghost use Rattle.ladder.specs.Exposure.{flowsOn, exposureOf, PositionLimits};
+ghost use Rattle.ladder.specs.Exposure.{flowsOn};
 ghost use Rattle.ladder.specs.Ladder.{ladderFlows, LadderLimits};
-ghost use Rattle.exposure.specs.Exposures.{flowsIn, exposureAt};
+ghost use Rattle.exposure.specs.Exposures.{flowsIn};
 use book::parts;
 use curve::Components;
-use ladder::Position;
 use legs::Leg;
 use legs::Legs;
 
@@ -57,7 +56,7 @@ fn push_legs(ladder: &mut [u64], schedules: usize, curve: u64, legs: Legs) -> us
 }
 
 // The ladder of a curve of an accepted book, which has room for three legs of each trade, and how many schedules it has.
-fn gather(book: &[u8], curve: u64, ladder: &mut [u64]) -> usize
+pub fn gather(book: &[u8], curve: u64, ladder: &mut [u64]) -> usize
     requires { ⌜ StartsWithBook (now book) × (tradeCount (now book) * 18 ≤ length (now ladder)) ⌝ }
     ensures flows { λ r. ⌜ ladderFlows curve (now (ladder .exit)) r ≡ flowsOn curve (flowsIn (now (book .entry))) ⌝ }
     ensures limits { λ r. ⌜ LadderLimits curve (now (ladder .exit)) r ⌝ }
@@ -75,29 +74,10 @@ fn gather(book: &[u8], curve: u64, ladder: &mut [u64]) -> usize
 }
 
 // The components of a curve of an accepted book: each curve has scenarios of its own.
-fn components_at(book: &[u8], curve: usize) -> Components
+pub fn components_at(book: &[u8], curve: usize) -> Components
     requires { ⌜ StartsWithBook (now book) × (1 ≤ curve) × (curve ≤ curveCount (now book)) ⌝ }
     ensures { λ r. ⌜ r ≡ componentsOf (blockAt (now (book .entry)) curve) ⌝ }
     ensures { λ r. ⌜ ProperComponents r ⌝ }
 {
     curve_block::components_of(parts::block_at(book, curve))
-}
-
-// The position on a curve of an accepted book, whose ladder is gathered.
-pub fn position_at(book: &[u8], curve: usize, ladder: &mut [u64]) -> Position
-    requires { ⌜ StartsWithBook (now book) × (1 ≤ curve) × (curve ≤ curveCount (now book)) × (tradeCount (now book) * 18 ≤ length (now ladder)) ⌝ }
-    ensures exposure { λ r. ⌜ exposureOf r (now (ladder .exit)) ≡ exposureAt (now (book .entry)) curve ⌝ }
-    ensures limits { λ r. ⌜ PositionLimits r (now (ladder .exit)) ⌝ }
-{
-    let schedules = gather(book, curve as u64, ladder);
-    let b = parts::block_at(book, curve);
-    let currency = curve_block::currency_of(b);
-    let components = components_at(book, curve);
-    Position {
-        id: curve as u64,
-        currency: currency,
-        curve: curve_block::curve_of(b),
-        components: components,
-        schedules: schedules,
-    }
 }

@@ -65,7 +65,7 @@ TradeLimits (Outright t) = OutrightLimits t
 TradeLimits (Pool t) = RepoLimits t
 TradeLimits (Specified t) = RepoLimits t
 
--- and rule 12 is not broken either: its flows can be valued
+-- and rule 12 is not broken either: none of its flows is above the largest amount
 pub record SoundTrade (t : Trade) : Type 0 where
   pub limits : TradeLimits t
   pub within : breaksFlowLimit t ≡ false

@@ -73,13 +73,6 @@ module _ {A : Type 0} (f : ℕ → A) where
 -- ---- `flatMap` over a table
 
 module _ {A B : Type 0} (g : ℕ → A) where
-  pub flat-same : (f h : A → List B) (i n : ℕ) → ((k : ℕ) → k < i + n → f (g k) ≡ h (g k)) → flatMap f (table g i n) ≡ flatMap h (table g i n)
-  unfolding table flatMap
-  flat-same f h i zero same = refl
-  flat-same f h i (suc n) same =
-      let first : f (g i) ≡ h (g i) = same i (omega arith) in
-      rw (first, flat-same f h (suc i) n (λ k l. same k (omega arith))) refl
-
   pub flat-more : (f : A → List B) (i n : ℕ) → flatMap f (table g i (suc n)) ≡ flatMap f (table g i n) ++ f (g (i + n))
   unfolding table flatMap
   flat-more f i zero = append-nil (f (g i)) ∙ ap (λ (k : ℕ). f (g k)) (sym (add-zero i))

@@ -5,10 +5,11 @@ use mathlib.Core.Bool.{true}
 use mathlib.Core.List.{List, [], _∷_, _++_, append-assoc}
 use Prim.Native.Nat.{ℕ, zero, suc, _+_, _-_, _≤_, _<_}
 use native.Mathlib.Nat.{add-zero, zero-add}
+use native.Mathlib.Decide.{decLt}
 use native.Mathlib.Omega.{arith}
 use borrow.Author.Tests.{eqb-true, eq-eqb}
 use lib.Dec.{eqb}
-use lib.ListN.{length, set, take, drop, replicate, length-set, length-take, length-drop, length-replicate, getD-replicate, take-append-drop}
+use lib.ListN.{length, set, take, drop, replicate, length-set, length-take, length-drop, length-replicate, getD-replicate, take-append-drop, List·getD-eq-default}
 use lib.Seq.{set-comm, getD-set-same, getD-set-other, getD-take, getD-drop, drop-drop, drop-append-add, take-add, take-at, take-length, ext-getD, sets, sets-eq}
 use Rattle.laws.proofs.Every.{every-at, every-of}
 use Rattle.layout.specs.Bytes.{byteAt, part, put, onBlock, zeros, AreBytes}
@@ -126,6 +127,15 @@ length-part s at n h = simp (length-take, length-drop) (omega arith)
 pub byte-part : (s : List ℕ) (at n k : ℕ) → k < n → byteAt (part s at n) k ≡ byteAt s (at + k)
 byte-part s at n k h = getD-take n (drop at s) k 0 h ∙ getD-drop at s k 0
 
+pub bytes-part : (s : List ℕ) (at n : ℕ) → AreBytes s → AreBytes (part s at n)
+bytes-part s at n bytes k = go (decLt k n)
+  where
+    go : Dec (k < n) → byteAt (part s at n) k < 256
+    go (yes l) = rw (byte-part s at n k l) (bytes (at + k))
+    go (no l) =
+        let m : length (part s at n) ≤ k = simp length-take (omega arith) in
+        rw (List·getD-eq-default (part s at n) 0 m) (omega arith)
+
 -- two parts with the same bytes are the same
 pub part-same : (s : List ℕ) (at : ℕ) (t : List ℕ) (place n : ℕ) → at + n ≤ length s → place + n ≤ length t
     → ((k : ℕ) → k < n → byteAt s (at + k) ≡ byteAt t (place + k)) → part s at n ≡ part t place n
@@ -187,6 +197,13 @@ put-part s at n h =
     ∙ rw (e, ← drop-drop n at s, take-append-drop n (drop at s)) (take-append-drop at s)
 
 -- ---- two lists, one behind the other
+
+pub bytes-cons : (b : ℕ) (s : List ℕ) → b < 256 → AreBytes s → AreBytes (b ∷ s)
+bytes-cons b s small h zero = small
+bytes-cons b s small h (suc k) = h k
+
+pub bytes-drop : (n : ℕ) (s : List ℕ) → AreBytes s → AreBytes (drop n s)
+bytes-drop n s h k = rw (getD-drop n s k 0) (h (n + k))
 
 pub bytes-append : (s t : List ℕ) → AreBytes s → AreBytes t → AreBytes (s ++ t)
 bytes-append [] t hs ht k = ht k

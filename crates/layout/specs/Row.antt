@@ -20,9 +20,9 @@ rowBytes [] = []
 rowBytes (f ∷ row) = bytesOf (f .0) (f .1) ++ rowBytes row
 
 -- how many bytes they take
-abbrev pub widthOf : List Field → ℕ
-widthOf [] = 0
-widthOf (f ∷ row) = f .0 + widthOf row
+abbrev pub rowWidth : List Field → ℕ
+rowWidth [] = 0
+rowWidth (f ∷ row) = f .0 + rowWidth row
 
 -- fields of the same widths, read from a place on
 abbrev pub rowAt : List Field → List ℕ → ℕ → List Field

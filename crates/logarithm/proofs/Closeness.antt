@@ -10,7 +10,7 @@ use Rattle.discount.specs.Discount.{million, year, factor}
 use Rattle.discount.proofs.Roots.{year-pos, rate-pos}
 use Rattle.discount.proofs.Factors.{Covers, factor-above, factor-below}
 use Rattle.logarithm.specs.Logarithms.{scale, baseNumerator, baseDenominator}
-use Rattle.logarithm.proofs.Exponents.{Low, High, Logged, under-pos, over-pos, under-le, raised}
+use Rattle.logarithm.proofs.Exponents.{Low, High, Logged, numerator-pos, denominator-pos, numerator-le, raised}
 use Rattle.logarithm.proofs.Ratios.{low-later}
 
 -- ---- from exponents to the power inequality of document 01
@@ -19,7 +19,7 @@ use Rattle.logarithm.proofs.Ratios.{low-later}
 falls : (i j : ℕ) → i ≤ j → baseNumerator ^ j * baseDenominator ^ i ≤ baseNumerator ^ i * baseDenominator ^ j
 falls i j l =
     let rest : j ≡ i + (j - i) = omega arith in
-    let step : baseNumerator ^ (j - i) ≤ baseDenominator ^ (j - i) = pow-le-pow-left under-le (j - i) in
+    let step : baseNumerator ^ (j - i) ≤ baseDenominator ^ (j - i) = pow-le-pow-left numerator-le (j - i) in
     let all : baseNumerator ^ (i + (j - i)) * baseDenominator ^ i ≤ baseNumerator ^ i * baseDenominator ^ (i + (j - i)) =
     rw (pow-add baseNumerator i (j - i), pow-add baseDenominator i (j - i)) (omega (arith, mul-le-mul-left (baseNumerator ^ i * baseDenominator ^ i) step)) in
     rw (sym rest) at all
@@ -33,12 +33,12 @@ joined z n c m ax bx ae be pa pb g h k =
 module _ (r e s days z : ℕ) (g : Logged (million + r) e s) where
   fits-high : (c x : ℕ) → High z c x → x * year ≤ e * days → z ^ year * million ^ days ≤ c ^ year * (million + r) ^ days
   fits-high c x h l =
-      joined _ _ _ _ _ _ _ _ (one-le-pow (x * year) baseNumerator under-pos) (one-le-pow (e * days) baseDenominator over-pos)
+      joined _ _ _ _ _ _ _ _ (one-le-pow (x * year) baseNumerator numerator-pos) (one-le-pow (e * days) baseDenominator denominator-pos)
       (raised z c baseNumerator baseDenominator x year (h .high)) (raised million (million + r) baseDenominator baseNumerator e days (g .most)) (falls (x * year) (e * days) l)
 
   fits-low : (c x : ℕ) → Low z c x → (e + s) * days ≤ x * year → c ^ year * (million + r) ^ days ≤ z ^ year * million ^ days
   fits-low c x h l =
-      joined _ _ _ _ _ _ _ _ (one-le-pow (x * year) baseDenominator over-pos) (one-le-pow ((e + s) * days) baseNumerator under-pos)
+      joined _ _ _ _ _ _ _ _ (one-le-pow (x * year) baseDenominator denominator-pos) (one-le-pow ((e + s) * days) baseNumerator numerator-pos)
       (raised c z baseDenominator baseNumerator x year (h .low)) (raised (million + r) million baseNumerator baseDenominator (e + s) days (g .least))
       (omega (arith, falls ((e + s) * days) (x * year) l))
 

@@ -33,39 +33,39 @@ pub scale-pos : 0 < scale
 unfolding scale
 scale-pos = lit< tt
 
-pub under-scale : baseNumerator + 1 ≡ scale
+pub numerator-scale : baseNumerator + 1 ≡ scale
 unfolding scale baseNumerator
-under-scale = refl
+numerator-scale = refl
 
-under-over : baseNumerator + 2 ≡ baseDenominator
+pub numerator-denominator : baseNumerator + 2 ≡ baseDenominator
 unfolding baseNumerator baseDenominator
-under-over = refl
+numerator-denominator = refl
 
-pub under-pos : 0 < baseNumerator
+pub numerator-pos : 0 < baseNumerator
 unfolding baseNumerator
-under-pos = lit< tt
+numerator-pos = lit< tt
 
-pub over-pos : 0 < baseDenominator
+pub denominator-pos : 0 < baseDenominator
 unfolding baseDenominator
-over-pos = lit< tt
+denominator-pos = lit< tt
 
-pub under-le : baseNumerator ≤ baseDenominator
+pub numerator-le : baseNumerator ≤ baseDenominator
 unfolding baseNumerator baseDenominator
-under-le = lit≤ tt
+numerator-le = lit≤ tt
 
 -- its powers, with p for scale - c
 pub base-low : (c p : ℕ) → p + c ≡ scale → p * baseDenominator ^ c ≤ (p + 2 * c) * baseNumerator ^ c
-base-low c p e = rw under-over at (cayley-low c p baseNumerator (omega (arith, under-scale)))
+base-low c p e = rw numerator-denominator at (cayley-low c p baseNumerator (omega (arith, numerator-scale)))
 
 pub base-high : (c p k : ℕ) → p + c ≡ scale → c * c + c ≤ k * (scale + k) → (k + p + 2 * c) * baseNumerator ^ c ≤ (k + p) * baseDenominator ^ c
-base-high c p k e h = rw under-over at (cayley-high c p baseNumerator k (omega (arith, under-scale)) (rw under-scale h))
+base-high c p k e h = rw numerator-denominator at (cayley-high c p baseNumerator k (omega (arith, numerator-scale)) (rw numerator-scale h))
 
 -- to the third order
 pub third-high : (c p : ℕ) → p + c ≡ scale → den p c * baseNumerator ^ c ≤ num p c * baseDenominator ^ c
-third-high c p e = rw under-over at (pade-high c p baseNumerator (omega (arith, under-scale)))
+third-high c p e = rw numerator-denominator at (pade-high c p baseNumerator (omega (arith, numerator-scale)))
 
 pub third-low : (c p k e t : ℕ) → t ≡ p + c → t + k ≡ scale → c * c + c ≤ e → Short t k e → num p c * baseDenominator ^ c ≤ den p c * baseNumerator ^ c
-third-low c p k e t g h l s = rw under-over at (pade-low c p baseNumerator k e t g (omega (arith, under-scale)) l s)
+third-low c p k e t g h l s = rw numerator-denominator at (pade-low c p baseNumerator k e t g (omega (arith, numerator-scale)) l s)
 
 -- ---- raised to a power, and from a ratio to parts of z
 

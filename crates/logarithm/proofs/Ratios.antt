@@ -8,7 +8,7 @@ use Rattle.laws.proofs.Powers.{sub-mul}
 use Rattle.discount.specs.Discount.{million}
 use Rattle.logarithm.specs.Logarithms.{scale, baseNumerator, baseDenominator}
 use Rattle.logarithm.proofs.Pade.{num, den}
-use Rattle.logarithm.proofs.Exponents.{Low, High, Logged, scale-pos, under-le, base-low, base-high}
+use Rattle.logarithm.proofs.Exponents.{Low, High, Logged, scale-pos, numerator-le, base-low, base-high}
 
 -- ---- m / (m + j) against the base to the power d
 
@@ -98,7 +98,7 @@ logged-wide m e s t g l =
     let rest : e + t ≡ (e + s) + (t - s) = omega arith in
     let both : m * (baseNumerator ^ (e + s) * baseNumerator ^ (t - s)) ≤ million * (baseDenominator ^ (e + s) * baseDenominator ^ (t - s)) =
     omega
-    (arith, mul-le-mul-right (baseNumerator ^ (t - s)) (g .least), mul-le-mul-left (million * baseDenominator ^ (e + s)) (pow-le-pow-left under-le (t - s))) in
+    (arith, mul-le-mul-right (baseNumerator ^ (t - s)) (g .least), mul-le-mul-left (million * baseDenominator ^ (e + s)) (pow-le-pow-left numerator-le (t - s))) in
     record { most = g .most; least = rw (rest, pow-add baseNumerator (e + s) (t - s), pow-add baseDenominator (e + s) (t - s)) both }
 
 -- ---- products of rows

@@ -46,7 +46,7 @@ module _ (base : ℤ) (value : ℕ → ℤ) (estimates : List ℤ) (deviation n 
   abbrev limit : ℤ
   limit = limitOf (getD estimates m (pos 0)) deviation
 
-  -- a scenario above the limit loses less than the one that the least estimate covers
+  -- a scenario above the limit loses less than the one whose value is at most the least estimate
   pub loses-less : (s : ℕ) → s < n → limit <ℤ getD estimates s (pos 0) → loss s <ℤ loss q
   loses-less s h k =
       lt-show (loss s) (loss q)
@@ -66,8 +66,8 @@ module _ (base : ℤ) (value : ℕ → ℤ) (estimates : List ℤ) (deviation n 
         down-neg (value q),
       ))
 
-  covered-kept : Kept estimates limit q
-  covered-kept =
+  least-kept : Kept estimates limit q
+  least-kept =
       omega
       (int, below q within, near, both-off deviation, plus (getD estimates m (pos 0)) (pos (slackOf deviation)), up-pos (slackOf deviation), down-pos (slackOf deviation))
 
@@ -79,7 +79,7 @@ module _ (base : ℤ) (value : ℕ → ℤ) (estimates : List ℤ) (deviation n 
       most : (s : ℕ) → s < n → (t : Bool) → ltZ limit (getD estimates s (pos 0)) ≡ t → loss s ≤ℤ loss (w .scenario)
       most s k true e =
           let gone : limit <ℤ getD estimates s (pos 0) = ltZ-yes (rw e tt) in
-          let le : loss s ≤ℤ w .amount = omega (int, loses-less s k gone, h .most q within covered-kept) in
+          let le : loss s ≤ℤ w .amount = omega (int, loses-less s k gone, h .most q within least-kept) in
           rw (h .amount) at le
       most s k false e = rw (h .amount) at (h .most s k (ltZ-no (rw e tt)))
 
@@ -87,7 +87,7 @@ module _ (base : ℤ) (value : ℕ → ℤ) (estimates : List ℤ) (deviation n 
       first s k true e =
           let gone : limit <ℤ getD estimates s (pos 0) = ltZ-yes (rw e tt) in
           let less : loss s <ℤ loss q = loses-less s (omega (arith, h .within)) gone in
-          let top : loss q ≤ℤ loss (w .scenario) = rw (h .amount) at (h .most q within covered-kept) in
+          let top : loss q ≤ℤ loss (w .scenario) = rw (h .amount) at (h .most q within least-kept) in
           lt-show (loss s) (loss (w .scenario)) (omega (int, less, top))
       first s k false e = rw (h .amount) at (h .first s k (ltZ-no (rw e tt)))
 

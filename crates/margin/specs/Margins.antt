@@ -16,7 +16,7 @@ use Rattle.margin.specs.declared.CurveMargin.{CurveMargin}
 use Rattle.margin.specs.declared.CurrencyMargin.{CurrencyMargin}
 use Rattle.margin.specs.declared.Margin.{Margin}
 
--- the figures of a curve, with the loss of a scenario
+-- the figures that a curve shows where scenario s is shown
 unfoldable pub figuresAt : Exposure → ℕ → CurveMargin
 figuresAt e s =
     record {
@@ -27,7 +27,7 @@ figuresAt e s =
       tolerance = toleranceOf e;
     }
 
--- of the worst scenario
+-- "worst loss (the first scenario with the largest)"
 unfoldable pub curveMargin : Exposure → CurveMargin
 curveMargin e = figuresAt e (worstAt flowValue e)
 

@@ -1,4 +1,4 @@
-// The lines of the account statement that show a margin, written into lent bytes: those of curves and of currencies; the length of a page.
+// The lines of the account statement, written into lent bytes: here those that show a margin, of curves and of currencies, and the length of a page.
 // Each function writes from a place on and answers the place behind what it wrote.
 pub mod line;
 

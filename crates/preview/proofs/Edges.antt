@@ -10,10 +10,10 @@ use Rattle.ground.specs.declared.Ground.{Ground}
 use Rattle.ground.specs.declared.Ground.the-variants.{BookSpace}
 use Rattle.ground.specs.declared.Verdict.the-variants.{Accepted, Refused}
 use Rattle.layout.specs.Bytes.{AreBytes}
+use Rattle.layout.proofs.Bytes.{bytes-part}
 use Rattle.book.specs.Parts.{curvesOf, tradeCount}
 use Rattle.book.specs.Verdict.{bytesVerdict}
 use Rattle.book.proofs.Accepted.{sound}
-use Rattle.book.proofs.HeaderBlock.{bytes-part}
 use Rattle.acceptance.specs.declared.Today.the-variants.{Given}
 use Rattle.acceptance.specs.Verdict.{bookVerdict}
 use Rattle.edit.specs.Refusals.{blockOf, appendVerdict}

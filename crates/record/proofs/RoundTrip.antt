@@ -7,7 +7,7 @@ use lib.ListN.{length, take}
 use Rattle.laws.specs.All.{All}
 use Rattle.layout.specs.Bytes.{part, AreBytes}
 use Rattle.layout.specs.Field.{numberAt}
-use Rattle.layout.specs.Row.{Fits, fieldIn, widthOf}
+use Rattle.layout.specs.Row.{Fits, fieldIn, rowWidth}
 use Rattle.layout.proofs.Bytes.{part-all}
 use Rattle.layout.proofs.Field.{field-byte}
 use Rattle.layout.proofs.Row.{length-row, row-field, row-fits, row-part}
@@ -28,7 +28,7 @@ Narrow f = All Fits (recordRow f)
 pub fields-bytes-fields : (f : Fields) → Narrow f → fieldsOf (recordBytes f) ≡ f
 unfolding fieldsOf formOf daysOf amountsOf recordBytes recordRow
 fields-bytes-fields f n =
-    let back : (k : ℕ) → numberAt (fieldIn (recordRow f) k .0) (recordBytes f) (widthOf (take k (recordRow f))) ≡ fieldIn (recordRow f) k .1 =
+    let back : (k : ℕ) → numberAt (fieldIn (recordRow f) k .0) (recordBytes f) (rowWidth (take k (recordRow f))) ≡ fieldIn (recordRow f) k .1 =
     λ k. row-field (recordRow f) k (row-fits (recordRow f) n k) in
     simp (← field-byte (recordBytes f))
     (rw (back 0, back 1, back 2, back 3, back 4, back 5, back 6)

@@ -3,18 +3,41 @@ use acceptance::Today;
 use book::parts;
 use ground::Ground;
 use ground::Verdict;
+use ladder::Position;
+use margin::CurveMargin;
 use margin::Margin;
 ghost use mathlib.Core.Path.{_≡_};
 ghost use Prim.Native.Nat.{_*_, _≤_};
 ghost use lib.ListN.{length};
 ghost use Rattle.ground.specs.declared.Verdict.the-variants.{Accepted};
 ghost use Rattle.ground.specs.Verdicts.{bytesAfter};
-ghost use Rattle.book.specs.Parts.{tradeCount};
+ghost use Rattle.book.specs.Parts.{curveCount, tradeCount};
 ghost use Rattle.book.specs.Verdict.{StartsWithBook};
+ghost use Rattle.margin.specs.Margins.{curveMargin};
+ghost use Rattle.exposure.specs.Exposures.{exposureAt};
 ghost use Rattle.report.specs.Bounded.{Bounded};
 ghost use Rattle.report.specs.Entry.{marginIn, reportVerdict, marginVerdict, reported, marginBytes};
 
-// The margin of an accepted book, curve by curve in one ladder, which has room for three legs of each trade.
+// The figures of a curve of an accepted book, by way of its ladder, which has room for three legs of each trade.
+fn curve_figures(book: &[u8], curve: usize, ladder: &mut [u64]) -> CurveMargin
+    requires { ⌜ StartsWithBook (now book) × (1 ≤ curve) × (curve ≤ curveCount (now book)) × (tradeCount (now book) * 18 ≤ length (now ladder)) ⌝ }
+    ensures { λ r. ⌜ r ≡ curveMargin (exposureAt (now (book .entry)) curve) ⌝ }
+{
+    let n = exposure::gather(book, curve as u64, ladder);
+    let b = parts::block_at(book, curve);
+    let currency = curve_block::currency_of(b);
+    let components = exposure::components_at(book, curve);
+    let position = Position {
+        id: curve as u64,
+        currency: currency,
+        curve: curve_block::curve_of(b),
+        components: components,
+        schedules: n,
+    };
+    margin::margins::curve_margin(position, ladder)
+}
+
+// The margin of an accepted book, curve by curve in one ladder.
 fn margin_with(book: &[u8], ladder: &mut [u64]) -> Margin
     requires { ⌜ StartsWithBook (now book) × (tradeCount (now book) * 18 ≤ length (now ladder)) ⌝ }
     ensures { λ r. ⌜ r ≡ marginIn (now (book .entry)) ⌝ }
@@ -23,8 +46,7 @@ fn margin_with(book: &[u8], ladder: &mut [u64]) -> Margin
     let mut curves = [margin::margins::no_curve(); 8];
     let mut k: usize = 0;
     while k < count {
-        let position = exposure::position_at(book, k + 1, ladder);
-        let m = margin::margins::curve_margin(position, ladder);
+        let m = curve_figures(book, k + 1, ladder);
         curves[k] = m;
         k += 1;
     }

@@ -18,11 +18,11 @@ use Rattle.trade.specs.declared.Security.the-variants.{Nothing, Single, 
 use Rattle.trade.specs.declared.Trade.{Trade}
 use Rattle.trade.specs.declared.Trade.the-variants.{Outright, Pool, Specified}
 use Rattle.trade.specs.Read.{indexedBondOf, pickSecurity, securityOf, outrightOf, repoOf, pickTrade, tradeOf}
-use Rattle.trade.specs.Write.{numberOf, filledBy, fieldsOfOutright, fieldsOfRepo, fieldsOfTrade}
+use Rattle.trade.specs.Write.{securityNumber, filledBy, fieldsOfOutright, fieldsOfRepo, fieldsOfTrade}
 
 -- ---- from a trade to fields and back
 
-security-back : (s : Security) → pickSecurity (numberOf s) (record { curve = filledBy s .bond .curve; first = filledBy s .bond .first; nominal = filledBy s .bond .nominal }) (filledBy s .bond) (filledBy s) ≡ s
+security-back : (s : Security) → pickSecurity (securityNumber s) (record { curve = filledBy s .bond .curve; first = filledBy s .bond .first; nominal = filledBy s .bond .nominal }) (filledBy s .bond) (filledBy s) ≡ s
 security-back Nothing = refl
 security-back (Single p) = refl
 security-back (Coupons b) = refl
@@ -44,7 +44,7 @@ pub record FormAndAmounts (curves : Curves) (f : Fields) : Type 0 where
 module _ {curves : Curves} (f : Fields) (r : FormAndAmounts curves f) where
   -- a security fills the fields that the record has
   abbrev Filled : Security → Type 0
-  Filled s = (numberOf s ≡ f .form .security) × (filledBy s ≡ indexedBondOf f)
+  Filled s = (securityNumber s ≡ f .form .security) × (filledBy s ≡ indexedBondOf f)
 
   -- by its number
   filled-at : (number : ℕ) → f .form .security ≡ number → number ≤ 3 → Filled (securityOf f)

@@ -10,13 +10,13 @@ use Rattle.trade.specs.declared.Trade.{Trade}
 use Rattle.trade.specs.declared.Trade.the-variants.{Outright, Pool, Specified}
 
 -- "security (0 none, 1 single payment, 2 coupons, 3 indexed coupons)"
-abbrev pub numberOf : Security → ℕ
-numberOf Nothing = 0
-numberOf (Single p) = 1
-numberOf (Coupons b) = 2
-numberOf (Indexed i) = 3
+abbrev pub securityNumber : Security → ℕ
+securityNumber Nothing = 0
+securityNumber (Single p) = 1
+securityNumber (Coupons b) = 2
+securityNumber (Indexed i) = 3
 
--- the fields that a security fills, those of an indexed bond at most
+-- a security as the fields of an indexed bond; those that it does not fill are 0
 abbrev pub filledBy : Security → IndexedBond
 filledBy Nothing = record { bond = record { curve = 0; first = 0; nominal = 0; period = 0; payments = 0; coupon = 0 }; index = 0; issue = 0 }
 filledBy (Single p) = record { bond = record { curve = p .curve; first = p .first; nominal = p .nominal; period = 0; payments = 0; coupon = 0 }; index = 0; issue = 0 }
@@ -25,7 +25,7 @@ filledBy (Indexed i) = i
 
 unfoldable pub fieldsOfOutright : OutrightTrade → Fields
 fieldsOfOutright t = let i = filledBy (t .security) in let b = i .bond in record {
-  form = record { kind = 1; side = t .side; phase = 0; securitycurve = b .curve; cashcurve = t .cashcurve; security = numberOf (t .security); blank = 0 };
+  form = record { kind = 1; side = t .side; phase = 0; securitycurve = b .curve; cashcurve = t .cashcurve; security = securityNumber (t .security); blank = 0 };
   days = record { valueday1 = t .valueday1; valueday2 = 0; first = b .first; period = b .period; payments = b .payments; term = 0 };
   amounts = record {
     coupon = b .coupon;
@@ -40,7 +40,7 @@ fieldsOfOutright t = let i = filledBy (t .security) in let b = i .bond in record
 
 unfoldable pub fieldsOfRepo : ℕ → RepoTrade → Fields
 fieldsOfRepo kind t = let i = filledBy (t .security) in let b = i .bond in record {
-  form = record { kind = kind; side = t .side; phase = t .phase; securitycurve = b .curve; cashcurve = t .cashcurve; security = numberOf (t .security); blank = 0 };
+  form = record { kind = kind; side = t .side; phase = t .phase; securitycurve = b .curve; cashcurve = t .cashcurve; security = securityNumber (t .security); blank = 0 };
   days = record { valueday1 = t .valueday1; valueday2 = t .valueday2; first = b .first; period = b .period; payments = b .payments; term = t .term };
   amounts = record {
     coupon = b .coupon;

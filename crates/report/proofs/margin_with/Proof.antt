@@ -36,8 +36,8 @@ loop-holds c = (omega arith, refl, record { places = refl; each = λ i l. absurd
 abbrev entry : tie.After-curve-count Inv-loop μ-loop → tie.Start Inv-loop μ-loop
 entry c = c .before .before .before
 
-position-at-requires : tie.Need-position-at-requires Inv-loop μ-loop
-position-at-requires c κs =
+curve-figures-requires : tie.Need-curve-figures-requires Inv-loop μ-loop
+curve-figures-requires c κs =
     let l = c .before .before in
     let counted = l .before .before in
     let p = entry counted .pre in
@@ -50,16 +50,15 @@ below c =
     let b = here (entry counted) in
     omega (arith, counted .curve-count .ensures .0, b .most)
 
--- a turn, behind its calls
-abbrev turn : tie.After-curve-margin Inv-loop μ-loop → tie.In-loop Inv-loop μ-loop
-turn c = let lent = c .before .before in let found = lent .before .before in found .before .before
+-- a turn, behind its call
+abbrev turn : tie.After-slice-known2 Inv-loop μ-loop → tie.In-loop Inv-loop μ-loop
+turn c = let called = c .before .before in called .before .before
 
 loop-again : tie.Need-loop-again Inv-loop μ-loop
 loop-again c =
     let t = turn c in
-    let lent = c .before .before in
-    let found = lent .before .before in
-    (omega arith, search needs, placed-next _ _ _ (t .before .loop .inv .2) (c .curve-margin .result) (below t) (c .curve-margin .ensures ∙ ap curveMargin (found .position-at .ensures .0)))
+    let called = c .before .before in
+    (omega arith, search needs, placed-next _ _ _ (t .before .loop .inv .2) (called .curve-figures .result) (below t) (called .curve-figures .ensures))
 
 -- behind the loop: every curve has its place
 module _ (c : tie.After-loop Inv-loop μ-loop) where
@@ -102,8 +101,7 @@ margin-with-spec =
     (λ c κs. tt)
     loop-holds
     (λ c. search needs)
-    position-at-requires
-    (λ c κs. search needs)
+    curve-figures-requires
     (λ c. omega (arith, below (turn c)))
     (λ c. below (turn c))
     (λ c. search needs)
