@@ -5,19 +5,20 @@ mod repos;
 mod timing;
 mod whole;
 
-pub use repos::{paying_repo_book, repo_book};
-pub use timing::{
-    best_in_turns, best_time, best_turn, middle, processor_time, processor_times, ratio, repeats,
-    shown, time_on, turn_time,
-};
-pub use whole::{margin, sized_books, work, Work};
+pub use self::{repos::*, timing::*, whole::*};
 
-mod ffi {
-    unsafe extern "C" {
-        pub safe fn probe_chain(x: u64, q: u64, k: u64) -> u64;
-        pub safe fn probe_factor(rate: u64, days: u64) -> u64;
-        pub safe fn probe_factors(rate: u64, days: u64, other_rate: u64, other_days: u64) -> u64;
-    }
+unsafe extern "C" {
+    /// The product with `q`, `k` times, from `x`.
+    #[link_name = "probe_chain"]
+    pub safe fn chain(x: u64, q: u64, k: u64) -> u64;
+
+    /// The factor of a rate and some days; of one day it is the day's factor itself.
+    #[link_name = "probe_factor"]
+    pub safe fn factor(rate: u64, days: u64) -> u64;
+
+    /// The sum of two factors that are taken together.
+    #[link_name = "probe_factors"]
+    pub safe fn factors(rate: u64, days: u64, other_rate: u64, other_days: u64) -> u64;
 }
 
 /// One, in a factor.
@@ -25,21 +26,6 @@ pub const UNIT: u64 = 1_000_000_000_000;
 
 /// The largest rate.
 pub const LIMIT: u64 = 1_000_000;
-
-/// The product with `q`, `k` times, from `x`.
-pub fn chain(x: u64, q: u64, k: u64) -> u64 {
-    ffi::probe_chain(x, q, k)
-}
-
-/// The factor of a rate and some days; of one day it is the day's factor itself.
-pub fn factor(rate: u64, days: u64) -> u64 {
-    ffi::probe_factor(rate, days)
-}
-
-/// The sum of two factors that are taken together.
-pub fn factors(rate: u64, days: u64, other_rate: u64, other_days: u64) -> u64 {
-    ffi::probe_factors(rate, days, other_rate, other_days)
-}
 
 /// The year's factor at a rate.
 pub fn yearly(rate: u64) -> u64 {

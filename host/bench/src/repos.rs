@@ -1,9 +1,7 @@
 //! Books full of repos, with payments inside their term and without.
 
 use seddolki_books::full_book;
-use seddolki_model::accept::Book;
-use seddolki_model::limits::TERMS;
-use seddolki_model::record::{Record, SPECIFIED};
+use seddolki_model::{Book, Record, SPECIFIED, TERMS};
 
 const TERM: u16 = *TERMS.end();
 

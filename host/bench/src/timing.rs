@@ -27,15 +27,21 @@ pub fn best_time<T>(mut work: impl FnMut() -> T) -> Duration {
     best
 }
 
-/// The time of the work once, over as many repeats as fill a turn.
-pub fn turn_time<T>(mut work: impl FnMut() -> T) -> Duration {
-    let start = Instant::now();
+/// The time of the work once by a clock, over as many repeats as fill a turn.
+fn time_by<T>(clock: impl Fn() -> Duration, mut work: impl FnMut() -> T) -> Duration {
+    let start = clock();
     let mut repeats = 0;
-    while repeats == 0 || start.elapsed() < TURN {
+    while repeats == 0 || clock() - start < TURN {
         black_box(work());
         repeats += 1;
     }
-    start.elapsed() / repeats
+    (clock() - start) / repeats
+}
+
+/// A turn.
+pub fn turn_time<T>(work: impl FnMut() -> T) -> Duration {
+    let start = Instant::now();
+    time_by(|| start.elapsed(), work)
 }
 
 /// The best of several turns.
@@ -70,14 +76,8 @@ pub fn time_on<S, T, E: Debug>(mut own: S, work: impl Fn(&mut S) -> Result<T, E>
 }
 
 /// A turn in time of the processor, which others that run do not lengthen much.
-pub fn processor_time<T>(mut work: impl FnMut() -> T) -> Duration {
-    let start = processor();
-    let mut repeats = 0;
-    while repeats == 0 || processor() - start < TURN {
-        black_box(work());
-        repeats += 1;
-    }
-    (processor() - start) / repeats
+pub fn processor_time<T>(work: impl FnMut() -> T) -> Duration {
+    time_by(processor, work)
 }
 
 /// The processor times of two pieces of work, the middle of several turns that

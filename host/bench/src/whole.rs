@@ -3,10 +3,7 @@
 
 use seddolki::{lent, Date, Refusal, Report};
 use seddolki_books::{full_book, small_book, typical_book};
-use seddolki_model::accept::Book;
-use seddolki_model::block::BLOCK;
-use seddolki_model::layout::Layout;
-use seddolki_model::scenario::scenarios;
+use seddolki_model::{scenarios, Book, Layout, BLOCK};
 use std::collections::BTreeSet;
 
 /// The generator's books of three sizes, by name.

@@ -1,15 +1,7 @@
 //! Accepted books drawn at random.
 
-use crate::curve::{draw_curves, draw_so_many_curves};
-use crate::day::draw_valuation_day;
-use crate::doubles::draw_different;
-use crate::draw::Draw;
-use crate::record::draw_record;
-use seddolki_model::accept::Book;
-use seddolki_model::block::{self, Curve};
-use seddolki_model::limits::{FULL_BLOCK, MAX_BLOCKS, PAYMENTS};
-use seddolki_model::record::Record;
-use seddolki_model::scenario::scenarios;
+use crate::{draw_curves, draw_record, draw_so_many_curves, draw_valuation_day, Draw};
+use seddolki_model::{block, scenarios, Book, Curve, Record, FULL_BLOCK, MAX_BLOCKS, PAYMENTS};
 
 /// How many trades a book with these curves takes.
 pub fn most_trades(curves: &[Curve]) -> usize {
@@ -49,12 +41,18 @@ pub fn draw_book(draw: &mut Draw, work: usize) -> Book {
 /// from each other.
 pub fn draw_full_book(draw: &mut Draw, curves: u64) -> Book {
     let curves = draw_so_many_curves(draw, curves);
-    let trades = draw_different(draw, &curves, most_trades(&curves));
+    let mut trades = vec![];
+    while trades.len() < most_trades(&curves) {
+        let trade = draw_record(draw, &curves, 12);
+        if !trades.contains(&trade) {
+            trades.push(trade);
+        }
+    }
     draw_book_of(draw, curves, trades)
 }
 
 /// A book with these parts, of any account and day.
-fn draw_book_of(draw: &mut Draw, curves: Vec<Curve>, trades: Vec<Record>) -> Book {
+pub(crate) fn draw_book_of(draw: &mut Draw, curves: Vec<Curve>, trades: Vec<Record>) -> Book {
     Book {
         account: draw.edge(0..=u32::MAX.into()) as u32,
         valuation_day: draw_valuation_day(draw),

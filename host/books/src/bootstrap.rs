@@ -1,15 +1,13 @@
-//! Bootstraps drawn at random.
+//! Bootstraps drawn at random, and the node that one adds.
 
-use crate::call::{draw_case_of, Call, Case};
-use crate::draw::Draw;
-use crate::quote::draw_quote;
-use crate::quote_damage::{damage_quote, QuoteDamage};
-use seddolki_model::accept::Book;
-use seddolki_model::quote::{Quote, BOND};
+use crate::{damage_quote, draw_quote, Call, Draw, Outcome, QuoteDamage};
+use seddolki_model::{accept, Book, Node, Quote, BOND};
 
-/// A bootstrap on any book, whole or spoiled. `work` is as in `draw_book`.
-pub fn draw_bootstrap_case(draw: &mut Draw, work: usize) -> Case {
-    draw_case_of(draw, work, draw_bootstrap)
+/// The node that a bootstrap has added.
+pub fn added_node(outcome: &Outcome, quote: &Quote) -> Node {
+    let after = &outcome.after;
+    let book = accept(&after.lent, after.used).expect("a lengthened curve is accepted");
+    *book.curves[quote.curve - 1].last_node()
 }
 
 /// With a quote accepted, spoiled, or of random numbers.

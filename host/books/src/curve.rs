@@ -1,10 +1,8 @@
 //! Curves drawn at random.
 
-use crate::draw::Draw;
-use seddolki_model::block::{Curve, Node, CURVE};
-use seddolki_model::limits::{
-    CURVES, MAX_COMPONENT, MAX_CURRENCIES, MAX_DAY, MAX_RANGE, MAX_RATE, MAX_STEPS, NODES,
-};
+use crate::Draw;
+use seddolki_model::limits::*;
+use seddolki_model::{Curve, Node};
 use std::collections::BTreeSet;
 
 /// One to eight curves, often of one currency.
@@ -29,21 +27,12 @@ fn draw_currency(draw: &mut Draw) -> u8 {
 }
 
 fn draw_curve(draw: &mut Draw, id: u8, currency: u8) -> Curve {
-    let mut curve = Curve {
-        kind: CURVE,
-        number: id.into(),
-        id,
-        currency,
-        ..Curve::default()
-    };
+    let days = draw_node_days(draw).into_iter();
+    let nodes: Vec<Node> = days.map(|day| draw_node(draw, day)).collect();
+    let mut curve = Curve::new(id, currency, &nodes);
     for component in 0..curve.steps.len() {
         curve.steps[component] = draw.within(0..=MAX_STEPS.into()) as u8;
         curve.ranges[component] = draw.edge(0..=MAX_RANGE.into()) as u16;
-    }
-    let days = draw_node_days(draw);
-    curve.node_count = days.len() as u8;
-    for (place, day) in curve.places.iter_mut().zip(days) {
-        *place = draw_node(draw, day);
     }
     curve
 }

@@ -1,22 +1,10 @@
 //! Books spoiled, for one ground or anywhere.
 
-use crate::book::assemble;
-use crate::draw::Draw;
-use crate::record_damage::damage_record;
-use seddolki_model::accept::Book;
-use seddolki_model::block::{seal, Curve, Head, Header, Node, TradeBlock, BLOCK};
-use seddolki_model::layout::Layout;
-use seddolki_model::limits::{
-    CURVES, FULL_BLOCK, MAX_BLOCKS, MAX_COMPONENT, MAX_CURRENCIES, MAX_DAY, MAX_RANGE, MAX_RATE,
-    MAX_STEPS, NODES,
+use crate::{assemble, damage_record, Draw};
+use seddolki_model::limits::*;
+use seddolki_model::{
+    seal, Book, Curve, Ground, Head, Header, Layout, Node, Record, TradeBlock, BLOCK,
 };
-use seddolki_model::record::Record;
-use seddolki_model::Ground;
-
-/// The grounds that `damage_book` spoils for, 2 to 12.
-pub fn book_grounds() -> &'static [Ground] {
-    &Ground::ALL[1..12]
-}
 
 /// A book's bytes spoiled for a ground of 2 to 12, and the block that the
 /// refusal names; none if this book cannot be spoiled so. Only ground 2

@@ -1,6 +1,6 @@
 //! The days that books are for and that calls are given, drawn at random.
 
-use crate::draw::Draw;
+use crate::Draw;
 use seddolki_model::Date;
 
 /// A day that a book is for, of November 2026 or of any time.

@@ -1,10 +1,9 @@
 //! The books of document 01's list examples, and one to work out by hand.
 
-use crate::book::assemble;
-use seddolki_model::accept::Book;
-use seddolki_model::block::{Curve, Node, CURVE};
-use seddolki_model::record::{Record, FIRST_SIDE, OUTRIGHT, SECOND_SIDE, SINGLE_PAYMENT};
-use seddolki_model::Date;
+use crate::assemble;
+use seddolki_model::{
+    Book, Curve, Date, Node, Record, FIRST_SIDE, OUTRIGHT, SECOND_SIDE, SINGLE_PAYMENT,
+};
 
 /// The book of the buyer's example.
 pub fn buyer() -> Vec<u8> {
@@ -44,18 +43,11 @@ fn curve() -> Curve {
         rate: 250_000,
         components: [250_000, 0, 0],
     };
-    let mut curve = Curve {
-        kind: CURVE,
-        number: 1,
-        id: 1,
-        currency: 1,
-        node_count: 2,
+    Curve {
         steps: [1, 0, 0],
         ranges: [300, 0, 0],
-        ..Curve::default()
-    };
-    curve.places[..2].copy_from_slice(&[node(365), node(730)]);
-    curve
+        ..Curve::new(1, 1, &[node(365), node(730)])
+    }
 }
 
 fn trade(side: u8) -> Record {

@@ -1,16 +1,12 @@
 //! Amounts that are worth whole kuruş and a half, or next to it, and where
 //! flows of a half are in a report.
 
-use crate::draw::Draw;
-use seddolki_model::block::{Curve, Node};
-use seddolki_model::curve::rate_on;
-use seddolki_model::discount::discount_factor;
-use seddolki_model::flows::CashFlow;
-use seddolki_model::limits::MAX_DAY;
-use seddolki_model::record::{Record, FIRST_SIDE, OUTRIGHT, SECOND_SIDE, SINGLE_PAYMENT};
-use seddolki_model::report::CurveFigures;
-use seddolki_model::scenario::{scenarios, stressed_nodes};
-use seddolki_model::units::{ONE, UNIT, YEAR};
+use crate::listed_enum::listed_enum;
+use crate::{payment, Draw};
+use seddolki_model::{
+    discount_factor, rate_on, scenarios, stressed_nodes, CashFlow, Curve, CurveFigures, Node,
+    Record, FIRST_SIDE, MAX_DAY, SECOND_SIDE, UNIT, YEAR,
+};
 use std::cmp::Ordering;
 
 /// Half a kuruş in amount × factor, of which S are a kuruş.
@@ -19,17 +15,16 @@ const HALF: u64 = UNIT / 2;
 /// What differs from a half by a millionth of a kuruş at most is near it.
 const NEAR: u64 = UNIT / 1_000_000;
 
-/// What an amount is worth behind its whole kuruş.
-#[derive(Clone, Copy, Debug, PartialEq, Eq, PartialOrd, Ord)]
-pub enum Rest {
-    JustBelow,
-    Half,
-    JustAbove,
+listed_enum! {
+    /// What an amount is worth behind its whole kuruş.
+    pub enum Rest {
+        JustBelow,
+        Half,
+        JustAbove,
+    }
 }
 
 impl Rest {
-    pub const ALL: [Rest; 3] = [Rest::JustBelow, Rest::Half, Rest::JustAbove];
-
     /// That of an amount at a discount factor, if it is a half or near it.
     pub fn of(amount: u64, factor: u64) -> Option<Self> {
         let worth = u128::from(amount) * u128::from(factor);
@@ -84,17 +79,10 @@ pub(crate) const HALVING_RATES: [i32; 3] = [1_000_000, 600_000, 280_000];
 pub(crate) const MOST_SMALL: u64 = 2_000;
 
 /// A payment of the curve on a day, bought or sold for as much today.
-fn payment(draw: &mut Draw, curve: &Curve, day: u64, nominal: u64) -> Record {
+fn draw_payment(draw: &mut Draw, curve: &Curve, day: u64, nominal: u64) -> Record {
     Record {
-        kind: OUTRIGHT,
         side: draw.pick(&[FIRST_SIDE, SECOND_SIDE]),
-        security: SINGLE_PAYMENT,
-        security_curve: curve.id,
-        cash_curve: curve.id,
-        first_payment_day: day as u16,
-        nominal,
-        price_or_rate: ONE as u32,
-        ..Record::default()
+        ..payment(curve, day as u16, nominal)
     }
 }
 
@@ -108,7 +96,7 @@ pub fn draw_half_payment(draw: &mut Draw, curve: &Curve) -> Record {
     let factor = discount_factor(rate_on(&nodes, day), day);
     let any = draw.within(1..=MOST_SMALL);
     let half = Rest::Half.draw_amount(draw, factor, MOST_SMALL);
-    payment(draw, curve, day, half.unwrap_or(any))
+    draw_payment(draw, curve, day, half.unwrap_or(any))
 }
 
 /// How many amounts are drawn for one that is worth nearly a half.
@@ -129,7 +117,7 @@ pub fn draw_payment_near_half(draw: &mut Draw, curve: &Curve) -> Record {
     let drawn = (0..AMOUNTS).map(|_| draw.within(1..=most));
     let nearest = drawn.min_by_key(|amount| away(*amount));
     let amount = exact.filter(|amount| *amount > 0).or(nearest);
-    payment(draw, curve, day, amount.expect("amounts are drawn"))
+    draw_payment(draw, curve, day, amount.expect("amounts are drawn"))
 }
 
 /// Whether an amount is worth whole kuruş and a half by these nodes.

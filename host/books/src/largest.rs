@@ -1,12 +1,10 @@
 //! Books with as much in flows as a book can have.
 
-use crate::book::most_trades;
-use crate::record::bring_within_limit;
-use seddolki_model::accept::Book;
-use seddolki_model::block::{Curve, Node, CURVE};
-use seddolki_model::limits::{MAX_AMOUNT, MAX_COMPONENT, MAX_COUPON, MAX_RATE, PAYMENTS, TERMS};
-use seddolki_model::record::{Record, COUPONS, FIRST_SIDE, SECOND_SIDE, SPECIFIED};
-use seddolki_model::Date;
+use crate::{bring_within_limit, most_trades};
+use seddolki_model::{
+    Book, Curve, Date, Node, Record, COUPONS, FIRST_SIDE, MAX_AMOUNT, MAX_COMPONENT, MAX_COUPON,
+    MAX_RATE, PAYMENTS, SECOND_SIDE, SPECIFIED, TERMS,
+};
 
 /// What tells such books apart. All flows are far off: an amount is worth
 /// itself at rate 0, and next to nothing at 100%.
@@ -59,24 +57,16 @@ impl Largest {
     }
 
     fn curve(self, id: u8) -> Curve {
-        let mut curve = Curve {
-            kind: CURVE,
-            number: id.into(),
-            id,
-            currency: (id - 1) % self.currencies + 1,
-            node_count: 2,
+        let node = |day| Node {
+            day,
+            rate: self.rate,
+            components: [self.component, 0, 0],
+        };
+        Curve {
             steps: [1, 0, 0],
             ranges: [100, 0, 0],
-            ..Curve::default()
-        };
-        for (place, day) in curve.places.iter_mut().zip([1, 2]) {
-            *place = Node {
-                day,
-                rate: self.rate,
-                components: [self.component, 0, 0],
-            };
+            ..Curve::new(id, (id - 1) % self.currencies + 1, &[node(1), node(2)])
         }
-        curve
     }
 
     /// Of the longest term and at the highest rate, its cash still to be

@@ -1,29 +1,24 @@
 //! Books with flows on many days of one curve.
 
-use crate::curve::draw_so_many_curves;
-use crate::draw::Draw;
-use crate::near_ties::{bring_near, NearTies};
-use crate::timing;
-use seddolki_model::accept::Book;
-use seddolki_model::block::Curve;
-use seddolki_model::flows::CashFlow;
-use seddolki_model::limits::{MAX_AMOUNT, MAX_DAY, PAYMENTS};
-use seddolki_model::record::{Record, FIRST_SIDE, SECOND_SIDE};
-use seddolki_model::scenario::scenarios;
+use crate::listed_enum::listed_enum;
+use crate::{bring_near, draw_so_many_curves, timing, Draw, NearTies};
+use seddolki_model::{
+    scenarios, Book, CashFlow, Curve, Record, FIRST_SIDE, MAX_AMOUNT, MAX_DAY, MAX_STEPS, PAYMENTS,
+    SECOND_SIDE,
+};
 use std::collections::{BTreeMap, BTreeSet};
 use std::ops::Range;
 
-/// How many days of a curve have a net amount, roughly.
-#[derive(Clone, Copy, Debug, PartialEq, Eq, PartialOrd, Ord)]
-pub enum Days {
-    Few,
-    Hundreds,
-    Many,
+listed_enum! {
+    /// How many days of a curve have a net amount, roughly.
+    pub enum Days {
+        Few,
+        Hundreds,
+        Many,
+    }
 }
 
 impl Days {
-    const ALL: [Days; 3] = [Days::Few, Days::Hundreds, Days::Many];
-
     fn counts(self) -> Range<u64> {
         match self {
             Days::Few => 1..250,
@@ -49,24 +44,12 @@ const MONTH: u64 = 30;
 /// More days in a month are several.
 const SEVERAL: u64 = 4;
 
+/// As many at least as with a step of each component.
+const SOME_SCENARIOS: usize = 27;
 const MANY_SCENARIOS: usize = 100;
 
 /// Bonds that are hedged with each other.
 const HEDGE: u64 = 3;
-
-/// From 27 to 75 scenarios, and from 105 to 343.
-const STEPS: [[u8; 3]; 10] = [
-    [1, 1, 1],
-    [1, 2, 1],
-    [3, 0, 3],
-    [3, 1, 1],
-    [2, 1, 2],
-    [1, 2, 3],
-    [2, 2, 2],
-    [3, 3, 1],
-    [2, 3, 3],
-    [3, 3, 3],
-];
 
 impl Extent {
     pub fn all() -> Vec<Extent> {
@@ -104,7 +87,7 @@ impl Extent {
             false => draw_so_many_curves(draw, 1),
         };
         if draw.once_in(3) {
-            let ties = draw.pick(&NearTies::OF_CURVES);
+            let ties = draw.pick(NearTies::of_curves());
             bring_near(draw, ties, &mut curves[0]);
         }
         if draw.once_in(3) {
@@ -120,8 +103,9 @@ impl Extent {
 
     fn draw_steps(self, draw: &mut Draw, curve: &mut Curve) {
         loop {
-            curve.steps = draw.pick(&STEPS);
-            if (scenarios(curve).len() >= MANY_SCENARIOS) == self.many_scenarios {
+            curve.steps = [(); 3].map(|()| draw.within(0..=MAX_STEPS.into()) as u8);
+            let count = scenarios(curve).len();
+            if count >= SOME_SCENARIOS && (count >= MANY_SCENARIOS) == self.many_scenarios {
                 return;
             }
         }

@@ -1,56 +1,39 @@
 //! Books whose scenarios are hard to tell apart by their losses.
 
-use crate::book::{draw_book, hold_to_work};
-use crate::draw::Draw;
-use crate::halves::{draw_half_payment, HALVING_RATES, MOST_SMALL};
-use crate::record::bring_within_limit;
-use seddolki_model::accept::Book;
-use seddolki_model::block::{Curve, Node};
-use seddolki_model::limits::{MAX_RATE, MAX_STEPS};
-use seddolki_model::record::{Record, FIRST_SIDE, SECOND_SIDE};
+use crate::listed_enum::listed_enum;
+use crate::{
+    bring_within_limit, draw_book, draw_half_payment, hold_to_work, Draw, HALVING_RATES, MOST_SMALL,
+};
+use seddolki_model::{Book, Curve, Node, Record, FIRST_SIDE, MAX_RATE, MAX_STEPS, SECOND_SIDE};
 
-/// How a book's losses come near each other.
-#[derive(Clone, Copy, Debug, PartialEq, Eq, PartialOrd, Ord)]
-pub enum NearTies {
-    /// Amounts so small that rates move their values by a few kuruş.
-    SmallAmounts,
-    /// Beside each trade its opposite: every loss is 0, or nearly so.
-    Opposites,
-    /// One component, or each, is 0 at every node.
-    ZeroComponents,
-    /// Two components are alike, or each other's opposite.
-    AlikeComponents,
-    /// Components of a few millionths.
-    SmallComponents,
-    /// Components are 0 at every node but the last.
-    LastNode,
-    /// Rates at an end of their range, where stresses stop.
-    EndRates,
-    /// Payments of whole kuruş and a half, of which the least rise of a rate
-    /// takes a kuruş each.
-    Halves,
+listed_enum! {
+    /// How a book's losses come near each other.
+    pub enum NearTies {
+        /// Amounts so small that rates move their values by a few kuruş.
+        SmallAmounts,
+        /// Beside each trade its opposite: every loss is 0, or nearly so.
+        Opposites,
+        /// One component, or each, is 0 at every node.
+        ZeroComponents,
+        /// Two components are alike, or each other's opposite.
+        AlikeComponents,
+        /// Components of a few millionths.
+        SmallComponents,
+        /// Components are 0 at every node but the last.
+        LastNode,
+        /// Rates at an end of their range, where stresses stop.
+        EndRates,
+        /// Payments of whole kuruş and a half, of which the least rise of a rate
+        /// takes a kuruş each.
+        Halves,
+    }
 }
 
 impl NearTies {
-    pub const ALL: [NearTies; 8] = [
-        NearTies::SmallAmounts,
-        NearTies::Opposites,
-        NearTies::ZeroComponents,
-        NearTies::AlikeComponents,
-        NearTies::SmallComponents,
-        NearTies::LastNode,
-        NearTies::EndRates,
-        NearTies::Halves,
-    ];
-
     /// Those by which a curve alone changes.
-    pub(crate) const OF_CURVES: [NearTies; 5] = [
-        NearTies::ZeroComponents,
-        NearTies::AlikeComponents,
-        NearTies::SmallComponents,
-        NearTies::LastNode,
-        NearTies::EndRates,
-    ];
+    pub(crate) fn of_curves() -> &'static [NearTies] {
+        &Self::ALL[2..7]
+    }
 }
 
 /// So few that each can have its opposite.

@@ -1,15 +1,10 @@
-//! Previews drawn at random, and what each of them is to equal.
+//! Previews drawn at random.
 
-use crate::book::{assemble, hold_to_work, most_trades};
-use crate::call::{draw_any_book, draw_case_on, draw_record_bytes, draw_report_space};
-use crate::call::{Call, Case, Outcome};
-use crate::draw::Draw;
-use crate::engine::Engine;
-use crate::record::draw_record;
-use seddolki_model::accept::Book;
-use seddolki_model::block::BLOCK;
-use seddolki_model::limits::{FULL_BLOCK, MAX_BLOCKS};
-use seddolki_model::record::RECORD;
+use crate::{
+    assemble, draw_any_book, draw_case_on, draw_record, draw_record_bytes, draw_report_space,
+    hold_to_work, most_trades, Call, Case, Draw,
+};
+use seddolki_model::{Book, BLOCK, FULL_BLOCK, MAX_BLOCKS, RECORD};
 
 /// A preview on any book, whole or spoiled, of a trade that goes into the last
 /// block or into a new one or has no room, in lent bytes up to more than any
@@ -82,21 +77,4 @@ fn all_wrong(draw: &mut Draw) -> Call {
         record: [u8::MAX; RECORD],
         report: draw.bytes(space),
     }
-}
-
-/// What a preview is to come to, by the words of the request: the append to a
-/// copy, in as many lent bytes, and then the margin of that copy. The call is
-/// a preview.
-pub fn append_then_margin(case: &Case, engine: &impl Engine) -> Outcome {
-    let mut after = case.clone();
-    let Call::Preview { record, report } = &mut after.call else {
-        panic!("{} is no preview", case.call.name());
-    };
-    let mut copy = case.lent.clone();
-    let appended = engine.append(&mut copy, case.used, case.day, record);
-    let answer = match appended.number {
-        0 => engine.margin(&copy, appended.value as usize, case.day, report),
-        _ => appended,
-    };
-    Outcome { answer, after }
 }

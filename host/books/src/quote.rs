@@ -1,16 +1,10 @@
 //! Quotes drawn at random that lengthen a curve.
 
-use crate::curve::draw_components;
-use crate::draw::Draw;
-use crate::halves::Rest;
-use crate::record::{bring_within_limit, draw_security};
-use seddolki_model::block::{Curve, Node};
-use seddolki_model::bootstrap::bond_value;
-use seddolki_model::curve::rate_on;
-use seddolki_model::discount::discount_factor;
-use seddolki_model::limits::{AMOUNTS, MAX_AMOUNT, MAX_COUPON, MAX_DAY, MAX_RATE, NODES, PAYMENTS};
-use seddolki_model::quote::{bond_of, Quote};
-use seddolki_model::record::{Record, COUPONS, FIRST_SIDE, OUTRIGHT};
+use crate::{bring_within_limit, draw_components, draw_security, Draw, Rest};
+use seddolki_model::{
+    bond_of, bond_value, discount_factor, rate_on, Curve, Node, Quote, Record, AMOUNTS, COUPONS,
+    FIRST_SIDE, MAX_AMOUNT, MAX_COUPON, MAX_DAY, MAX_RATE, NODES, OUTRIGHT, PAYMENTS,
+};
 
 /// A quote for a curve with room for a node, if there is one; a book with
 /// these curves accepts it then. The cash is what the bond is worth at some

@@ -1,56 +1,37 @@
 //! Quotes spoiled so that one ground answers.
 
-use crate::draw::Draw;
-use crate::record::bring_within_limit;
-use seddolki_model::block::Curve;
-use seddolki_model::bootstrap::bond_value;
-use seddolki_model::limits::{
-    MAX_AMOUNT, MAX_COMPONENT, MAX_COUPON, MAX_DAY, MAX_RATE, NODES, PAYMENTS, PERIODS, TERMS,
-};
-use seddolki_model::quote::{bond_of, Quote};
-use seddolki_model::record::Record;
-use seddolki_model::Ground;
+use crate::listed_enum::listed_enum;
+use crate::{bring_within_limit, wrong_numbers, Draw, Spoiled};
+use seddolki_model::limits::*;
+use seddolki_model::{bond_of, bond_value, quote_fault, Curve, Ground, Quote, Record};
 
-/// What of a quote is wrong.
-#[derive(Clone, Copy, Debug, PartialEq, Eq, PartialOrd, Ord)]
-pub enum QuoteDamage {
-    /// The book has no such curve.
-    Curve,
-    /// A day, the period or the payment count of the bond.
-    Days,
-    /// The coupon, the nominal or the term of the bond.
-    Amounts,
-    /// The last payment exceeds its limit.
-    FlowLimit,
-    /// A component is out of limits.
-    Components,
-    /// The cash is out of limits.
-    Cash,
-    /// The curve has all its nodes.
-    FullCurve,
-    /// The last payment is not after the last node.
-    EarlyEnd,
-    /// The bond is worth more at the highest rate.
-    CashTooLow,
-    /// The bond is worth less at rate 0.
-    CashTooHigh,
+listed_enum! {
+    /// What of a quote is wrong.
+    pub enum QuoteDamage {
+        /// The book has no such curve.
+        Curve,
+        /// A day, the period or the payment count of the bond.
+        Days,
+        /// The coupon, the nominal or the term of the bond.
+        Amounts,
+        /// The last payment exceeds its limit.
+        FlowLimit,
+        /// A component is out of limits.
+        Components,
+        /// The cash is out of limits.
+        Cash,
+        /// The curve has all its nodes.
+        FullCurve,
+        /// The last payment is not after the last node.
+        EarlyEnd,
+        /// The bond is worth more at the highest rate.
+        CashTooLow,
+        /// The bond is worth less at rate 0.
+        CashTooHigh,
+    }
 }
 
 impl QuoteDamage {
-    /// In the order in which they are looked for.
-    pub const ALL: [QuoteDamage; 10] = [
-        QuoteDamage::Curve,
-        QuoteDamage::Days,
-        QuoteDamage::Amounts,
-        QuoteDamage::FlowLimit,
-        QuoteDamage::Components,
-        QuoteDamage::Cash,
-        QuoteDamage::FullCurve,
-        QuoteDamage::EarlyEnd,
-        QuoteDamage::CashTooLow,
-        QuoteDamage::CashTooHigh,
-    ];
-
     /// The ground that answers.
     pub fn ground(self) -> Ground {
         match self {
@@ -63,6 +44,23 @@ impl QuoteDamage {
             QuoteDamage::CashTooLow | QuoteDamage::CashTooHigh => Ground::RateRange,
         }
     }
+
+    /// What is wrong first with a quote for these curves, if anything is.
+    pub fn of(quote: &Quote, curves: &[Curve]) -> Option<Self> {
+        let fault = quote_fault(quote, curves)?;
+        let curve = || &curves[quote.curve - 1];
+        Some(match fault.ground {
+            Ground::Amounts if fault.field == "cash" => QuoteDamage::Cash,
+            Ground::CurveEnd if curve().node_count < *NODES.end() => QuoteDamage::EarlyEnd,
+            Ground::RateRange if bond_value(curve(), quote, 0) < quote.cash => {
+                QuoteDamage::CashTooHigh
+            }
+            ground => {
+                let mut all = QuoteDamage::ALL.into_iter();
+                all.find(|damage| damage.ground() == ground)?
+            }
+        })
+    }
 }
 
 /// A quote spoiled, if it can be in a book with these curves. It may have been
@@ -73,44 +71,25 @@ pub fn damage_quote(
     curves: &[Curve],
     damage: QuoteDamage,
 ) -> Option<Quote> {
-    let mut spoiled = Spoiled {
-        whole: *quote,
-        list: vec![],
-    };
+    let mut spoiled = Spoiled::new(*quote);
     match damage {
         QuoteDamage::Curve => curve(&mut spoiled, curves),
         QuoteDamage::Days => days(&mut spoiled),
         QuoteDamage::Amounts => amounts(&mut spoiled),
         QuoteDamage::FlowLimit => flow_limit(&mut spoiled, curves),
         QuoteDamage::Components => components(&mut spoiled),
-        QuoteDamage::Cash => spoiled.set_cash(&[0, MAX_AMOUNT + 1, u64::MAX]),
+        QuoteDamage::Cash => spoiled.set_cash(&wrong_numbers(true, AMOUNTS)),
         QuoteDamage::FullCurve => full_curve(&mut spoiled, curves),
         QuoteDamage::EarlyEnd => early_end(draw, &mut spoiled, curves),
         QuoteDamage::CashTooLow => cash_too_low(&mut spoiled, curves),
         QuoteDamage::CashTooHigh => cash_too_high(&mut spoiled, curves),
     }
-    let list = spoiled.list;
-    (!list.is_empty()).then(|| draw.pick(&list))
+    spoiled.draw(draw)
 }
 
-/// The spoiled forms of a whole quote.
-struct Spoiled {
-    whole: Quote,
-    list: Vec<Quote>,
-}
-
-impl Spoiled {
-    fn add(&mut self, change: impl Fn(&mut Quote)) {
-        let mut quote = self.whole;
-        change(&mut quote);
-        self.list.push(quote);
-    }
-
-    /// One form for each cash.
+impl Spoiled<Quote> {
     fn set_cash(&mut self, values: &[u64]) {
-        for &cash in values {
-            self.add(|quote| quote.cash = cash);
-        }
+        self.set(values, |quote, cash| quote.cash = cash);
     }
 
     /// Changes the bond by its fields.
@@ -121,7 +100,7 @@ impl Spoiled {
     }
 
     /// One form for each value that a field of the bond is set to.
-    fn set<T: Copy>(&mut self, values: &[T], change: impl Fn(&mut Record, T)) {
+    fn set_bond<T: Copy>(&mut self, values: &[T], change: impl Fn(&mut Record, T)) {
         for &value in values {
             self.change_bond(|bond| change(bond, value));
         }
@@ -134,34 +113,30 @@ impl Spoiled {
 }
 
 /// Ids that the book lacks, some of them with the lower bytes of one it has.
-fn curve(spoiled: &mut Spoiled, curves: &[Curve]) {
+fn curve(spoiled: &mut Spoiled<Quote>, curves: &[Curve]) {
     let (id, count) = (spoiled.whole.curve, curves.len());
-    for none in [0, count + 1, id + (1 << 8), id + (1 << 32), usize::MAX] {
-        spoiled.add(|quote| quote.curve = none);
-    }
+    let none = [0, count + 1, id + (1 << 8), id + (1 << 32), usize::MAX];
+    spoiled.set(&none, |quote, id| quote.curve = id);
 }
 
-fn days(spoiled: &mut Spoiled) {
+fn days(spoiled: &mut Spoiled<Quote>) {
     let late = MAX_DAY as u16 + 1;
-    spoiled.set(&[0, late, u16::MAX], |b, day| b.first_payment_day = day);
-    let periods = [0, PERIODS.end() + 1, u16::MAX];
-    spoiled.set(&periods, |b, period| b.period = period);
-    let payments = [0, PAYMENTS.end() + 1, u16::MAX];
-    spoiled.set(&payments, |b, payments| b.payments = payments);
+    spoiled.set_bond(&[0, late, u16::MAX], |b, day| b.first_payment_day = day);
+    spoiled.set_bond(&wrong_numbers(true, PERIODS), |b, n| b.period = n as u16);
+    spoiled.set_bond(&wrong_numbers(true, PAYMENTS), |b, n| b.payments = n as u16);
     spoiled.change_bond(|b| b.first_payment_day = late - b.payment_span() as u16);
 }
 
-fn amounts(spoiled: &mut Spoiled) {
-    let nominals = [0, MAX_AMOUNT + 1, u64::MAX];
-    spoiled.set(&nominals, |b, nominal| b.nominal = nominal);
-    let coupons = [MAX_COUPON + 1, u32::MAX];
-    spoiled.set(&coupons, |b, coupon| b.coupon = coupon);
-    let terms = [1, *TERMS.end(), u16::MAX];
-    spoiled.set(&terms, |b, term| b.term = term);
+fn amounts(spoiled: &mut Spoiled<Quote>) {
+    spoiled.set_bond(&wrong_numbers(true, AMOUNTS), |b, n| b.nominal = n);
+    spoiled.set_bond(&wrong_numbers(true, 0..=MAX_COUPON), |b, n| {
+        b.coupon = n as u32
+    });
+    spoiled.set_bond(&wrong_numbers(false, TERMS), |b, n| b.term = n as u16);
 }
 
 /// Far above the limit, and the least above it.
-fn flow_limit(spoiled: &mut Spoiled, curves: &[Curve]) {
+fn flow_limit(spoiled: &mut Spoiled<Quote>, curves: &[Curve]) {
     let id = spoiled.curve(curves).id;
     let dear = |b: &mut Record| (b.nominal, b.coupon) = (MAX_AMOUNT, MAX_COUPON);
     spoiled.change_bond(dear);
@@ -174,16 +149,15 @@ fn flow_limit(spoiled: &mut Spoiled, curves: &[Curve]) {
     });
 }
 
-fn components(spoiled: &mut Spoiled) {
+fn components(spoiled: &mut Spoiled<Quote>) {
     let beyond = MAX_COMPONENT + 1;
     for component in 0..spoiled.whole.components.len() {
-        for value in [beyond, -beyond, i32::MAX, i32::MIN] {
-            spoiled.add(|quote| quote.components[component] = value);
-        }
+        let values = [beyond, -beyond, i32::MAX, i32::MIN];
+        spoiled.set(&values, |quote, value| quote.components[component] = value);
     }
 }
 
-fn full_curve(spoiled: &mut Spoiled, curves: &[Curve]) {
+fn full_curve(spoiled: &mut Spoiled<Quote>, curves: &[Curve]) {
     let full = curves.iter().filter(|c| c.node_count == *NODES.end());
     for curve in full {
         spoiled.add(|quote| quote.curve = curve.id.into());
@@ -192,7 +166,7 @@ fn full_curve(spoiled: &mut Spoiled, curves: &[Curve]) {
 
 /// The last payment on the last node's day or before it, with all payments if
 /// there is time for them, or with one.
-fn early_end(draw: &mut Draw, spoiled: &mut Spoiled, curves: &[Curve]) {
+fn early_end(draw: &mut Draw, spoiled: &mut Spoiled<Quote>, curves: &[Curve]) {
     let last = spoiled.curve(curves).last_node().day.into();
     let day = draw.within(1..=last);
     let span = spoiled.whole.purchase().payment_span();
@@ -205,7 +179,7 @@ fn early_end(draw: &mut Draw, spoiled: &mut Spoiled, curves: &[Curve]) {
 }
 
 /// Just below what the bond is worth at the highest rate, and far below.
-fn cash_too_low(spoiled: &mut Spoiled, curves: &[Curve]) {
+fn cash_too_low(spoiled: &mut Spoiled<Quote>, curves: &[Curve]) {
     let value = bond_value(spoiled.curve(curves), &spoiled.whole, MAX_RATE);
     let most = value.saturating_sub(1).min(MAX_AMOUNT);
     if most >= 1 {
@@ -214,7 +188,7 @@ fn cash_too_low(spoiled: &mut Spoiled, curves: &[Curve]) {
 }
 
 /// Just above what the bond is worth at rate 0, and far above.
-fn cash_too_high(spoiled: &mut Spoiled, curves: &[Curve]) {
+fn cash_too_high(spoiled: &mut Spoiled<Quote>, curves: &[Curve]) {
     let value = bond_value(spoiled.curve(curves), &spoiled.whole, 0);
     if value < MAX_AMOUNT {
         spoiled.set_cash(&[value + 1, value + 1, MAX_AMOUNT]);

@@ -1,18 +1,8 @@
 //! Records drawn at random that pass grounds 8 to 12.
 
-use crate::draw::Draw;
-use crate::paying::Paying;
-use seddolki_model::block::Curve;
-use seddolki_model::flows::TABLE;
-use seddolki_model::limits::{
-    AMOUNTS, CLEAN_PRICES, INDICES, MAX_ACCRUED, MAX_AMOUNT, MAX_COUPON, MAX_DAY, MAX_RATE,
-    PAYMENTS, PERIODS, TERMS,
-};
-use seddolki_model::record::Record;
-use seddolki_model::rules::accept_record;
-use seddolki_model::search::largest;
-use seddolki_model::units::ONE;
-use seddolki_model::Ground;
+use crate::{Draw, PaymentDays};
+use seddolki_model::limits::*;
+use seddolki_model::{accept_record, largest, Curve, Ground, Record, ONE, TABLE};
 use std::ops::RangeInclusive;
 
 /// Kind, phase, side and security of every form that a trade can have.
@@ -37,7 +27,7 @@ pub fn form_of(record: &Record) -> (u8, u8, u8, u8) {
 /// A record that a book with these curves accepts, with at most so many
 /// payments. A repo's security pays in each way equally often.
 pub fn draw_record(draw: &mut Draw, curves: &[Curve], most_payments: u64) -> Record {
-    let paying = draw.pick(&Paying::ALL);
+    let paying = draw.pick(&PaymentDays::ALL);
     draw_record_paying(draw, curves, most_payments, paying)
 }
 
@@ -46,7 +36,7 @@ pub fn draw_record_paying(
     draw: &mut Draw,
     curves: &[Curve],
     most_payments: u64,
-    paying: Paying,
+    paying: PaymentDays,
 ) -> Record {
     let mut record = Record::default();
     draw_combination(draw, &mut record);
@@ -78,8 +68,8 @@ fn draw_curve_ids(draw: &mut Draw, record: &mut Record, curves: &[Curve]) {
 }
 
 /// Leaves a day for payments that fall behind the value days.
-fn draw_value_days(draw: &mut Draw, record: &mut Record, paying: Paying) {
-    let pays_behind = !record.is_repo() || paying == Paying::Behind;
+fn draw_value_days(draw: &mut Draw, record: &mut Record, paying: PaymentDays) {
+    let pays_behind = !record.is_repo() || paying == PaymentDays::Behind;
     let last = MAX_DAY - u64::from(record.has_security() && pays_behind);
     if !record.is_repo() {
         record.value_day_1 = draw.edge(0..=last) as u16;

@@ -1,20 +1,8 @@
 //! Records spoiled so that one ground of 8 to 12 answers.
 
-use crate::draw::Draw;
-use crate::record::bring_within_limit;
-use seddolki_model::block::Curve;
-use seddolki_model::flows::{payment_counts, payments, signs_of};
-use seddolki_model::limits::{
-    CLEAN_PRICES, INDICES, MAX_ACCRUED, MAX_AMOUNT, MAX_COUPON, MAX_DAY, MAX_RATE, PAYMENTS,
-    PERIODS, TERMS,
-};
-use seddolki_model::record::Record;
-use seddolki_model::Ground;
-
-/// The grounds that `damage_record` spoils for, 8 to 12.
-pub fn record_grounds() -> &'static [Ground] {
-    &Ground::ALL[7..12]
-}
+use crate::{bring_within_limit, wrong_numbers, Draw, Spoiled};
+use seddolki_model::limits::*;
+use seddolki_model::{payment_counts, payments, signs_of, Curve, Ground, Record};
 
 /// An accepted record spoiled for the ground, if this record can be.
 pub fn damage_record(
@@ -23,10 +11,7 @@ pub fn damage_record(
     curves: &[Curve],
     ground: Ground,
 ) -> Option<Record> {
-    let mut spoiled = Spoiled {
-        whole: *record,
-        list: vec![],
-    };
+    let mut spoiled = Spoiled::new(*record);
     match ground {
         Ground::Form => combination(&mut spoiled, curves.len() as u8),
         Ground::Days => schedule(&mut spoiled),
@@ -35,46 +20,22 @@ pub fn damage_record(
         Ground::FlowLimit => flow_limit(&mut spoiled, curves),
         _ => {}
     }
-    let list = spoiled.list;
-    (!list.is_empty()).then(|| draw.pick(&list))
+    spoiled.draw(draw)
 }
 
-/// The spoiled forms of a whole record.
-struct Spoiled {
-    whole: Record,
-    list: Vec<Record>,
-}
-
-impl Spoiled {
-    fn add(&mut self, change: impl Fn(&mut Record)) {
-        let mut record = self.whole;
-        change(&mut record);
-        self.list.push(record);
-    }
-
-    /// One form for each value that a field is set to.
-    fn set<T: Copy>(&mut self, values: &[T], change: impl Fn(&mut Record, T)) {
-        for &value in values {
-            self.add(|record| change(record, value));
-        }
-    }
-}
-
-fn combination(spoiled: &mut Spoiled, curves: u8) {
+fn combination(spoiled: &mut Spoiled<Record>, curves: u8) {
     let ends = [0, 1, 2, 3, 4, u8::MAX];
     spoiled.set(&ends, |r, kind| r.kind = kind);
     spoiled.set(&ends, |r, side| r.side = side);
     spoiled.set(&ends, |r, phase| r.phase = phase);
     spoiled.list.retain(|r| signs_of(r).is_none());
     let whole = spoiled.whole;
-    let other = ends.map(|e| {
-        if whole.securities().contains(&e) {
-            4
-        } else {
-            e
-        }
-    });
-    spoiled.set(&other, |r, security| r.security = security);
+    let securities = whole.securities();
+    let others: Vec<u8> = ends
+        .into_iter()
+        .filter(|e| !securities.contains(e))
+        .collect();
+    spoiled.set(&others, |r, security| r.security = security);
     let no_curve = [0, curves + 1, u8::MAX];
     spoiled.set(&no_curve, |r, id| r.cash_curve = id);
     if whole.has_security() {
@@ -84,11 +45,11 @@ fn combination(spoiled: &mut Spoiled, curves: u8) {
     }
 }
 
-fn schedule(spoiled: &mut Spoiled) {
+fn schedule(spoiled: &mut Spoiled<Record>) {
     let late = [MAX_DAY as u16 + 1, u16::MAX];
     let whole = spoiled.whole;
     if whole.is_repo() {
-        spoiled.set(&[0, TERMS.end() + 1, u16::MAX], |r, term| r.term = term);
+        spoiled.set_wrong(true, TERMS, |r, term| r.term = term as u16);
         if whole.first_leg_settled() {
             let after = [whole.term + 1, u16::MAX];
             spoiled.set(&after, |r, day| r.value_day_2 = day);
@@ -104,15 +65,13 @@ fn schedule(spoiled: &mut Spoiled) {
         spoiled.set(&late, |r, day| r.first_payment_day = day);
     }
     if whole.has_coupons() {
-        let periods = [0, PERIODS.end() + 1, u16::MAX];
-        spoiled.set(&periods, |r, period| r.period = period);
-        let payments = [0, PAYMENTS.end() + 1, u16::MAX];
-        spoiled.set(&payments, |r, payments| r.payments = payments);
+        spoiled.set_wrong(true, PERIODS, |r, n| r.period = n as u16);
+        spoiled.set_wrong(true, PAYMENTS, |r, n| r.payments = n as u16);
         spoiled.add(|r| r.first_payment_day = late[0] - r.payment_span() as u16);
     }
 }
 
-fn unsettled_schedule(spoiled: &mut Spoiled, late: &[u16]) {
+fn unsettled_schedule(spoiled: &mut Spoiled<Record>, late: &[u16]) {
     spoiled.add(|r| r.term += 1);
     spoiled.add(|r| r.term -= 1);
     spoiled.add(|r| r.value_day_1 = r.value_day_2);
@@ -127,55 +86,41 @@ fn unsettled_schedule(spoiled: &mut Spoiled, late: &[u16]) {
     });
 }
 
-fn amount(spoiled: &mut Spoiled) {
+fn amount(spoiled: &mut Spoiled<Record>) {
     let whole = spoiled.whole;
-    let above = |limit: u32| [limit + 1, u32::MAX];
-    let amounts = [0, MAX_AMOUNT + 1, u64::MAX];
-    spoiled.set(&[1, u16::MAX], |r, zero| r.zero = zero);
-    if whole.is_repo() {
-        spoiled.set(&amounts, |r, cash| r.repo_cash = cash);
-        spoiled.set(&above(MAX_RATE as u32), |r, rate| r.price_or_rate = rate);
-        spoiled.set(&[1, MAX_ACCRUED], |r, accrued| r.accrued = accrued);
+    let (repo, coupons, indexed) = (whole.is_repo(), whole.has_coupons(), whole.is_indexed());
+    let prices = if repo {
+        0..=MAX_RATE as u32
     } else {
-        let prices = [0, CLEAN_PRICES.end() + 1, u32::MAX];
-        spoiled.set(&prices, |r, price| r.price_or_rate = price);
-        spoiled.set(&above(MAX_ACCRUED), |r, accrued| r.accrued = accrued);
-        spoiled.set(&[1, MAX_DAY as u16], |r, day| r.value_day_2 = day);
-        spoiled.set(&[1, *TERMS.end()], |r, term| r.term = term);
-        spoiled.set(&[1, MAX_AMOUNT], |r, cash| r.repo_cash = cash);
+        CLEAN_PRICES
+    };
+    let some_day = wrong_numbers(false, 0..=MAX_DAY);
+    let indices = wrong_numbers(indexed, INDICES);
+    spoiled.set(&[1, u16::MAX], |r, n| r.zero = n);
+    spoiled.set_wrong(repo, AMOUNTS, |r, n| r.repo_cash = n);
+    spoiled.set_wrong(true, prices, |r, n| r.price_or_rate = n as u32);
+    spoiled.set_wrong(!repo, 0..=MAX_ACCRUED, |r, n| r.accrued = n as u32);
+    if !repo {
+        spoiled.set(&some_day, |r, n| r.value_day_2 = n as u16);
+        spoiled.set_wrong(false, TERMS, |r, n| r.term = n as u16);
     }
     if whole.first_leg_settled() {
-        spoiled.set(&[1, MAX_DAY as u16], |r, day| r.value_day_1 = day);
+        spoiled.set(&some_day, |r, n| r.value_day_1 = n as u16);
     }
-    security_amount(spoiled, &amounts);
-}
-
-fn security_amount(spoiled: &mut Spoiled, amounts: &[u64]) {
-    let whole = spoiled.whole;
-    if whole.has_security() {
-        spoiled.set(amounts, |r, nominal| r.nominal = nominal);
-    } else {
-        spoiled.set(&[1, MAX_DAY as u16], |r, day| r.first_payment_day = day);
-        spoiled.set(&[1, MAX_AMOUNT], |r, nominal| r.nominal = nominal);
+    spoiled.set_wrong(whole.has_security(), AMOUNTS, |r, n| r.nominal = n);
+    if !whole.has_security() {
+        spoiled.set(&some_day, |r, n| r.first_payment_day = n as u16);
     }
-    if whole.has_coupons() {
-        let coupons = [MAX_COUPON + 1, u32::MAX];
-        spoiled.set(&coupons, |r, coupon| r.coupon = coupon);
-    } else {
+    spoiled.set_wrong(coupons, 0..=MAX_COUPON, |r, n| r.coupon = n as u32);
+    if !coupons {
         spoiled.add(|r| r.period = 1);
         spoiled.add(|r| r.payments = 1);
-        spoiled.add(|r| r.coupon = 1);
     }
-    let indices = if whole.is_indexed() {
-        [0, INDICES.end() + 1, u32::MAX]
-    } else {
-        [1, *INDICES.end(), u32::MAX]
-    };
-    spoiled.set(&indices, |r, index| r.settlement_index = index);
-    spoiled.set(&indices, |r, index| r.issue_index = index);
+    spoiled.set(&indices, |r, n| r.settlement_index = n as u32);
+    spoiled.set(&indices, |r, n| r.issue_index = n as u32);
 }
 
-fn currency(spoiled: &mut Spoiled, curves: &[Curve]) {
+fn currency(spoiled: &mut Spoiled<Record>, curves: &[Curve]) {
     let whole = spoiled.whole;
     let currency = curves[usize::from(whole.cash_curve) - 1].currency;
     let foreign = curves.iter().filter(|curve| curve.currency != currency);
@@ -186,7 +131,7 @@ fn currency(spoiled: &mut Spoiled, curves: &[Curve]) {
 }
 
 /// Far above the limit, and the least above it.
-fn flow_limit(spoiled: &mut Spoiled, curves: &[Curve]) {
+fn flow_limit(spoiled: &mut Spoiled<Record>, curves: &[Curve]) {
     let Some(signs) = signs_of(&spoiled.whole) else {
         return;
     };

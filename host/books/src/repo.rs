@@ -1,18 +1,10 @@
 //! Repos with a security drawn at random, whole or refused for what the
 //! security pays.
 
-use crate::book::hold_to_work;
-use crate::curve::draw_curves;
-use crate::day::draw_valuation_day;
-use crate::draw::Draw;
-use crate::record::draw_record;
-use seddolki_model::accept::Book;
-use seddolki_model::block::Curve;
-use seddolki_model::flows::payments;
-use seddolki_model::limits::{MAX_AMOUNT, PAYMENTS};
-use seddolki_model::record::Record;
-use seddolki_model::rules::accept_record;
-use seddolki_model::search::{largest, smallest};
+use crate::{draw_book_of, draw_curves, draw_record, hold_to_work, Draw};
+use seddolki_model::{
+    accept_record, largest, payments, smallest, Book, Curve, Record, MAX_AMOUNT, PAYMENTS,
+};
 
 /// So few that one more has room.
 const MOST_REPOS: u64 = 16;
@@ -29,12 +21,7 @@ pub fn draw_repo_book(draw: &mut Draw, work: usize) -> Book {
             trades.push(repo);
         }
     }
-    let mut book = Book {
-        account: draw.number() as u32,
-        valuation_day: draw_valuation_day(draw),
-        curves,
-        trades,
-    };
+    let mut book = draw_book_of(draw, curves, trades);
     hold_to_work(&mut book, work);
     book
 }

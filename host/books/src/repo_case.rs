@@ -1,50 +1,39 @@
 //! What the payments of a repo's security come to.
 
-use crate::record::forms;
-use seddolki_model::flows::payments;
-use seddolki_model::limits::MAX_AMOUNT;
-use seddolki_model::record::{Record, POOL, SECOND_SIDE, SINGLE_PAYMENT, SPECIFIED};
-use seddolki_model::Ground;
+use crate::forms;
+use crate::listed_enum::listed_enum;
+use seddolki_model::{
+    payments, Ground, Record, MAX_AMOUNT, POOL, SECOND_SIDE, SINGLE_PAYMENT, SPECIFIED,
+};
 use std::collections::BTreeSet;
 
-/// Where a payment falls that does not fall too early.
-#[derive(Clone, Copy, Debug, PartialEq, Eq, PartialOrd, Ord)]
-pub enum Place {
-    /// The first day inside the term, if that is not the last.
-    FirstDay,
-    /// Between the first day and the last.
-    Between,
-    /// Value day 2, the last day inside the term.
-    LastDay,
-    /// The day after value day 2.
-    DayAfter,
-    /// Later.
-    Later,
+listed_enum! {
+    /// Where a payment falls that does not fall too early.
+    pub enum Place {
+        /// The first day inside the term, if that is not the last.
+        FirstDay,
+        /// Between the first day and the last.
+        Between,
+        /// Value day 2, the last day inside the term.
+        LastDay,
+        /// The day after value day 2.
+        DayAfter,
+        /// Later.
+        Later,
+    }
 }
 
 impl Place {
-    pub const ALL: [Place; 5] = [
-        Place::FirstDay,
-        Place::Between,
-        Place::LastDay,
-        Place::DayAfter,
-        Place::Later,
-    ];
-
     /// That of a day in a repo.
     pub fn of(repo: &Record, day: u64) -> Self {
         let first = u64::from(repo.payments_after()) + 1;
         let last = u64::from(repo.value_day_2);
-        if day == last {
-            Place::LastDay
-        } else if day == last + 1 {
-            Place::DayAfter
-        } else if day > last {
-            Place::Later
-        } else if day == first {
-            Place::FirstDay
-        } else {
-            Place::Between
+        match day {
+            _ if day == last => Place::LastDay,
+            _ if day == last + 1 => Place::DayAfter,
+            _ if day > last => Place::Later,
+            _ if day == first => Place::FirstDay,
+            _ => Place::Between,
         }
     }
 

@@ -1,9 +1,7 @@
 //! Statements drawn at random, and the length of a page.
 
-use crate::call::{draw_case_of, Call, Case};
-use crate::draw::Draw;
-use seddolki_model::accept::Book;
-use seddolki_model::page::LINE;
+use crate::{Call, Draw};
+use seddolki_model::{Book, LINE};
 use std::collections::BTreeSet;
 
 /// Bytes of the shortest page: title, one curve and its currency.
@@ -14,11 +12,6 @@ pub const SHORTEST_PAGE: usize = 3 * LINE;
 pub fn page_length(book: &Book) -> usize {
     let currencies: BTreeSet<u8> = book.curves.iter().map(|curve| curve.currency).collect();
     LINE * (1 + book.trades.len() + book.curves.len() + currencies.len())
-}
-
-/// A statement on any book, whole or spoiled. `work` is as in `draw_book`.
-pub fn draw_statement_case(draw: &mut Draw, work: usize) -> Case {
-    draw_case_of(draw, work, draw_statement)
 }
 
 /// In space for the page alone, in more, in a byte less, in too little for this

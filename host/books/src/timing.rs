@@ -1,15 +1,10 @@
 //! Books to take times on, the same on every machine.
 
-use crate::book::most_trades;
-use crate::draw::Draw;
-use crate::paying::Paying;
-use crate::record::draw_record_paying;
-use seddolki_model::accept::Book;
-use seddolki_model::block::{Curve, Node, CURVE};
-use seddolki_model::limits::{MAX_CURRENCIES, MAX_STEPS, PAYMENTS};
-use seddolki_model::record::{Record, COUPONS, FIRST_SIDE, OUTRIGHT, SECOND_SIDE, SINGLE_PAYMENT};
-use seddolki_model::units::ONE;
-use seddolki_model::Date;
+use crate::{draw_record_paying, most_trades, Draw, PaymentDays};
+use seddolki_model::{
+    Book, Curve, Date, Node, Record, COUPONS, FIRST_SIDE, MAX_CURRENCIES, MAX_STEPS, ONE, OUTRIGHT,
+    PAYMENTS, SECOND_SIDE, SINGLE_PAYMENT,
+};
 
 const NODE_DAYS: [u16; 10] = [1, 30, 91, 182, 365, 730, 1_095, 1_825, 3_650, 7_300];
 
@@ -106,7 +101,7 @@ pub fn mixed_book(curve_count: u8, trade_count: usize, steps: [u8; 3]) -> Book {
         curve.steps = steps;
     }
     let trades = (0..trade_count)
-        .map(|_| draw_record_paying(&mut draw, &curves, 20, Paying::Behind))
+        .map(|_| draw_record_paying(&mut draw, &curves, 20, PaymentDays::Behind))
         .collect();
     book(curves, trades)
 }
@@ -117,24 +112,17 @@ pub(crate) fn curves(draw: &mut Draw, count: u8) -> Vec<Curve> {
 }
 
 fn curve(draw: &mut Draw, id: u8) -> Curve {
-    let mut curve = Curve {
-        kind: CURVE,
-        number: id.into(),
-        id,
-        currency: (id - 1) % MAX_CURRENCIES as u8 + 1,
-        node_count: NODE_DAYS.len() as u8,
+    let node = |(i, day): (usize, u16)| Node {
+        day,
+        rate: draw.within(123_000..=142_000) as u32,
+        components: [20_000, 3_000 * i as i32 - 15_000, 800 * i as i32],
+    };
+    let nodes: Vec<Node> = NODE_DAYS.into_iter().enumerate().map(node).collect();
+    Curve {
         steps: [MAX_STEPS; 3],
         ranges: [150, 100, 100],
-        ..Curve::default()
-    };
-    for ((place, day), i) in curve.places.iter_mut().zip(NODE_DAYS).zip(0..) {
-        *place = Node {
-            day,
-            rate: draw.within(123_000..=142_000) as u32,
-            components: [20_000, 3_000 * i - 15_000, 800 * i],
-        };
+        ..Curve::new(id, (id - 1) % MAX_CURRENCIES as u8 + 1, &nodes)
     }
-    curve
 }
 
 /// A bond bought or sold, with as many coupons as there can be.

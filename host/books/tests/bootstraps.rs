@@ -2,18 +2,13 @@
 //! answers where none is.
 
 use seddolki_books::{
-    added_node, assemble, damage_book, damage_quote, draw_book, draw_case, draw_quote,
-    BootstrapEnding, Call, Case, Draw, Endings, Model, Outcome, QuoteDamage,
+    added_node, assemble, damage_book, damage_quote, draw_book, draw_quote, Call, Case, Draw,
+    Engine, Outcome, QuoteDamage,
 };
-use seddolki_model::accept::{accept, Book};
-use seddolki_model::block::Curve;
-use seddolki_model::bootstrap::bond_value;
-use seddolki_model::flows::{settlement_cash, Clean};
-use seddolki_model::limits::{MAX_DAY, MAX_RATE};
-use seddolki_model::margin::curve_figures;
-use seddolki_model::record::Record;
-use seddolki_model::rules::accept_quote;
-use seddolki_model::{bootstrap, quote_fault, rule, Answer, Ground, Quote};
+use seddolki_model::{
+    accept, accept_quote, bond_value, bootstrap, curve_figures, quote_fault, rule, settlement_cash,
+    Answer, Book, Curve, Ground, Quote, Record, MAX_DAY, MAX_RATE,
+};
 use std::collections::BTreeMap;
 
 const WORK: usize = 200;
@@ -65,7 +60,7 @@ fn run(draw: &mut Draw, book: &Book, quote: Quote) -> (Case, Outcome) {
         day: book.valuation_day,
         call,
     };
-    let outcome = case.run(&Model);
+    let outcome = case.run(Engine::Model);
     (case, outcome)
 }
 
@@ -118,7 +113,7 @@ fn the_margin_values_the_bond_on_the_lengthened_curve_alike() {
             ..quote.purchase()
         };
         book.trades = vec![trade];
-        let cash = settlement_cash(trade.nominal, Clean(1).plus_accrued(0));
+        let cash = settlement_cash(trade.nominal, 1, 0);
         let curve = &book.curves[quote.curve - 1];
         let base = curve_figures(&book, curve).base;
         assert_eq!(base + cash as i64, value as i64, "{quote:?}");
@@ -140,10 +135,7 @@ fn a_spoiled_quote_is_refused_by_its_ground_and_writes_nothing() {
             let (case, outcome) = run(&mut draw, &book, quote);
             assert_eq!(outcome.answer, refused(damage), "{quote:?}");
             assert_eq!(outcome.after, case);
-            assert_eq!(
-                BootstrapEnding::of(&case, &outcome),
-                Some(BootstrapEnding::Quote(damage))
-            );
+            assert_eq!(QuoteDamage::of(&quote, &book.curves), Some(damage));
             *spoiled.entry(damage).or_insert(0) += 1;
         }
     }
@@ -213,21 +205,4 @@ fn faults_of_quotes_are_what_the_call_answers_and_lie_in_what_was_spoiled() {
             assert!(rule.contains(fault.field), "{fault}: {rule}");
         }
     }
-}
-
-/// As many calls as a default run compares.
-const CALLS: u64 = 20_000;
-
-#[test]
-fn drawn_calls_reach_every_ending_of_a_bootstrap() {
-    let first = Draw::new(1).number();
-    let mut reached = Endings::default();
-    for number in 0..CALLS {
-        let case = draw_case(&mut Draw::new(first.wrapping_add(number)), WORK);
-        if let Call::Bootstrap { .. } = case.call {
-            let ending = BootstrapEnding::of(&case, &case.run(&Model));
-            reached.add(ending.unwrap());
-        }
-    }
-    reached.assert_all(BootstrapEnding::all(), 5);
 }

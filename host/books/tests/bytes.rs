@@ -1,8 +1,7 @@
 //! The bytes of a book and of a report, place by place.
 
 use seddolki_books::buyer;
-use seddolki_model::block::BLOCK;
-use seddolki_model::{margin, Date};
+use seddolki_model::{margin, Date, BLOCK};
 
 fn put(bytes: &mut [u8], at: usize, value: &[u8]) {
     bytes[at..at + value.len()].copy_from_slice(value);

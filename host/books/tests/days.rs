@@ -1,15 +1,11 @@
-//! Drawn days: books are for every kind of day, and calls that are given
-//! another one reach every case.
+//! Drawn days: books are for every kind of day, and other days differ from
+//! theirs in every way.
 
-use seddolki_books::day::draw_valuation_day;
 use seddolki_books::{
-    assemble, damage_book, draw_book, draw_day, draw_other_day, draw_other_day_case, DayCase, Draw,
-    Endings, Model, OtherDay,
+    assemble, damage_book, draw_book, draw_day, draw_other_day, draw_valuation_day, Draw, OtherDay,
+    Tally,
 };
-use seddolki_model::accept::Book;
-use seddolki_model::block::{Header, BLOCK};
-use seddolki_model::layout::Layout;
-use seddolki_model::{list, Date, Ground};
+use seddolki_model::{list, Book, Date, Ground, Header, Layout, BLOCK};
 use std::collections::BTreeSet;
 
 /// Bounds the time of a margin.
@@ -23,7 +19,7 @@ fn books_are_for_days_of_every_length() {
     let count = |asked: &dyn Fn(Date) -> bool| days.iter().filter(|&&day| asked(day)).count();
     assert!(count(&|day| day == Date::FIRST) >= 50);
     assert!(count(&|day| day == Date::LAST) >= 50);
-    assert!(count(&|day| day.year() == 2026) >= 200);
+    assert!(count(&|day| day.calendar().0 == 2026) >= 200);
     for bytes in 1..=4 {
         let of_length = |day: Date| (u32::BITS - day.days().leading_zeros()).div_ceil(8) == bytes;
         assert!(count(&of_length) >= 100, "{bytes} bytes");
@@ -34,7 +30,7 @@ fn books_are_for_days_of_every_length() {
 
 #[test]
 fn the_day_given_is_mostly_the_book_s_and_differs_in_every_way() {
-    let (mut own, mut others) = (0, Endings::default());
+    let (mut own, mut others) = (0, Tally::default());
     for seed in 0..4_000 {
         let mut draw = Draw::new(seed);
         let book = draw_valuation_day(&mut draw);
@@ -64,23 +60,6 @@ fn ways_to_differ_are_told_apart() {
         let [book, given] = [book, given].map(Date::from_days);
         assert_eq!(OtherDay::of(book, given), way, "{book} and {given}");
     }
-}
-
-#[test]
-fn calls_on_another_day_reach_every_case_and_write_nothing() {
-    let mut reached = Endings::default();
-    for seed in 0..3_000 {
-        let case = draw_other_day_case(&mut Draw::new(seed), WORK);
-        let outcome = case.run(&Model);
-        let Some(day_case) = DayCase::of(&case, &Model) else {
-            continue;
-        };
-        let answered = Ground::from_number(outcome.answer.number);
-        assert_eq!(answered, Some(day_case.ground()), "seed {seed}");
-        assert!(outcome.after == case, "seed {seed}");
-        reached.add(day_case);
-    }
-    reached.assert_all(DayCase::all(), 1);
 }
 
 #[test]

@@ -1,12 +1,9 @@
 //! Append, read and strike.
 
 use seddolki_books::{assemble, bytes_after, draw_book, draw_record, most_trades, Draw};
-use seddolki_model::accept::accept;
-use seddolki_model::block::BLOCK;
-use seddolki_model::layout::Layout;
-use seddolki_model::limits::FULL_BLOCK;
-use seddolki_model::record::{Record, RECORD};
-use seddolki_model::{append, read, strike, Answer, Ground};
+use seddolki_model::{
+    accept, append, read, strike, Answer, Ground, Layout, Record, BLOCK, FULL_BLOCK, RECORD,
+};
 
 const WORK: usize = 1_000;
 

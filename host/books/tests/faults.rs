@@ -1,17 +1,14 @@
 //! Faults of spoiled books: they agree with what accept answers, lie where
 //! the damage was done, and what they allow is allowed.
 
-use seddolki_books::curve::draw_curves;
 use seddolki_books::{
-    assemble, book_grounds, damage_anywhere, damage_book, damage_record, draw_bad_used, draw_book,
-    draw_record, record_grounds, Draw,
+    assemble, damage_anywhere, damage_book, damage_record, draw_bad_used, draw_book, draw_curves,
+    draw_record, Draw,
 };
-use seddolki_model::accept::{accept, Book};
-use seddolki_model::block::{Curve, Header, BLOCK};
-use seddolki_model::layout::Layout;
-use seddolki_model::limits::{FULL_BLOCK, MAX_DAY};
-use seddolki_model::record::Record;
-use seddolki_model::{book_fault, record_fault, rule, BookFault, Fault, Ground, Part};
+use seddolki_model::{
+    accept, book_fault, record_fault, rule, Book, BookFault, Curve, Fault, Ground, Header, Layout,
+    Part, Record, BLOCK, FULL_BLOCK, MAX_DAY,
+};
 use std::collections::{BTreeMap, BTreeSet};
 
 const WORK: usize = 200;
@@ -86,7 +83,7 @@ fn faults_are_what_accept_answers() {
         let book = draw_book(&mut draw, WORK);
         let whole = assemble(&book);
         let mut lent = vec![whole.clone()];
-        let grounds = book_grounds().iter();
+        let grounds = Ground::ON_BOOK[1..].iter();
         lent.extend(grounds.filter_map(|&ground| Some(damage_book(&mut draw, &book, ground)?.0)));
         for _ in 0..10 {
             let mut bytes = whole.clone();
@@ -149,7 +146,7 @@ fn a_fault_lies_in_the_trade_that_was_spoiled() {
     for seed in 0..400 {
         let mut draw = Draw::new(seed);
         let book = draw_book(&mut draw, WORK);
-        for &ground in record_grounds() {
+        for &ground in Ground::ON_RECORD {
             let Some((bytes, block)) = damage_book(&mut draw, &book, ground) else {
                 continue;
             };
@@ -198,7 +195,7 @@ fn the_field_that_was_spoiled_is_blamed() {
         let mut draw = Draw::new(seed);
         let curves = draw_curves(&mut draw);
         let whole = draw_record(&mut draw, &curves, 120);
-        let ground = draw.pick(record_grounds());
+        let ground = draw.pick(Ground::ON_RECORD);
         let Some(spoiled) = damage_record(&mut draw, &whole, &curves, ground) else {
             continue;
         };
@@ -252,7 +249,7 @@ fn what_a_fault_allows_is_allowed_and_what_is_beyond_is_not() {
         let mut draw = Draw::new(seed);
         let curves = draw_curves(&mut draw);
         let whole = draw_record(&mut draw, &curves, 120);
-        let ground = draw.pick(&record_grounds()[..4]);
+        let ground = draw.pick(&Ground::ON_RECORD[..4]);
         let Some(spoiled) = damage_record(&mut draw, &whole, &curves, ground) else {
             continue;
         };
@@ -280,7 +277,7 @@ fn the_rule_of_a_ground_names_the_field() {
     for seed in 0..300 {
         let mut draw = Draw::new(seed);
         let book = draw_book(&mut draw, WORK);
-        for &ground in book_grounds() {
+        for &ground in &Ground::ON_BOOK[1..] {
             let Some((bytes, _)) = damage_book(&mut draw, &book, ground) else {
                 continue;
             };

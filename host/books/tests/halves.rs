@@ -1,16 +1,16 @@
 //! Amounts and payments of whole kuruş and a half.
 
-use seddolki_books::{draw_half_payment, is_half, undiscounted_book, Draw, Endings, Rest};
-use seddolki_model::block::{Curve, Node};
-use seddolki_model::discount::{discount_factor, present_value, product};
-use seddolki_model::limits::{MAX_AMOUNT, MAX_DAY, MAX_RATE};
-use seddolki_model::scenario::stressed_nodes;
+use seddolki_books::{draw_half_payment, is_half, undiscounted_book, Draw, Rest, Tally};
+use seddolki_model::discount::present_value;
+use seddolki_model::{
+    discount_factor, product, stressed_nodes, Curve, Node, MAX_AMOUNT, MAX_DAY, MAX_RATE,
+};
 use std::collections::BTreeSet;
 
 #[test]
 fn drawn_amounts_have_their_rest_at_any_factor() {
     let mut draw = Draw::new(1);
-    let mut reached = Endings::default();
+    let mut reached = Tally::default();
     for _ in 0..10_000 {
         let (rate, day) = (draw.edge(0..=MAX_RATE), draw.edge(0..=MAX_DAY));
         let factor = discount_factor(rate, day);
@@ -67,7 +67,7 @@ fn a_drawn_payment_is_a_half_at_one_of_the_curve_s_rates() {
     let mut draw = Draw::new(3);
     let curve = halving_curve();
     let moved = stressed_nodes(curve.nodes(), &[100, 0, 0]);
-    let mut reached = Endings::default();
+    let mut reached = Tally::default();
     for _ in 0..400 {
         let payment = draw_half_payment(&mut draw, &curve);
         let day = u64::from(payment.first_payment_day);

@@ -1,13 +1,9 @@
 //! The books with as much in flows as a book can have.
 
 use seddolki_books::{assemble, Largest};
-use seddolki_model::accept::Book;
-use seddolki_model::block::BLOCK;
-use seddolki_model::check;
-use seddolki_model::flows::cash_flows;
-use seddolki_model::limits::{MAX_AMOUNT, MAX_BLOCKS};
-use seddolki_model::margin::report;
-use seddolki_model::report::CurrencyFigures;
+use seddolki_model::{
+    cash_flows, check, report, Book, CurrencyFigures, BLOCK, MAX_AMOUNT, MAX_BLOCKS,
+};
 use std::ops::RangeInclusive;
 
 #[test]

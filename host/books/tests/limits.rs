@@ -2,10 +2,7 @@
 //! and the first beyond is refused.
 
 use seddolki_books::{assemble, buyer};
-use seddolki_model::accept::{accept, Book};
-use seddolki_model::block::{Curve, Node};
-use seddolki_model::check;
-use seddolki_model::record::Record;
+use seddolki_model::{accept, check, Book, Curve, Node, Record};
 
 /// A change to a book, and the number that it should answer.
 type Limit = (fn(&mut Book), u64);

@@ -1,13 +1,10 @@
 //! The report, and demand 3 on random books.
 
-use seddolki_books::{assemble, assert_demand_3, buyer, draw_book, seller, Draw};
-use seddolki_model::accept::accept;
-use seddolki_model::block::{check_of, valuation_day, BLOCK};
-use seddolki_model::exact::exact_value;
-use seddolki_model::layout::Layout;
-use seddolki_model::limits::{MAX_AMOUNT, MAX_DAY, MAX_RATE};
-use seddolki_model::report::{CurveFigures, Report};
-use seddolki_model::{list, margin, present_value, Answer};
+use seddolki_books::{assemble, assert_near_exact, buyer, draw_book, seller, Draw};
+use seddolki_model::{
+    accept, check_of, exact_value, list, margin, present_value, valuation_day, Answer,
+    CurveFigures, Layout, Report, BLOCK, MAX_AMOUNT, MAX_DAY, MAX_RATE,
+};
 
 fn report_of(bytes: &[u8]) -> Report {
     let mut space = vec![0xaa; BLOCK + 9];
@@ -59,12 +56,12 @@ fn the_report_has_its_head_and_no_absent_figures() {
 }
 
 #[test]
-fn demand_3_holds_on_random_books() {
+fn exactness_holds_on_random_books() {
     for seed in 0..300 {
         let bytes = assemble(&draw_book(&mut Draw::new(seed), 10_000));
         println!("seed {seed}");
         let book = accept(&bytes, bytes.len()).unwrap();
-        assert_demand_3(&book, &report_of(&bytes));
+        assert_near_exact(&book, &report_of(&bytes));
     }
 }
 

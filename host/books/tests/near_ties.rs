@@ -3,9 +3,7 @@
 use seddolki_books::{
     assemble, draw_near_ties, near_tie_book, zero_component_book, Draw, NearTies,
 };
-use seddolki_model::accept::{accept, Book};
-use seddolki_model::margin::valuation;
-use seddolki_model::scenario::{scenarios, stressed_nodes};
+use seddolki_model::{accept, scenarios, stressed_nodes, valuation, Book};
 use std::collections::BTreeMap;
 
 const WORK: usize = 3_000;

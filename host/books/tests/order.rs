@@ -1,12 +1,10 @@
 //! Which ground answers where several apply.
 
 use seddolki_books::{assemble, draw_book, Draw};
-use seddolki_model::accept::Book;
-use seddolki_model::block::{seal, BLOCK};
-use seddolki_model::limits::FULL_BLOCK;
-use seddolki_model::record::RECORD;
-use seddolki_model::{append, bootstrap, check, margin, preview, read, strike};
-use seddolki_model::{Answer, Date, Ground, Quote};
+use seddolki_model::{
+    append, bootstrap, check, margin, preview, read, seal, strike, Answer, Book, Date, Ground,
+    Quote, BLOCK, FULL_BLOCK, RECORD,
+};
 
 /// A drawn book with two full blocks of trades.
 fn book() -> Book {

@@ -1,12 +1,10 @@
 //! Previews worked out by hand: their figures, and the order of their grounds.
 
 use seddolki_books::{assemble, undiscounted_book};
-use seddolki_model::accept::Book;
-use seddolki_model::block::{sealed, Curve, BLOCK};
-use seddolki_model::layout::Layout;
-use seddolki_model::record::Record;
-use seddolki_model::report::{CurrencyFigures, CurveFigures, Report, REPORT};
-use seddolki_model::{margin, preview, Answer, Date, Ground, Refusal};
+use seddolki_model::{
+    margin, preview, sealed, Answer, Book, CurrencyFigures, Curve, CurveFigures, Date, Ground,
+    Layout, Record, Refusal, Report, BLOCK, REPORT,
+};
 
 /// Pays 70,000 today and is paid 100,000 in a year.
 fn purchase() -> Record {

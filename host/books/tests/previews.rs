@@ -1,46 +1,10 @@
-//! Drawn previews: which ground answers, what is written, and the append and
-//! the margin that a preview equals.
+//! Previews beside the reports of the books with the trade in them.
 
-use seddolki_books::{
-    append_then_margin, assemble, draw_book, draw_preview_case, draw_record, most_trades, Call,
-    Case, Draw, Endings, Model, PreviewEnding,
-};
-use seddolki_model::accept::Book;
-use seddolki_model::block::{sealed, BLOCK};
-use seddolki_model::layout::Layout;
-use seddolki_model::margin::report;
+use seddolki_books::{assemble, draw_book, draw_record, most_trades, Call, Case, Draw, Engine};
+use seddolki_model::{report, sealed, Book, Layout, BLOCK};
 
 /// Bounds the time of a margin.
 const WORK: usize = 200;
-
-const CASES: u64 = 10_000;
-
-fn cases(count: u64) -> impl Iterator<Item = Case> {
-    (0..count).map(|seed| draw_preview_case(&mut Draw::new(seed), WORK))
-}
-
-#[test]
-fn drawn_previews_reach_every_ending_and_refusals_write_nothing() {
-    let mut reached = Endings::default();
-    for case in cases(CASES) {
-        let outcome = case.run(&Model);
-        let ending = PreviewEnding::of(&case).expect("the call is a preview");
-        assert_eq!(outcome.answer.number, ending.number(), "{ending:?}");
-        if outcome.answer.number != 0 {
-            assert!(outcome.after == case, "{ending:?}");
-        }
-        reached.add(ending);
-    }
-    reached.assert_all(PreviewEnding::all(), 5);
-}
-
-#[test]
-fn a_preview_is_the_margin_of_a_copy_after_append() {
-    for (seed, case) in cases(CASES / 5).enumerate() {
-        let by_append = append_then_margin(&case, &Model);
-        assert!(case.run(&Model) == by_append, "seed {seed}");
-    }
-}
 
 /// A preview in more bytes than the book's; the record is the book's last
 /// trade, which it is not given.
@@ -74,7 +38,7 @@ fn the_report_is_that_of_the_book_with_the_trade_and_nothing_else_is_written() {
         book.trades.truncate(most - 1);
         book.trades.push(draw_record(&mut draw, &book.curves, 12));
         let case = preview_of_the_last(&mut draw, &book);
-        let outcome = case.run(&Model);
+        let outcome = case.run(Engine::Model);
         assert_eq!(outcome.answer, Ok(0).into(), "seed {seed}");
         let mut due = case;
         let Call::Preview { report: space, .. } = &mut due.call else {

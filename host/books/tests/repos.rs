@@ -1,18 +1,17 @@
 //! Drawn repos: they reach every case of payments inside and behind a term,
 //! and each case is answered and counted as document 02 has it.
 
-use seddolki_books::curve::draw_curves;
-use seddolki_books::{draw_record, draw_repo, Draw, Endings, Place, RepoCase};
-use seddolki_model::flows::{cash_flows, payments, second_leg, CashFlow};
-use seddolki_model::record::{Record, FIRST_SIDE, POOL};
-use seddolki_model::rules::accept_record;
+use seddolki_books::{draw_curves, draw_record, draw_repo, Draw, Place, RepoCase, Tally};
+use seddolki_model::{
+    accept_record, cash_flows, payments, second_leg, CashFlow, Record, FIRST_SIDE, POOL,
+};
 use std::collections::BTreeMap;
 
 const REPOS: u64 = 40_000;
 
 #[test]
 fn drawn_repos_reach_every_case_and_are_answered_by_it() {
-    let mut reached = Endings::default();
+    let mut reached = Tally::default();
     for seed in 0..REPOS {
         let mut draw = Draw::new(seed);
         let curves = draw_curves(&mut draw);

@@ -3,14 +3,10 @@
 use seddolki_books::{
     assemble, draw_book, form_of, forms, full_book, small_book, typical_book, Draw,
 };
-use seddolki_model::accept::{accept, Book};
-use seddolki_model::answer::Answer;
-use seddolki_model::block::BLOCK;
-use seddolki_model::check;
-use seddolki_model::flows::{cash_flows, CashFlow};
-use seddolki_model::limits::{FULL_BLOCK, MAX_AMOUNT, MAX_BLOCKS, MAX_DAY, MAX_RATE};
-use seddolki_model::record::Record;
-use seddolki_model::scenario::scenarios;
+use seddolki_model::{
+    accept, cash_flows, check, scenarios, Answer, Book, CashFlow, Record, BLOCK, FULL_BLOCK,
+    MAX_AMOUNT, MAX_BLOCKS, MAX_DAY, MAX_RATE,
+};
 use std::collections::BTreeSet;
 
 const SEEDS: u64 = 400;

@@ -2,9 +2,7 @@
 //! report.
 
 use seddolki_books::{Call, Case, Draw, Outcome};
-use seddolki_model::block::{valuation_day, BLOCK};
-use seddolki_model::layout::Layout;
-use seddolki_model::report::Report;
+use seddolki_model::{valuation_day, Layout, Report, BLOCK};
 
 /// A call on a book's bytes.
 pub fn whole_case(bytes: Vec<u8>, call: Call) -> Case {

@@ -2,9 +2,7 @@
 
 use crate::unlike::assert_alike;
 use seddolki_books::{assemble, bytes_after, Call, Case};
-use seddolki_model::accept::Book;
-use seddolki_model::layout::Layout;
-use seddolki_model::{Answer, Date};
+use seddolki_model::{Answer, Book, Date, Layout};
 
 /// Lent bytes as calls leave them, and the book that they are due to hold.
 pub struct Followed {
@@ -49,7 +47,7 @@ impl Followed {
         match call {
             Call::Append { record } => self.book.trades.push(Layout::decode(record)),
             Call::Strike { position } => drop(self.book.trades.remove(*position)),
-            Call::Read { .. } | Call::Check => return,
+            Call::Read { .. } | Call::Check {} => return,
             _ => unreachable!("no other call is followed"),
         }
         self.used = value;

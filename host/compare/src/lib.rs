@@ -10,13 +10,11 @@
 mod cases;
 mod followed;
 mod page;
-mod proved;
 mod settings;
 mod unlike;
 
 pub use cases::{margin_case, report_of, whole_case};
 pub use followed::Followed;
 pub use page::{read_page, Line};
-pub use proved::Proved;
 pub use settings::{books, calls, is_whole, Seeds};
 pub use unlike::assert_alike;

@@ -1,6 +1,6 @@
 //! A statement's page read back.
 
-use seddolki_model::page::LINE;
+use seddolki_model::LINE;
 use std::str::from_utf8;
 
 /// Columns of an amount.

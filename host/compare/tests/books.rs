@@ -1,20 +1,14 @@
 //! Whole books, and the same books spoiled for every ground.
 
 use seddolki_books::{
-    assemble, assert_demand_3, book_grounds, damage_book, draw_book, draw_day, form_of, forms,
-    near_tie_book, small_book, typical_book, undiscounted_book, zero_component_book, Call, Case,
-    Draw,
+    assemble, assert_near_exact, damage_book, draw_book, draw_day, form_of, forms, near_tie_book,
+    small_book, typical_book, undiscounted_book, zero_component_book, Call, Case, Draw, Engine,
 };
-use seddolki_compare::{
-    assert_alike, books, is_whole, margin_case, report_of, whole_case, Proved, Seeds,
+use seddolki_compare::{assert_alike, books, is_whole, margin_case, report_of, whole_case, Seeds};
+use seddolki_model::{
+    accept_on, cash_flows, exact_valuation, signs_of, Book, Date, Ground, Node, Record, BLOCK,
+    MAX_AMOUNT, MAX_BLOCKS, MAX_DAY, MAX_RATE, MAX_STEPS, NODES,
 };
-use seddolki_model::accept::{accept_on, Book};
-use seddolki_model::block::{Node, BLOCK};
-use seddolki_model::exact::exact_valuation;
-use seddolki_model::flows::{cash_flows, signs_of};
-use seddolki_model::limits::{MAX_AMOUNT, MAX_BLOCKS, MAX_DAY, MAX_RATE, MAX_STEPS, NODES};
-use seddolki_model::record::Record;
-use seddolki_model::{Date, Ground};
 use std::collections::{BTreeMap, BTreeSet};
 
 /// Bounds the time of a margin.
@@ -53,7 +47,7 @@ impl Reached {
     fn add_day(&mut self, day: Date) {
         self.reach("first of all days", day == Date::FIRST);
         self.reach("last of all days", day == Date::LAST);
-        self.reach("a day of 2026", day.year() == 2026);
+        self.reach("a day of 2026", day.calendar().0 == 2026);
         let bytes = BTreeSet::from(day.days().to_le_bytes());
         self.reach("a day of four unlike bytes", bytes.len() == 4);
     }
@@ -136,12 +130,12 @@ fn spoiled_books_are_refused_by_the_ground_they_were_spoiled_for() {
     for number in 0..books() {
         let mut draw = seeds.draw(number);
         let book = draw_book(&mut draw, WORK);
-        let ground = draw.pick(book_grounds());
+        let ground = draw.pick(&Ground::ON_BOOK[1..]);
         let Some((bytes, block)) = damage_book(&mut draw, &book, ground) else {
             continue;
         };
         for case in [
-            whole_case(bytes.clone(), Call::Check),
+            whole_case(bytes.clone(), Call::Check {}),
             margin_case(&mut draw, bytes),
         ] {
             let outcome = assert_alike(&case, number);
@@ -150,7 +144,7 @@ fn spoiled_books_are_refused_by_the_ground_they_were_spoiled_for() {
         *refused.entry(ground).or_default() += 1;
     }
     println!("{refused:?}");
-    for ground in book_grounds() {
+    for ground in &Ground::ON_BOOK[1..] {
         assert!(!is_whole() || refused.contains_key(ground), "{ground:?}");
     }
 }
@@ -158,10 +152,10 @@ fn spoiled_books_are_refused_by_the_ground_they_were_spoiled_for() {
 /// A book that is accepted on the day that margin was given has a report that
 /// keeps demand 3; of another one nothing is shown.
 fn assert_shown(case: &Case) -> bool {
-    let outcome = case.run(&Proved);
+    let outcome = case.run(Engine::Proved);
     match accept_on(&case.lent, case.used, case.day) {
         Ok(book) => {
-            assert_demand_3(&book, &report_of(&outcome));
+            assert_near_exact(&book, &report_of(&outcome));
             true
         }
         Err(refusal) => {
@@ -173,7 +167,7 @@ fn assert_shown(case: &Case) -> bool {
 }
 
 #[test]
-fn reports_keep_demand_3_on_the_day_that_margin_was_given() {
+fn reports_keep_exactness_on_the_day_that_margin_was_given() {
     let seeds = Seeds::of_this_run();
     let mut shown = 0;
     for number in 0..books() / 20 {
@@ -206,7 +200,7 @@ fn a_report_may_be_as_far_from_the_exact_figures_as_its_tolerance() {
     book.trades = vec![payment; 100];
     let case = margin_case(&mut Draw::new(1), assemble(&book));
     let report = report_of(&assert_alike(&case, 0));
-    assert_demand_3(&book, &report);
+    assert_near_exact(&book, &report);
     let (shown, exact) = (report.curves[0], exact_valuation(&book, &book.curves[0]));
     assert_eq!((shown.base, shown.tolerance), (100 * -4_096, 100));
     assert_eq!(exact.base, 100 * (1 - 4_096));

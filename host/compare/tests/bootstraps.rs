@@ -2,15 +2,11 @@
 //! bonds that pay halves.
 
 use seddolki_books::{
-    added_node, assemble, draw_book, draw_bootstrap_case, draw_half_quote, draw_quote, is_half,
-    BootstrapEnding, Call, Case, Draw, Endings, Outcome,
+    added_node, assemble, draw_book, draw_case_of, draw_half_quote, draw_quote, entry, is_half,
+    Call, Case, Draw, Ending, Outcome, Tally,
 };
 use seddolki_compare::{assert_alike, calls, is_whole, margin_case, whole_case, Seeds};
-use seddolki_model::accept::accept;
-use seddolki_model::block::{Curve, Node};
-use seddolki_model::bootstrap::bond_value;
-use seddolki_model::flows::payments;
-use seddolki_model::Quote;
+use seddolki_model::{accept, bond_value, payments, Curve, Node, Quote};
 
 /// Bounds the time of a margin.
 const WORK: usize = 300;
@@ -35,17 +31,18 @@ fn assert_smallest(case: &Case, outcome: &Outcome) {
 #[test]
 fn bootstraps_are_the_same_and_reach_every_ending() {
     let seeds = Seeds::of_this_run();
-    let mut reached = Endings::default();
+    let mut reached = Tally::default();
     for number in 0..calls() / 4 {
-        let case = draw_bootstrap_case(&mut seeds.draw(number), WORK);
+        let case = draw_case_of(&mut seeds.draw(number), WORK, entry("bootstrap"));
         let outcome = assert_alike(&case, number);
         if outcome.answer.number == 0 {
             assert_smallest(&case, &outcome);
         }
-        let ending = BootstrapEnding::of(&case, &outcome).expect("the call is a bootstrap");
+        let ending = Ending::of(&case, &outcome);
+        assert_eq!(outcome.answer.number, ending.number(), "case {number}");
         reached.add(ending);
     }
-    reached.assert_all(BootstrapEnding::all(), is_whole().into());
+    reached.assert_all(Ending::all(entry("bootstrap")), is_whole().into());
 }
 
 /// Lengthens curves of one book until a quote is refused; gives the number of
@@ -104,7 +101,7 @@ fn halves(curve: &Curve, quote: &Quote, found: Node) -> Vec<HalfPaid> {
 #[test]
 fn bonds_that_pay_halves_lengthen_curves_alike() {
     let seeds = Seeds::of_this_run();
-    let mut reached = Endings::default();
+    let mut reached = Tally::default();
     for number in 0..calls() / 40 {
         let mut draw = seeds.draw(number);
         let book = draw_book(&mut draw, WORK);

@@ -1,30 +1,38 @@
 //! Any call on any book, whole or spoiled.
 
-use seddolki_books::draw_case;
+use seddolki_books::{draw_case, Call, Case, Tally, ENTRIES};
 use seddolki_compare::{assert_alike, calls, is_whole, Seeds};
-use seddolki_model::Ground;
-use std::collections::BTreeMap;
+use seddolki_model::{Ground, RECORD};
 
 /// Bounds the time of a margin.
 const WORK: usize = 1_000;
 
+/// What a refused call leaves of a case.
+fn left_by_refusal(mut case: Case) -> Case {
+    match &mut case.call {
+        Call::Read { record, .. } => *record = [0; RECORD],
+        Call::PresentValue { tolerance, .. } => *tolerance = 0,
+        _ => {}
+    }
+    case
+}
+
 #[test]
-fn calls_answer_and_leave_the_same_and_reach_every_ground() {
+fn calls_are_alike_and_each_answers_every_ground_of_its_own_and_no_other() {
     let seeds = Seeds::of_this_run();
-    let (mut answered, mut done) = (BTreeMap::new(), BTreeMap::new());
+    let mut answered = Tally::default();
     for number in 0..calls() {
         let case = draw_case(&mut seeds.draw(number), WORK);
         let outcome = assert_alike(&case, number);
-        *answered.entry(outcome.answer.number).or_insert(0) += 1;
-        if outcome.answer.number == 0 {
-            *done.entry(case.call.name()).or_insert(0) += 1;
+        let ground = Ground::from_number(outcome.answer.number);
+        answered.add((case.call.name(), ground));
+        if ground.is_some() {
+            assert!(outcome.after == left_by_refusal(case), "case {number}");
         }
     }
-    println!("answers {answered:?}, done {done:?}");
-    if is_whole() {
-        for ground in Ground::ALL {
-            assert!(answered.contains_key(&ground.number()), "{ground:?}");
-        }
-        assert_eq!(done.len(), 9, "{done:?}");
-    }
+    let all = ENTRIES.iter().flat_map(|entry| {
+        let grounds = entry.grounds().into_iter().map(Some);
+        grounds.chain([None]).map(|ground| (entry.name, ground))
+    });
+    answered.assert_all(all, is_whole().into());
 }

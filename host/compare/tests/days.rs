@@ -2,52 +2,48 @@
 //! and figures that do not depend on it.
 
 use seddolki_books::{
-    assemble, draw_book, draw_other_day, draw_other_day_case, Call, DayCase, Draw, Endings,
-    OtherDay,
+    assemble, draw_book, draw_other_day, draw_other_day_case, Call, Draw, Ending, OtherDay, Takes,
+    Tally, ENTRIES,
 };
-use seddolki_compare::{assert_alike, books, calls, is_whole, margin_case, Proved, Seeds};
-use seddolki_model::accept::Book;
-use seddolki_model::block::valuation_day;
-use seddolki_model::Ground;
+use seddolki_compare::{assert_alike, books, calls, is_whole, margin_case, Seeds};
+use seddolki_model::{valuation_day, Book, Ground};
 
 /// Bounds the time of a margin.
 const WORK: usize = 300;
 
-/// The calls that are given a day.
-const CALLS: [&str; 6] = [
-    "margin",
-    "preview",
-    "append",
-    "strike",
-    "bootstrap",
-    "statement",
-];
-
 #[test]
 fn another_day_is_refused_alike_in_every_case_and_nothing_is_written() {
     let seeds = Seeds::of_this_run();
-    let (mut reached, mut differed) = (Endings::default(), Endings::default());
+    let (mut reached, mut differed) = (Tally::default(), Tally::default());
     for number in 0..calls() / 3 {
         let case = draw_other_day_case(&mut seeds.draw(number), WORK);
         let outcome = assert_alike(&case, number);
-        let Some(day_case) = DayCase::of(&case, &Proved) else {
+        let ending = Ending::of(&case, &outcome);
+        if !ending.is_of_another_day() {
             continue;
-        };
-        let answered = Ground::from_number(outcome.answer.number);
-        assert_eq!(answered, Some(day_case.ground()), "case {number}");
+        }
+        assert_eq!(outcome.answer.number, ending.number(), "case {number}");
         assert!(outcome.after == case, "case {number}");
-        reached.add(day_case);
-        if answered == Some(Ground::ValuationDay) {
+        reached.add((case.call.name(), ending));
+        if ending.number() == Ground::ValuationDay.number() {
             assert_eq!(outcome.answer.value, 0, "case {number}");
             let other = OtherDay::of(valuation_day(&case.lent), case.day);
             differed.add((case.call.name(), other.expect("another day")));
         }
     }
-    reached.assert_all(DayCase::all(), is_whole().into());
-    let all = CALLS
-        .into_iter()
-        .flat_map(|call| OtherDay::ALL.map(|other| (call, other)));
-    differed.assert_all(all, is_whole().into());
+    let on_day = || {
+        ENTRIES
+            .iter()
+            .filter(|entry| entry.takes == Takes::BookOnDay)
+    };
+    let endings = on_day().flat_map(|entry| {
+        let endings = Ending::all(entry).into_iter();
+        let of_another_day = endings.filter(|ending| ending.is_of_another_day());
+        of_another_day.map(|ending| (entry.name, ending))
+    });
+    reached.assert_all(endings, is_whole().into());
+    let days = on_day().flat_map(|entry| OtherDay::ALL.map(|other| (entry.name, other)));
+    differed.assert_all(days, is_whole().into());
 }
 
 /// The report of a book on its own day.

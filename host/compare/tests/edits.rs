@@ -3,11 +3,7 @@
 
 use seddolki_books::{assemble, draw_book, draw_day, draw_record, most_trades, Call, Draw};
 use seddolki_compare::{assert_alike, calls, whole_case, Followed, Seeds};
-use seddolki_model::accept::Book;
-use seddolki_model::block::BLOCK;
-use seddolki_model::layout::Layout;
-use seddolki_model::limits::FULL_BLOCK;
-use seddolki_model::record::RECORD;
+use seddolki_model::{Book, Layout, BLOCK, FULL_BLOCK, RECORD};
 
 const WORK: usize = 100;
 
@@ -36,7 +32,7 @@ fn draw_edit(draw: &mut Draw, book: &Book, grows: bool) -> Call {
     let record = draw_record(draw, &book.curves, 12).to_bytes();
     match (draw.within(0..=9), grows) {
         (0..=1, _) => Call::Read { position, record },
-        (2, _) => Call::Check,
+        (2, _) => Call::Check {},
         (3..=7, true) | (3..=4, false) => Call::Append { record },
         _ => Call::Strike { position },
     }

@@ -1,10 +1,7 @@
 //! The list program: document 01's cases to the byte, refused input, and random books beside the model.
 
-use seddolki_books::{
-    assemble, book_grounds, buyer, damage_book, draw_book, seller, undiscounted_book, Draw,
-};
-use seddolki_model::accept::accept;
-use seddolki_model::{list, Date};
+use seddolki_books::{assemble, buyer, damage_book, draw_book, seller, undiscounted_book, Draw};
+use seddolki_model::{accept, list, Date, Ground};
 use std::io::Write;
 use std::process::{Command, Stdio};
 
@@ -68,7 +65,7 @@ fn random_books_whole_and_spoiled() {
         let book = draw_book(&mut draw, 500);
         let bytes = assemble(&book);
         assert_eq!(printed(&bytes), list(&bytes));
-        for &ground in book_grounds() {
+        for &ground in &Ground::ON_BOOK[1..] {
             if let Some((spoiled, _)) = damage_book(&mut draw, &book, ground) {
                 assert_eq!(printed(&spoiled), list(&spoiled), "ground {ground:?}");
             }

@@ -1,12 +1,9 @@
 //! Books with flows on many days of one curve: an engine that looks at fewer
 //! days first must not rule out the worst scenario by them.
 
-use seddolki_books::{assemble, days_with_net_amount, Endings, Extent};
+use seddolki_books::{assemble, days_with_net_amount, Extent, Tally};
 use seddolki_compare::{assert_alike, books, is_whole, margin_case, report_of, Seeds};
-use seddolki_model::block::{Curve, Node};
-use seddolki_model::flows::CashFlow;
-use seddolki_model::limits::MAX_RATE;
-use seddolki_model::scenario::{scenarios, stressed_nodes};
+use seddolki_model::{scenarios, stressed_nodes, CashFlow, Curve, Node, MAX_RATE};
 
 /// What makes it hard to tell the worst scenario by fewer days.
 #[derive(Clone, Copy, Debug, PartialEq, Eq, PartialOrd, Ord)]
@@ -92,7 +89,7 @@ fn stressed(curve: &Curve) -> Vec<Vec<u32>> {
 #[test]
 fn margins_are_the_same_where_flows_are_on_few_or_many_days() {
     let seeds = Seeds::of_this_run();
-    let (mut extents, mut hard) = (Endings::default(), Endings::default());
+    let (mut extents, mut hard) = (Tally::default(), Tally::default());
     for (number, extent) in (0..books() / 10).zip(Extent::all().into_iter().cycle()) {
         let mut draw = seeds.draw(number);
         let book = extent.draw_book(&mut draw);

@@ -1,7 +1,7 @@
 //! Books whose scenarios are hard to tell apart: the model values each of them.
 
 use seddolki_books::{
-    assemble, assert_demand_3, draw_near_ties, most_trades, Endings, HalfCase, NearTies,
+    assemble, assert_near_exact, draw_near_ties, most_trades, HalfCase, NearTies, Tally,
 };
 use seddolki_compare::{assert_alike, books, is_whole, margin_case, report_of, Seeds};
 
@@ -23,15 +23,15 @@ fn margins_are_the_same_where_losses_are_near_or_equal() {
 }
 
 #[test]
-fn margins_with_halves_received_and_paid_are_the_same_and_keep_demand_3() {
+fn margins_with_halves_received_and_paid_are_the_same_and_keep_exactness() {
     let seeds = Seeds::of_this_run();
-    let mut reached = Endings::default();
+    let mut reached = Tally::default();
     for number in 0..books() / 10 {
         let mut draw = seeds.draw(number);
         let book = draw_near_ties(&mut draw, NearTies::Halves, LESS_WORK);
         let outcome = assert_alike(&margin_case(&mut draw, assemble(&book)), number);
         let report = report_of(&outcome);
-        assert_demand_3(&book, &report);
+        assert_near_exact(&book, &report);
         for (curve, shown) in book.curves.iter().zip(&report.curves) {
             let cases = HalfCase::of(curve, shown, &book.flows_on(curve));
             cases.into_iter().for_each(|case| reached.add(case));

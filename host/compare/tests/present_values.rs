@@ -1,12 +1,10 @@
 //! Present values one by one, any and at a half.
 
-use seddolki_books::{Call, Case, Draw, Endings, Rest};
+use seddolki_books::{Call, Case, Draw, Rest, Tally};
 use seddolki_compare::{assert_alike, calls, is_whole, Seeds};
-use seddolki_model::discount::{discount_factor, product};
-use seddolki_model::exact::exact_value;
-use seddolki_model::limits::{MAX_AMOUNT, MAX_DAY, MAX_RATE};
-use seddolki_model::units::YEAR;
-use seddolki_model::Date;
+use seddolki_model::{
+    discount_factor, exact_value, product, Date, MAX_AMOUNT, MAX_DAY, MAX_RATE, YEAR,
+};
 
 /// The value that both give, and the tolerance.
 fn values(draw: &mut Draw, amount: u64, rate: u64, day: u64, number: u64) -> (u64, u64) {
@@ -44,7 +42,7 @@ fn present_values_and_tolerances_are_the_same() {
 #[test]
 fn a_half_and_more_goes_up_and_less_goes_down_at_any_factor() {
     let seeds = Seeds::of_this_run();
-    let mut reached = Endings::default();
+    let mut reached = Tally::default();
     for number in 0..calls() / 4 {
         let mut draw = seeds.draw(number);
         let (rate, day) = (draw.edge(0..=MAX_RATE), draw.edge(0..=MAX_DAY));
@@ -85,7 +83,7 @@ fn is_exact_at_a_half(draw: &mut Draw, growth: (u64, u64, u64), years: u32) -> b
 #[test]
 fn values_whose_exact_ones_are_a_half_are_within_tolerance() {
     let mut draw = Seeds::of_this_run().draw(0);
-    let mut reached = Endings::default();
+    let mut reached = Tally::default();
     for growth in GROWTHS {
         let years = (1..=30).take_while(|&years| growth.2.pow(years) <= 2 * MAX_AMOUNT);
         for years in years.flat_map(|years| [years; 20]) {

@@ -2,18 +2,14 @@
 //! equals, its edges, and figures worked out by hand.
 
 use seddolki_books::{
-    append_then_margin, assemble, draw_half_payment, draw_near_ties, draw_preview_case,
-    undiscounted_book, Call, Case, Endings, HalfCase, Model, NearTies, Outcome, PreviewEnding,
+    assemble, draw_half_payment, draw_near_ties, draw_preview_case, entry, undiscounted_book, Call,
+    Case, Ending, Engine, HalfCase, NearTies, Outcome, Tally,
 };
-use seddolki_compare::{assert_alike, calls, is_whole, report_of, whole_case, Proved, Seeds};
-use seddolki_model::accept::Book;
-use seddolki_model::block::BLOCK;
-use seddolki_model::flows::cash_flows;
-use seddolki_model::layout::Layout;
-use seddolki_model::limits::{FULL_BLOCK, MAX_BLOCKS};
-use seddolki_model::record::{Record, SECOND_SIDE};
-use seddolki_model::report::Report;
-use seddolki_model::{Answer, Ground, Refusal};
+use seddolki_compare::{assert_alike, calls, is_whole, report_of, whole_case, Seeds};
+use seddolki_model::{
+    cash_flows, Answer, Book, Ground, Layout, Record, Refusal, Report, BLOCK, FULL_BLOCK,
+    MAX_BLOCKS, SECOND_SIDE,
+};
 
 /// Bounds the time of a margin.
 const WORK: usize = 300;
@@ -21,17 +17,50 @@ const WORK: usize = 300;
 #[test]
 fn previews_are_the_same_and_reach_every_ending() {
     let seeds = Seeds::of_this_run();
-    let mut reached = Endings::default();
+    let mut reached = Tally::default();
     for number in 0..calls() / 2 {
         let case = draw_preview_case(&mut seeds.draw(number), WORK);
         let outcome = assert_alike(&case, number);
-        let ending = PreviewEnding::of(&case).expect("the call is a preview");
+        let ending = Ending::of(&case, &outcome);
         let answered = outcome.answer.number;
         assert_eq!(answered, ending.number(), "case {number}: {ending:?}");
-        assert!(outcome.after.lent == case.lent, "case {number}");
+        let is_kept = match answered {
+            0 => outcome.after.lent == case.lent,
+            _ => outcome.after == case,
+        };
+        assert!(is_kept, "case {number}: {ending:?}");
         reached.add(ending);
     }
-    reached.assert_all(PreviewEnding::all(), is_whole().into());
+    reached.assert_all(Ending::all(entry("preview")), is_whole().into());
+}
+
+/// What a preview is to come to, by the words of the request: the append to a
+/// copy, in as many lent bytes, and then the margin of that copy.
+fn append_then_margin(case: &Case, engine: Engine) -> Outcome {
+    let Call::Preview { record, report } = case.call.clone() else {
+        panic!("{} is no preview", case.call.name());
+    };
+    let append = Case {
+        call: Call::Append { record },
+        ..case.clone()
+    };
+    let appended = append.run(engine);
+    let mut after = case.clone();
+    if appended.answer.number != 0 {
+        let answer = appended.answer;
+        return Outcome { answer, after };
+    }
+    let margin = Case {
+        used: appended.answer.value as usize,
+        call: Call::Margin { report },
+        ..appended.after
+    };
+    let outcome = margin.run(engine);
+    if let Call::Margin { report } = outcome.after.call {
+        after.call = Call::Preview { record, report };
+    }
+    let answer = outcome.answer;
+    Outcome { answer, after }
 }
 
 #[test]
@@ -40,13 +69,13 @@ fn a_preview_is_the_margin_of_a_copy_after_append() {
     let mut done = 0;
     for number in 0..calls() / 4 {
         let case = draw_preview_case(&mut seeds.draw(number), WORK);
-        let proved = case.run(&Proved);
+        let proved = case.run(Engine::Proved);
         assert!(
-            proved == append_then_margin(&case, &Proved),
+            proved == append_then_margin(&case, Engine::Proved),
             "case {number}, the engine"
         );
         assert!(
-            case.run(&Model) == append_then_margin(&case, &Model),
+            case.run(Engine::Model) == append_then_margin(&case, Engine::Model),
             "case {number}, the model"
         );
         done += u64::from(proved.answer.number == 0);
@@ -231,7 +260,7 @@ fn the_report_has_the_trade_that_the_book_lacks() {
 #[test]
 fn halves_that_the_book_lacks_are_previewed_alike_received_and_paid() {
     let seeds = Seeds::of_this_run();
-    let mut reached = Endings::default();
+    let mut reached = Tally::default();
     for number in 0..calls() / 100 {
         let mut draw = seeds.draw(number);
         let book = draw_near_ties(&mut draw, NearTies::Halves, WORK / 3);

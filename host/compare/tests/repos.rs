@@ -2,17 +2,13 @@
 //! the calls that meet one, and demand 3 on books of them.
 
 use seddolki_books::{
-    assemble, assert_demand_3, draw_repo, draw_repo_book, undiscounted_book, Call, Case, Draw,
-    Endings, RepoCase,
+    assemble, assert_near_exact, draw_repo, draw_repo_book, undiscounted_book, Call, Case, Draw,
+    Engine, RepoCase, Tally,
 };
-use seddolki_compare::{
-    assert_alike, calls, is_whole, margin_case, report_of, whole_case, Proved, Seeds,
+use seddolki_compare::{assert_alike, calls, is_whole, margin_case, report_of, whole_case, Seeds};
+use seddolki_model::{
+    Book, Ground, Layout, Record, BLOCK, COUPONS, FIRST_SIDE, POOL, SECOND_SIDE, SPECIFIED,
 };
-use seddolki_model::accept::Book;
-use seddolki_model::block::BLOCK;
-use seddolki_model::layout::Layout;
-use seddolki_model::record::{Record, COUPONS, FIRST_SIDE, POOL, SECOND_SIDE, SPECIFIED};
-use seddolki_model::Ground;
 
 /// Bounds the time of a margin.
 const WORK: usize = 300;
@@ -36,7 +32,7 @@ fn calls_with(draw: &mut Draw, book: &Book, repo: &Record) -> [Case; 4] {
     [
         new(Call::Append { record }),
         new(Call::Preview { record, report }),
-        whole_case(bytes.clone(), Call::Check),
+        whole_case(bytes.clone(), Call::Check {}),
         margin_case(draw, bytes),
     ]
 }
@@ -59,7 +55,7 @@ fn assert_calls_alike(draw: &mut Draw, book: &Book, repo: &Record, number: u64) 
 #[test]
 fn repos_are_the_same_to_append_preview_check_and_margin_and_reach_every_case() {
     let seeds = Seeds::of_this_run();
-    let mut reached = Endings::default();
+    let mut reached = Tally::default();
     for number in 0..calls() / 4 {
         let mut draw = seeds.draw(number);
         let book = draw_repo_book(&mut draw, WORK);
@@ -73,15 +69,15 @@ fn repos_are_the_same_to_append_preview_check_and_margin_and_reach_every_case() 
 }
 
 #[test]
-fn reports_of_books_of_repos_keep_demand_3_and_reach_every_case() {
+fn reports_of_books_of_repos_keep_exactness_and_reach_every_case() {
     let seeds = Seeds::of_this_run();
-    let mut reached = Endings::default();
+    let mut reached = Tally::default();
     for number in 0..calls() / 8 {
         println!("book {number}");
         let mut draw = seeds.draw(number);
         let book = draw_repo_book(&mut draw, WORK);
-        let outcome = margin_case(&mut draw, assemble(&book)).run(&Proved);
-        assert_demand_3(&book, &report_of(&outcome));
+        let outcome = margin_case(&mut draw, assemble(&book)).run(Engine::Proved);
+        assert_near_exact(&book, &report_of(&outcome));
         let cases = book.trades.iter().flat_map(RepoCase::of);
         cases.for_each(|case| reached.add(case));
     }

@@ -1,14 +1,10 @@
 //! The stack that a call needs.
 
-use seddolki_books::{assemble, draw_book, full_book, typical_book, Call, Draw};
-use seddolki_compare::{whole_case, Proved};
-use seddolki_model::block::{Curve, BLOCK};
-use seddolki_model::bootstrap::bond_value;
-use seddolki_model::layout::Layout;
-use seddolki_model::limits::{MAX_BLOCKS, PAYMENTS};
-use seddolki_model::page::PAGE;
-use seddolki_model::quote::{bond_of, Quote};
-use seddolki_model::record::{Record, RECORD};
+use seddolki_books::{assemble, draw_book, full_book, typical_book, Call, Draw, Engine};
+use seddolki_compare::whole_case;
+use seddolki_model::{
+    bond_of, bond_value, Curve, Layout, Quote, Record, BLOCK, MAX_BLOCKS, PAGE, PAYMENTS, RECORD,
+};
 use std::thread;
 
 /// What the header promises.
@@ -17,7 +13,7 @@ const STACK: usize = 1 << 19;
 /// The answer's number of a call on a thread with no more than that.
 fn number(bytes: Vec<u8>, call: Call) -> u64 {
     let case = whole_case(bytes, call);
-    let run = move || case.run(&Proved).answer.number;
+    let run = move || case.run(Engine::Proved).answer.number;
     let thread = thread::Builder::new().stack_size(STACK).spawn(run).unwrap();
     thread.join().unwrap()
 }
@@ -35,7 +31,7 @@ fn every_call_on_a_full_book_keeps_to_its_stack() {
     let record = [0; RECORD];
     let report = vec![0; BLOCK];
     for call in [
-        Call::Check,
+        Call::Check {},
         Call::Margin {
             report: report.clone(),
         },

@@ -1,23 +1,16 @@
 //! Statements alone: every ending of one, pages of books of every kind beside
 //! the margin's report, the largest amounts, and both ends of the sizes.
 
+use seddolki::lent;
 use seddolki_books::{
-    assemble, draw_book, draw_full_book, draw_near_ties, draw_repo_book, draw_statement_case,
-    form_of, forms, page_length, Call, Draw, Endings, Engine, Largest, NearTies, StatementEnding,
-    SHORTEST_PAGE,
+    assemble, draw_book, draw_case_of, draw_full_book, draw_near_ties, draw_repo_book, entry,
+    form_of, forms, page_length, Call, Draw, Ending, Largest, NearTies, Tally, SHORTEST_PAGE,
 };
-use seddolki_compare::{
-    assert_alike, books, calls, is_whole, read_page, whole_case, Line, Proved, Seeds,
+use seddolki_compare::{assert_alike, books, calls, is_whole, read_page, whole_case, Line, Seeds};
+use seddolki_model::{
+    currency_name, payments, Answer, Book, Ground, Layout, Record, Report, BLOCK, MAX_AMOUNT,
+    MAX_BLOCKS, MAX_CURRENCIES, MAX_DAY, PAGE,
 };
-use seddolki_model::accept::Book;
-use seddolki_model::block::BLOCK;
-use seddolki_model::flows::payments;
-use seddolki_model::layout::Layout;
-use seddolki_model::limits::{MAX_AMOUNT, MAX_BLOCKS, MAX_CURRENCIES, MAX_DAY};
-use seddolki_model::page::PAGE;
-use seddolki_model::record::Record;
-use seddolki_model::report::{currency_name, Report};
-use seddolki_model::{Answer, Ground};
 use std::collections::{BTreeMap, BTreeSet};
 use std::ops::RangeInclusive;
 
@@ -33,11 +26,11 @@ const FILL: u8 = 0xaa;
 #[test]
 fn statements_are_the_same_and_reach_every_ending() {
     let seeds = Seeds::of_this_run();
-    let mut reached = Endings::default();
+    let mut reached = Tally::default();
     for number in 0..calls() / 3 {
-        let case = draw_statement_case(&mut seeds.draw(number), WORK);
+        let case = draw_case_of(&mut seeds.draw(number), WORK, entry("statement"));
         let outcome = assert_alike(&case, number);
-        let ending = StatementEnding::of(&case).expect("the call is a statement");
+        let ending = Ending::of(&case, &outcome);
         let answered = outcome.answer.number;
         assert_eq!(answered, ending.number(), "case {number}: {ending:?}");
         let is_kept = match answered {
@@ -47,7 +40,7 @@ fn statements_are_the_same_and_reach_every_ending() {
         assert!(is_kept, "case {number}: {ending:?}");
         reached.add(ending);
     }
-    reached.assert_all(StatementEnding::all(), is_whole().into());
+    reached.assert_all(Ending::all(entry("statement")), is_whole().into());
 }
 
 /// What both make of a book's statement in so many bytes, and the bytes.
@@ -78,7 +71,7 @@ fn lines_of(book: &Book, behind: usize, number: u64) -> Vec<Line> {
 fn report_of(book: &Book) -> Report {
     let bytes = assemble(book);
     let mut report = [0; BLOCK];
-    let answer = Proved.margin(&bytes, bytes.len(), book.valuation_day, &mut report);
+    let answer = lent::margin(&bytes, bytes.len(), book.valuation_day, &mut report);
     assert_eq!(answer.number, 0);
     Report::decode(&report)
 }
@@ -163,7 +156,7 @@ fn kinds_of_page(lines: &[Line]) -> [(&'static str, bool); 6] {
 #[test]
 fn pages_of_books_of_every_kind_show_the_margin_s_report() {
     let seeds = Seeds::of_this_run();
-    let (mut reached, mut met) = (BTreeMap::new(), Endings::default());
+    let (mut reached, mut met) = (BTreeMap::new(), Tally::default());
     for number in 0..books() / 4 {
         let mut draw = seeds.draw(number);
         let book = draw_some_book(&mut draw, number);

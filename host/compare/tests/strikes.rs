@@ -1,12 +1,9 @@
 //! Strikes beside every edge of a block, and books struck down to none.
 
 use seddolki::Answer;
-use seddolki_books::{draw_full_book, Call, Draw, Engine};
-use seddolki_compare::{is_whole, Followed, Proved, Seeds};
-use seddolki_model::accept::{accept, Book};
-use seddolki_model::block::BLOCK;
-use seddolki_model::limits::{CURVES, FULL_BLOCK};
-use seddolki_model::record::{Record, RECORD};
+use seddolki_books::{draw_full_book, Call, Draw};
+use seddolki_compare::{is_whole, Followed, Seeds};
+use seddolki_model::{accept, Book, Layout, Record, BLOCK, CURVES, FULL_BLOCK, RECORD};
 use std::collections::BTreeSet;
 
 /// A book of four blocks of trades, the last with one.
@@ -63,7 +60,7 @@ fn strike(followed: &mut Followed, position: usize, number: u64) {
 /// every trade from it.
 fn assert_accepted(followed: &Followed) {
     let Followed { book, lent, used } = followed;
-    assert_eq!(Proved.check(lent, *used), DONE);
+    assert_eq!(seddolki::lent::check(lent, *used), DONE);
     let trades = accept(lent, *used).map(|accepted| accepted.trades);
     assert_eq!(trades.as_ref(), Ok(&book.trades));
 }
@@ -74,8 +71,8 @@ fn assert_reads_back(followed: &Followed, positions: impl IntoIterator<Item = us
     let Followed { book, lent, used } = followed;
     let read = |position| {
         let mut record = [7; RECORD];
-        let answer = Proved.read(lent, *used, position, &mut record);
-        (answer, Record::from(record))
+        let answer = seddolki::lent::read(lent, *used, position, &mut record);
+        (answer, Record::decode(&record))
     };
     for position in positions {
         assert_eq!(read(position), (DONE, book.trades[position]));

@@ -1,12 +1,10 @@
 //! A book that owns its bytes.
 
-use crate::doubles::{doubles, Double};
 use crate::ffi;
-use seddolki_format::block::{trades, valuation_day, BLOCK};
-use seddolki_format::layout::Layout;
-use seddolki_format::page::PAGE;
-use seddolki_format::record::RECORD;
-use seddolki_format::{Answer, Date, Quote, Record, Refusal, Report};
+use seddolki_format::{
+    trades, valuation_day, Answer, Date, Layout, Quote, Record, Refusal, Report, BLOCK, PAGE,
+    RECORD,
+};
 
 /// The bytes of a book, and how many of them it uses.
 ///
@@ -138,8 +136,7 @@ impl Book {
     /// the record, with the block that it would take; 15 where the book is
     /// full.
     pub fn preview(&self, day: Date, record: &Record) -> Result<Report, Refusal> {
-        let record: [u8; RECORD] = (*record).into();
-        reported(|report| ffi::preview(&self.bytes, self.used, day, &record, report))
+        reported(|report| ffi::preview(&self.bytes, self.used, day, &record.to_bytes(), report))
     }
 
     /// The account statement: a title with the account, a line for each trade,
@@ -181,8 +178,7 @@ impl Book {
     /// Ground 19 where the book is for another day; 8 to 12 for the record,
     /// with the block that it would take; 15 where the book is full.
     pub fn append(&mut self, day: Date, record: &Record) -> Result<usize, Refusal> {
-        let record: [u8; RECORD] = (*record).into();
-        let answer = ffi::append(&mut self.bytes, self.used, day, &record);
+        let answer = ffi::append(&mut self.bytes, self.used, day, &record.to_bytes());
         self.used = length_of(answer)?;
         self.make_room();
         Ok(trades(self.as_bytes()).count() - 1)
@@ -254,7 +250,7 @@ impl Book {
     pub fn read(&self, position: usize) -> Result<Record, Refusal> {
         let mut record = [0; RECORD];
         let answer = ffi::read(&self.bytes, self.used, position, &mut record);
-        done(answer).map(|()| record.into())
+        done(answer).map(|()| Record::decode(&record))
     }
 
     /// All trades in the order of their positions. The book is looked at
@@ -265,26 +261,6 @@ impl Book {
     pub fn records(&self) -> Result<impl Iterator<Item = Record> + '_, Refusal> {
         self.check()?;
         Ok(trades(self.as_bytes()))
-    }
-
-    /// The trades that may have been keyed twice, as by [`doubles`].
-    ///
-    /// ```
-    /// # use seddolki::{Book, Likeness};
-    /// # let bytes = include_bytes!("../../../examples/buyer.book");
-    /// let mut book = Book::from_bytes(bytes.to_vec());
-    /// assert_eq!(book.doubles()?, []);
-    ///
-    /// book.append(book.valuation_day()?, &book.read(0)?)?;
-    /// assert_eq!(book.doubles()?[0].likeness, Likeness::Same);
-    /// # Ok::<(), seddolki::Refusal>(())
-    /// ```
-    ///
-    /// # Errors
-    /// Grounds 1 to 12.
-    pub fn doubles(&self) -> Result<Vec<Double>, Refusal> {
-        let trades: Vec<Record> = self.records()?.collect();
-        Ok(doubles(&trades))
     }
 }
 

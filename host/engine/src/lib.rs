@@ -39,33 +39,24 @@
 //! assert_eq!(refusal.ground, Ground::Length);
 //! assert_eq!(refusal.ground.number(), 1);
 //! ```
-//!
-//! A book may hold a trade twice, and the engine takes it. [`doubles()`] and
-//! its kin search for trades that may have been keyed twice, before they are
-//! appended or in a whole book; the search stands beside the engine and
-//! changes none of its verdicts.
 
 #![deny(unsafe_code)]
 #![warn(missing_docs)]
 
 mod book;
-mod doubles;
 #[allow(unsafe_code)]
 mod ffi;
 mod value;
 
-/// The nine calls as they are in C, over lent bytes. The caller lends the
-/// bytes, and says how many of them the book uses; `day` is the current day.
-/// Every statement fits in `PAGE` bytes.
+/// The calls as they are in C, over lent bytes. The caller lends the bytes, and
+/// says how many of them the book uses; `day` is the current day. Every
+/// statement fits in `PAGE` bytes.
 pub mod lent {
-    pub use crate::ffi::{append, bootstrap, check, margin, present_value, preview, read};
-    pub use crate::ffi::{statement, strike};
+    pub use crate::ffi::*;
     pub use seddolki_format::page::PAGE;
 }
 
 pub use book::Book;
-pub use doubles::{doubles, doubles_among, doubles_at, doubles_of, stands_already};
-pub use doubles::{Double, Likeness, Placed, Standing};
 pub use seddolki_format::date::NoDate;
 pub use seddolki_format::quote::bond_of;
 pub use seddolki_format::report::{CurrencyFigures, CurveFigures};

@@ -2,7 +2,7 @@
 
 use seddolki::{present_value, Book, Date, Ground, Quote, Record};
 use seddolki_books::{assemble, buyer, draw_book, draw_record, most_trades, seller, Draw};
-use seddolki_model::limits::FULL_BLOCK;
+use seddolki_model::FULL_BLOCK;
 
 #[test]
 fn records_are_those_read_one_by_one() {

@@ -2,11 +2,8 @@
 
 use seddolki::{bond_of, present_value, Book, Date, Ground, Quote, Record};
 use seddolki_books::buyer;
-use seddolki_format::block::{Curve, Node, BLOCK};
-use seddolki_format::layout::Layout;
-use seddolki_model::curve::rate_on;
-use seddolki_model::flows::payments;
-use seddolki_model::limits::{MAX_AMOUNT, MAX_COMPONENT, NODES};
+use seddolki_format::{Curve, Layout, Node, BLOCK};
+use seddolki_model::{payments, rate_on, MAX_AMOUNT, MAX_COMPONENT, NODES};
 
 /// The day that the buyer's book is for.
 const DAY: Date = Date::FIRST;

@@ -3,9 +3,9 @@
 
 use seddolki::{Book, CurveFigures, Ground, Record, Refusal};
 use seddolki_books::{assemble, undiscounted_book};
-use seddolki_format::block::Curve;
-use seddolki_format::limits::MAX_AMOUNT;
-use seddolki_format::record::{COUPONS, INDEXED_COUPONS, POOL, SINGLE_PAYMENT, SPECIFIED};
+use seddolki_format::{
+    Curve, COUPONS, INDEXED_COUPONS, MAX_AMOUNT, POOL, SINGLE_PAYMENT, SPECIFIED,
+};
 
 /// A repo by kind, phase and side, and the signs of its security's payments.
 struct Form {

@@ -5,11 +5,10 @@ mod pages;
 use pages::{full_page, line, page, EXAMPLES};
 use seddolki::{lent, Answer, Book, Date, Ground, Record, Refusal};
 use seddolki_books::{assemble, buyer, draw_book, most_trades, undiscounted_book, Draw};
-use seddolki_format::block::BLOCK;
-use seddolki_format::limits::{MAX_AMOUNT, MAX_COUPON, PAYMENTS};
-use seddolki_format::page::PAGE;
-use seddolki_format::record::{COUPONS, FIRST_SIDE, SECOND_SIDE, SPECIFIED};
-use seddolki_format::report::currency_name;
+use seddolki_format::{
+    currency_name, BLOCK, COUPONS, FIRST_SIDE, MAX_AMOUNT, MAX_COUPON, PAGE, PAYMENTS, SECOND_SIDE,
+    SPECIFIED,
+};
 
 const ROOT: &str = concat!(env!("CARGO_MANIFEST_DIR"), "/../..");
 

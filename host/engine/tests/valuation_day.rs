@@ -2,8 +2,7 @@
 
 use seddolki::{bond_of, Book, Date, Ground, Quote, Record, Refusal};
 use seddolki_books::buyer;
-use seddolki_format::block::{seal, valuation_day, Header, BLOCK};
-use seddolki_format::layout::Layout;
+use seddolki_format::{seal, valuation_day, Header, Layout, BLOCK};
 
 /// Days whose bytes are all 0, all alike, and all different.
 const DAYS: [u32; 5] = [0, 1, 9_816, 0x0102_0304, u32::MAX];

@@ -12,131 +12,77 @@ pub struct Answer {
     pub value: u64,
 }
 
-/// The grounds, numbered as in the document.
-#[derive(Clone, Copy, Debug, PartialEq, Eq, PartialOrd, Ord)]
-pub enum Ground {
-    Length = 1,
-    Check,
-    Place,
-    Header,
-    Curve,
-    Node,
-    TradeBlock,
-    Form,
-    Days,
-    Amounts,
-    Currency,
-    FlowLimit,
-    ReportSpace,
-    Position,
-    BookSpace,
-    ValueRange,
-    CurveEnd,
-    RateRange,
-    ValuationDay,
+macro_rules! grounds {
+    ($($ground:ident, $name:literal, $sentence:literal;)*) => {
+        /// The grounds, numbered from 1 as in the document.
+        #[derive(Clone, Copy, Debug, PartialEq, Eq, PartialOrd, Ord)]
+        pub enum Ground {
+            $($ground),*
+        }
+
+        impl Ground {
+            /// In the order of their numbers, from 1.
+            pub const ALL: [Ground; [$($name),*].len()] = [$(Ground::$ground),*];
+
+            /// A short name.
+            pub fn name(self) -> &'static str {
+                [$($name),*][self as usize]
+            }
+
+            /// What holds where this ground answers.
+            pub fn sentence(self) -> &'static str {
+                [$($sentence),*][self as usize]
+            }
+        }
+    };
+}
+
+grounds! {
+    Length, "length",
+        "the used length is 0, no multiple of 512, above 65,536 or above the lent length";
+    Check, "check", "the check of the block differs from its bytes";
+    Place, "place", "the kind or number of the block is not the one its place calls for";
+    Header, "header", "a header count or a header byte due to be 0 is wrong";
+    Curve, "curve",
+        "a curve's id, currency, node count, steps, range or a byte due to be 0 is wrong";
+    Node, "node", "a node's day, order, rate or component is out of limits";
+    TradeBlock, "trade block", "a trade count or a byte behind the records is wrong";
+    Form, "form",
+        "the kind, side, phase, security or a curve id is none of those allowed together";
+    Days, "days", "a day, period, payment count or term that the record uses breaks its rule";
+    Amounts, "amounts",
+        "an amount, price, rate, coupon, accrued or index is wrong, or a field due to be 0 is not";
+    Currency, "currency", "the security curve and the cash curve differ in currency";
+    FlowLimit, "flow limit", "a cash flow of the trade exceeds 10,000,000,000.00";
+    ReportSpace, "report space",
+        "the report space is under 512 bytes, or the page does not fit";
+    Position, "position", "no trade has that position";
+    BookSpace, "book space",
+        "a new block is needed, and the book has 128 or the lent bytes end too early";
+    ValueRange, "value range",
+        "the amount exceeds 10,000,000,000.00, the rate 100% or the day 10,950";
+    CurveEnd, "curve end",
+        "the curve has 24 nodes, or the bond's last payment is not after the last node";
+    RateRange, "rate range",
+        "the bond is worth more than the cash even at rate 100%, or less even at rate 0%";
+    ValuationDay, "valuation day", "the book is for another day than the day given";
 }
 
 impl Ground {
-    /// In the order of their numbers, from 1.
-    pub const ALL: [Ground; 19] = [
-        Ground::Length,
-        Ground::Check,
-        Ground::Place,
-        Ground::Header,
-        Ground::Curve,
-        Ground::Node,
-        Ground::TradeBlock,
-        Ground::Form,
-        Ground::Days,
-        Ground::Amounts,
-        Ground::Currency,
-        Ground::FlowLimit,
-        Ground::ReportSpace,
-        Ground::Position,
-        Ground::BookSpace,
-        Ground::ValueRange,
-        Ground::CurveEnd,
-        Ground::RateRange,
-        Ground::ValuationDay,
-    ];
+    /// Those that a book is tested for.
+    pub const ON_BOOK: &'static [Ground] = Self::ALL.split_at(12).0;
 
-    /// The ground of a number; none for 0 and above 19.
+    /// Those of them that a record is tested for.
+    pub const ON_RECORD: &'static [Ground] = Self::ON_BOOK.split_at(7).1;
+
+    /// The ground of a number; none for 0 and above the last.
     pub fn from_number(number: u64) -> Option<Ground> {
         let place = usize::try_from(number).ok()?.checked_sub(1)?;
         Ground::ALL.get(place).copied()
     }
 
     pub fn number(self) -> u64 {
-        self as u64
-    }
-
-    /// A short name.
-    pub fn name(self) -> &'static str {
-        match self {
-            Ground::Length => "length",
-            Ground::Check => "check",
-            Ground::Place => "place",
-            Ground::Header => "header",
-            Ground::Curve => "curve",
-            Ground::Node => "node",
-            Ground::TradeBlock => "trade block",
-            Ground::Form => "form",
-            Ground::Days => "days",
-            Ground::Amounts => "amounts",
-            Ground::Currency => "currency",
-            Ground::FlowLimit => "flow limit",
-            Ground::ReportSpace => "report space",
-            Ground::Position => "position",
-            Ground::BookSpace => "book space",
-            Ground::ValueRange => "value range",
-            Ground::CurveEnd => "curve end",
-            Ground::RateRange => "rate range",
-            Ground::ValuationDay => "valuation day",
-        }
-    }
-
-    /// What holds where this ground answers.
-    pub fn sentence(self) -> &'static str {
-        match self {
-            Ground::Length => {
-                "the used length is 0, no multiple of 512, above 65,536 or above the lent length"
-            }
-            Ground::Check => "the check of the block differs from its bytes",
-            Ground::Place => "the kind or number of the block is not the one its place calls for",
-            Ground::Header => "a header count or a header byte due to be 0 is wrong",
-            Ground::Curve => {
-                "a curve's id, currency, node count, steps, range or a byte due to be 0 is wrong"
-            }
-            Ground::Node => "a node's day, order, rate or component is out of limits",
-            Ground::TradeBlock => "a trade count or a byte behind the records is wrong",
-            Ground::Form => {
-                "the kind, side, phase, security or a curve id is none of those allowed together"
-            }
-            Ground::Days => {
-                "a day, period, payment count or term that the record uses breaks its rule"
-            }
-            Ground::Amounts => {
-                "an amount, price, rate, coupon, accrued or index is wrong, \
-                 or a field due to be 0 is not"
-            }
-            Ground::Currency => "the security curve and the cash curve differ in currency",
-            Ground::FlowLimit => "a cash flow of the trade exceeds 10,000,000,000.00",
-            Ground::ReportSpace => "the report space is under 512 bytes, or the page does not fit",
-            Ground::Position => "no trade has that position",
-            Ground::BookSpace => {
-                "a new block is needed, and the book has 128 or the lent bytes end too early"
-            }
-            Ground::ValueRange => {
-                "the amount exceeds 10,000,000,000.00, the rate 100% or the day 10,950"
-            }
-            Ground::CurveEnd => {
-                "the curve has 24 nodes, or the bond's last payment is not after the last node"
-            }
-            Ground::RateRange => {
-                "the bond is worth more than the cash even at rate 100%, or less even at rate 0%"
-            }
-            Ground::ValuationDay => "the book is for another day than the day given",
-        }
+        self as u64 + 1
     }
 
     pub fn in_block(self, block: usize) -> Refusal {
@@ -193,12 +139,13 @@ impl From<Result<u64, Refusal>> for Answer {
 }
 
 impl From<Answer> for Result<u64, Refusal> {
-    /// Panics on a number above 19, which no call answers.
+    /// Panics on a number of no ground, which no call answers.
     fn from(answer: Answer) -> Self {
         if answer.number == 0 {
             return Ok(answer.value);
         }
-        let ground = Ground::from_number(answer.number).expect("a ground has number 1 to 19");
+        let ground =
+            Ground::from_number(answer.number).expect("an answer has the number of a ground");
         Err(ground.in_block(answer.value as usize))
     }
 }
@@ -214,7 +161,9 @@ mod tests {
             assert_eq!(Ground::from_number(number), Some(ground));
         }
         assert_eq!(Ground::from_number(0), None);
-        assert_eq!(Ground::from_number(20), None);
+        assert_eq!(Ground::from_number(Ground::ALL.len() as u64 + 1), None);
+        assert_eq!(Ground::ON_BOOK.last(), Some(&Ground::FlowLimit));
+        assert_eq!(Ground::ON_RECORD.first(), Some(&Ground::Form));
     }
 
     #[test]

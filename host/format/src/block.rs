@@ -1,9 +1,7 @@
 //! The blocks of a book.
 
-use crate::date::Date;
-use crate::layout::{layout, Layout};
-use crate::limits::FULL_BLOCK;
-use crate::record::Record;
+use crate::layout::layout;
+use crate::{Date, Layout, Record, FULL_BLOCK};
 
 pub const BLOCK: usize = 512;
 
@@ -56,6 +54,20 @@ layout! {
 }
 
 impl Curve {
+    /// A curve without steps, its check still to be written.
+    pub fn new(id: u8, currency: u8, nodes: &[Node]) -> Self {
+        let mut curve = Curve {
+            kind: CURVE,
+            number: id.into(),
+            id,
+            currency,
+            node_count: nodes.len() as u8,
+            ..Curve::default()
+        };
+        curve.places[..nodes.len()].copy_from_slice(nodes);
+        curve
+    }
+
     /// The nodes in use.
     pub fn nodes(&self) -> &[Node] {
         &self.places[..self.places.len().min(self.node_count.into())]

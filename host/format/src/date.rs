@@ -17,6 +17,7 @@ use std::str::FromStr;
 /// # Ok::<(), seddolki_format::date::NoDate>(())
 /// ```
 #[derive(Clone, Copy, Debug, PartialEq, Eq, PartialOrd, Ord, Hash)]
+#[repr(transparent)]
 pub struct Date(u32);
 
 const FIRST_YEAR: u32 = 2000;
@@ -25,20 +26,9 @@ const FIRST_YEAR: u32 = 2000;
 const CYCLE_YEARS: u32 = 400;
 const CYCLE_DAYS: u32 = days_of_years(CYCLE_YEARS) as u32;
 
-const MONTHS: [&str; 12] = [
-    "January",
-    "February",
-    "March",
-    "April",
-    "May",
-    "June",
-    "July",
-    "August",
-    "September",
-    "October",
-    "November",
-    "December",
-];
+/// In order.
+const MONTHS: &str = "January February March April May June July August September \
+                      October November December";
 
 impl Date {
     /// 1 January 2000.
@@ -60,8 +50,8 @@ impl Date {
     /// date, before the first one and behind the last.
     pub fn from_calendar(year: u32, month: u32, day: u32) -> Option<Self> {
         let years = year.checked_sub(FIRST_YEAR)?;
-        let of_the_calendar = (1..=MONTHS.len() as u32).contains(&month)
-            && (1..=days_of_month(year, month)).contains(&day);
+        let of_the_calendar =
+            (1..=12).contains(&month) && (1..=days_of_month(year, month)).contains(&day);
         if !of_the_calendar {
             return None;
         }
@@ -70,46 +60,27 @@ impl Date {
         u32::try_from(days).ok().map(Date)
     }
 
-    pub fn year(self) -> u32 {
-        self.in_year().0
-    }
-
-    /// From 1.
-    pub fn month(self) -> u32 {
-        self.in_month().0
-    }
-
-    /// From 1.
-    pub fn day_of_month(self) -> u32 {
-        self.in_month().1 + 1
-    }
-
-    /// `15 November 2026`.
-    pub fn in_words(self) -> String {
-        let month = MONTHS[self.month() as usize - 1];
-        format!("{} {month} {}", self.day_of_month(), self.year())
-    }
-
-    /// The year, and the days of it that have passed.
-    fn in_year(self) -> (u32, u32) {
+    /// Year, month and day of the month, the last two from 1.
+    pub fn calendar(self) -> (u32, u32, u32) {
         let mut year = FIRST_YEAR + self.0 / CYCLE_DAYS * CYCLE_YEARS;
         let mut passed = self.0 % CYCLE_DAYS;
         while passed >= days_of_year(year) {
             passed -= days_of_year(year);
             year += 1;
         }
-        (year, passed)
-    }
-
-    /// The month, and the days of it that have passed.
-    fn in_month(self) -> (u32, u32) {
-        let (year, mut passed) = self.in_year();
         let mut month = 1;
         while passed >= days_of_month(year, month) {
             passed -= days_of_month(year, month);
             month += 1;
         }
-        (month, passed)
+        (year, month, passed + 1)
+    }
+
+    /// `15 November 2026`.
+    pub fn in_words(self) -> String {
+        let (year, month, day) = self.calendar();
+        let name = MONTHS.split(' ').nth(month as usize - 1);
+        format!("{day} {} {year}", name.unwrap_or_default())
     }
 }
 
@@ -139,7 +110,7 @@ fn days_of_month(year: u32, month: u32) -> u32 {
 impl Display for Date {
     /// `2026-11-15`.
     fn fmt(&self, f: &mut Formatter<'_>) -> fmt::Result {
-        let (year, month, day) = (self.year(), self.month(), self.day_of_month());
+        let (year, month, day) = self.calendar();
         f.pad(&format!("{year}-{month:02}-{day:02}"))
     }
 }

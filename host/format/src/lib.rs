@@ -15,9 +15,6 @@ pub mod record;
 pub mod report;
 pub mod text;
 
-pub use answer::{Answer, Ground, Refusal};
-pub use block::assemble;
-pub use date::Date;
-pub use quote::Quote;
-pub use record::Record;
-pub use report::Report;
+pub use self::{
+    answer::*, block::*, date::*, layout::*, limits::*, page::*, quote::*, record::*, report::*,
+};

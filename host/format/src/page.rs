@@ -1,6 +1,6 @@
 //! The size of an account statement's page.
 
-use crate::limits::{FULL_BLOCK, MAX_BLOCKS};
+use crate::{FULL_BLOCK, MAX_BLOCKS};
 
 /// Bytes of a line: 80 characters and a line feed.
 pub const LINE: usize = 81;

@@ -1,7 +1,6 @@
 //! What lengthens a curve: a coupon bond and what it costs today.
 
-use crate::layout::Layout;
-use crate::record::{Record, COUPONS, FIRST_SIDE, OUTRIGHT, RECORD};
+use crate::{Layout, Record, COUPONS, FIRST_SIDE, OUTRIGHT, RECORD};
 
 /// Bytes of a bond.
 pub const BOND: usize = 20;

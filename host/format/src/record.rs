@@ -53,12 +53,6 @@ layout! {
     }
 }
 
-impl From<[u8; RECORD]> for Record {
-    fn from(bytes: [u8; RECORD]) -> Self {
-        Record::decode(&bytes)
-    }
-}
-
 impl From<Record> for [u8; RECORD] {
     fn from(record: Record) -> Self {
         record.to_bytes()

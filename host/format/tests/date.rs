@@ -22,10 +22,7 @@ fn days_of_a_century_follow_each_other() {
     let mut days = 0;
     for (year, month, day) in century() {
         let date = Date::from_days(days);
-        assert_eq!(
-            (date.year(), date.month(), date.day_of_month()),
-            (year, month, day)
-        );
+        assert_eq!(date.calendar(), (year, month, day));
         assert_eq!(Date::from_calendar(year, month, day), Some(date));
         let text = format!("{year}-{month:02}-{day:02}");
         assert_eq!(date.to_string(), text);
@@ -113,7 +110,7 @@ fn leap_years_have_a_29th_of_february_and_366_days() {
         assert_eq!(next.days() - first.days(), 365 + u32::from(leap));
         let last = Date::from_days(next.days() - 1);
         assert_eq!(Some(last), day(12, 31));
-        assert_eq!((last.year(), first.year()), (year, year));
+        assert_eq!((last.calendar().0, first.calendar().0), (year, year));
     }
 }
 
@@ -124,8 +121,8 @@ fn every_400_years_repeat_the_first() {
         let first = Date::from_days(days);
         for cycle in [1, 2, 100, 29_397] {
             let later = Date::from_days(days + cycle * days_of_cycle);
-            assert_eq!(later.year(), first.year() + 400 * cycle);
-            let in_year = |date: Date| (date.month(), date.day_of_month());
+            assert_eq!(later.calendar().0, first.calendar().0 + 400 * cycle);
+            let in_year = |date: Date| (date.calendar().1, date.calendar().2);
             assert_eq!(in_year(later), in_year(first));
             assert_eq!(later.to_string().parse(), Ok(later));
         }

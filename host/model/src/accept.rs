@@ -1,15 +1,10 @@
 //! Accepting a book, grounds 1 to 12 and, on a day, 19, and what it holds.
 
-use crate::answer::{Ground, Refusal};
-use crate::block::{Curve, Header, TradeBlock, BLOCK, CURVE, HEADER, TRADES};
-use crate::date::Date;
-use crate::fault::{BookFault, Fault, Part};
-use crate::flows::{cash_flows, CashFlow};
-use crate::layout::Layout;
-use crate::record::Record;
-use crate::require::require;
-use crate::rules::{blocks as rules, keep_rules};
-use crate::words::Unit;
+use crate::rules::blocks as rules;
+use crate::{
+    cash_flows, keep_rules, require, BookFault, CashFlow, Curve, Date, Fault, Ground, Header,
+    Layout, Part, Record, Refusal, TradeBlock, Unit, BLOCK, CURVE, HEADER, TRADES,
+};
 use std::fmt::Display;
 
 /// What an accepted book holds.

@@ -1,6 +1,6 @@
 //! Whole numbers of any size.
 
-use crate::number::Number;
+use crate::Number;
 use std::cmp::Ordering;
 
 /// Words of 32 bits, lowest first, the highest not 0.

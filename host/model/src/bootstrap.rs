@@ -1,13 +1,8 @@
 //! A curve lengthened by what a coupon bond costs. The quotes have passed
 //! grounds 8 to 12.
 
-use crate::block::{Curve, Node};
-use crate::curve::rate_on;
-use crate::discount::{discount_factor, present_value};
-use crate::flows::payments;
-use crate::limits::MAX_RATE;
-use crate::quote::Quote;
-use crate::search::smallest;
+use crate::discount::present_value;
+use crate::{discount_factor, payments, rate_on, smallest, Curve, Node, Quote, MAX_RATE};
 
 /// The node on the bond's last payment day, at a rate.
 fn node_at(quote: &Quote, rate: u64) -> Node {

@@ -1,6 +1,6 @@
 //! Sure bounds of large products, quick to find.
 
-use crate::number::Number;
+use crate::Number;
 
 /// mantissa × 2^exponent, the mantissa's top bit set. The order of the
 /// fields makes the derived order that of the numbers.

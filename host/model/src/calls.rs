@@ -1,20 +1,11 @@
-//! The nine calls over lent bytes. Those that change a book, work out its
+//! The calls over lent bytes. Those that change a book, work out its
 //! margin or write its statement are given the day that it is to be for.
 
-use crate::accept::{accept, accept_on, Book};
-use crate::answer::{Answer, Ground, Refusal};
-use crate::block::{sealed, BLOCK};
-use crate::bootstrap::new_node;
-use crate::date::Date;
-use crate::discount;
-use crate::edit::{add_node, rewrite};
-use crate::layout::Layout;
-use crate::limits::{FULL_BLOCK, MAX_AMOUNT, MAX_BLOCKS, MAX_DAY, MAX_RATE};
-use crate::margin::report;
-use crate::quote::Quote;
-use crate::record::{Record, RECORD};
-use crate::rules::{accept_quote, accept_record};
-use crate::statement::page;
+use crate::{
+    accept, accept_on, accept_quote, accept_record, add_node, discount, new_node, page, report,
+    rewrite, sealed, Answer, Book, Date, Ground, Layout, Quote, Record, Refusal, BLOCK, FULL_BLOCK,
+    MAX_AMOUNT, MAX_BLOCKS, MAX_DAY, MAX_RATE, RECORD,
+};
 
 /// Whether the book is accepted.
 pub fn check(book: &[u8], used: usize) -> Answer {
@@ -23,36 +14,28 @@ pub fn check(book: &[u8], used: usize) -> Answer {
 
 /// Fills the report's first block.
 pub fn margin(book: &[u8], used: usize, day: Date, report: &mut [u8]) -> Answer {
-    try_margin(book, used, day, report).into()
-}
-
-fn try_margin(lent: &[u8], used: usize, day: Date, space: &mut [u8]) -> Result<u64, Refusal> {
-    write_report(&accept_on(lent, used, day)?, space)
+    let book = accept_on(book, used, day);
+    book.and_then(|book| write_report(&book, report)).into()
 }
 
 fn write_report(book: &Book, space: &mut [u8]) -> Result<u64, Refusal> {
-    write(&sealed(&report(book)), space)?;
-    Ok(0)
+    write(&sealed(&report(book)), space).map(|_| 0)
 }
 
-/// Writes to the first bytes of a space, if all that is to be written fits.
-fn write(bytes: &[u8], space: &mut [u8]) -> Result<(), Refusal> {
+/// Writes to the first bytes of a space, if all that is to be written fits;
+/// gives their number.
+fn write(bytes: &[u8], space: &mut [u8]) -> Result<u64, Refusal> {
     let first = space.get_mut(..bytes.len());
-    first
-        .ok_or(Ground::ReportSpace.alone())?
-        .copy_from_slice(bytes);
-    Ok(())
+    let first = first.ok_or(Ground::ReportSpace.alone())?;
+    first.copy_from_slice(bytes);
+    Ok(bytes.len() as u64)
 }
 
 /// Writes the account statement; the value is the page's length.
-pub fn statement(book: &[u8], used: usize, day: Date, page: &mut [u8]) -> Answer {
-    try_statement(book, used, day, page).into()
-}
-
-fn try_statement(lent: &[u8], used: usize, day: Date, space: &mut [u8]) -> Result<u64, Refusal> {
-    let page = page(&accept_on(lent, used, day)?);
-    write(page.as_bytes(), space)?;
-    Ok(page.len() as u64)
+pub fn statement(book: &[u8], used: usize, day: Date, space: &mut [u8]) -> Answer {
+    let book = accept_on(book, used, day);
+    book.and_then(|book| write(page(&book).as_bytes(), space))
+        .into()
 }
 
 /// Fills the report's first block as it would be after an append. The trade
@@ -65,32 +48,14 @@ pub fn preview(
     record: &[u8; RECORD],
     report: &mut [u8],
 ) -> Answer {
-    try_preview(book, used, day, record, report).into()
-}
-
-fn try_preview(
-    lent: &[u8],
-    used: usize,
-    day: Date,
-    record: &[u8; RECORD],
-    space: &mut [u8],
-) -> Result<u64, Refusal> {
-    write_report(&accept_append(lent, used, day, record)?, space)
+    let longer = accept_append(book, used, day, record);
+    longer.and_then(|book| write_report(&book, report)).into()
 }
 
 /// Adds a record behind the last; the value is the new used length.
-pub fn append(book: &mut [u8], used: usize, day: Date, record: &[u8; RECORD]) -> Answer {
-    try_append(book, used, day, record).into()
-}
-
-fn try_append(
-    lent: &mut [u8],
-    used: usize,
-    day: Date,
-    record: &[u8; RECORD],
-) -> Result<u64, Refusal> {
-    let book = accept_append(lent, used, day, record)?;
-    Ok(rewrite(lent, used, &book))
+pub fn append(lent: &mut [u8], used: usize, day: Date, record: &[u8; RECORD]) -> Answer {
+    let longer = accept_append(lent, used, day, record);
+    longer.map(|book| rewrite(lent, used, &book)).into()
 }
 
 /// What the book would hold with a record behind its last trade, or the first
@@ -114,15 +79,13 @@ fn accept_append(
 }
 
 /// Removes a record; the value is the new used length.
-pub fn strike(book: &mut [u8], used: usize, day: Date, position: usize) -> Answer {
-    try_strike(book, used, day, position).into()
-}
-
-fn try_strike(lent: &mut [u8], used: usize, day: Date, position: usize) -> Result<u64, Refusal> {
-    let mut book = accept_on(lent, used, day)?;
-    trade_at(&book, position)?;
-    book.trades.remove(position);
-    Ok(rewrite(lent, used, &book))
+pub fn strike(lent: &mut [u8], used: usize, day: Date, position: usize) -> Answer {
+    let shorter = accept_on(lent, used, day).and_then(|mut book| {
+        trade_at(&book, position)?;
+        book.trades.remove(position);
+        Ok(book)
+    });
+    shorter.map(|book| rewrite(lent, used, &book)).into()
 }
 
 /// Gives the record at a position; 0 bytes if refused.
@@ -139,16 +102,13 @@ fn trade_at(book: &Book, position: usize) -> Result<Record, Refusal> {
 
 /// Adds a node to a curve, at the rate that a bond's price calls for; the
 /// value is 0.
-pub fn bootstrap(book: &mut [u8], used: usize, day: Date, quote: &Quote) -> Answer {
-    try_bootstrap(book, used, day, quote).into()
-}
-
-fn try_bootstrap(lent: &mut [u8], used: usize, day: Date, quote: &Quote) -> Result<u64, Refusal> {
-    let book = accept_on(lent, used, day)?;
-    accept_quote(quote, &book.curves).map_err(Ground::alone)?;
-    let curve = &book.curves[quote.curve - 1];
-    add_node(lent, curve, new_node(curve, quote));
-    Ok(0)
+pub fn bootstrap(lent: &mut [u8], used: usize, day: Date, quote: &Quote) -> Answer {
+    let quoted = accept_on(lent, used, day).and_then(|book| {
+        accept_quote(quote, &book.curves).map_err(Ground::alone)?;
+        Ok(book.curves[quote.curve - 1])
+    });
+    let added = quoted.map(|curve| add_node(lent, &curve, new_node(&curve, quote)));
+    added.map(|()| 0).into()
 }
 
 /// One present value and its tolerance; tolerance 0 if refused.

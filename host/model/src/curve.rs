@@ -1,6 +1,6 @@
 //! The rate of a curve on a day.
 
-use crate::block::Node;
+use crate::Node;
 
 /// Rate on a day: the end node's outside the nodes, between them on the
 /// line, its quotient cut towards zero. There is a node at least.

@@ -1,9 +1,6 @@
 //! Discount factors and present values.
 
-use crate::limits::MAX_RATE;
-use crate::rounding::half_up;
-use crate::search::largest;
-use crate::units::{ONE, UNIT, YEAR};
+use crate::{half_up, largest, MAX_RATE, ONE, UNIT, YEAR};
 use std::collections::HashMap;
 use std::sync::atomic::{AtomicU64, Ordering};
 

@@ -1,9 +1,6 @@
 //! Writing an edited book back.
 
-use crate::accept::Book;
-use crate::block::{sealed, Curve, Header, Node, TradeBlock, BLOCK};
-use crate::layout::Layout;
-use crate::limits::FULL_BLOCK;
+use crate::{sealed, Book, Curve, Header, Layout, Node, TradeBlock, BLOCK, FULL_BLOCK};
 
 /// Writes the trades of an edited book, with the header's count; a block
 /// left empty becomes zeros. Gives the new used length.

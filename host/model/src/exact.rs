@@ -1,14 +1,7 @@
 //! The exact values of demand 3 to the nearest kuruş, by the power inequality
 //! alone.
 
-use crate::accept::Book;
-use crate::big::Big;
-use crate::block::Curve;
-use crate::bounds::Bounds;
-use crate::number::Number;
-use crate::search::largest;
-use crate::units::{ONE, YEAR};
-use crate::valuation::Valuation;
+use crate::{largest, Big, Book, Bounds, Curve, Number, Valuation, ONE, YEAR};
 use std::cell::OnceCell;
 
 /// n^year × up^days ≤ halves^year × down^days, asked of n: whether n halves of

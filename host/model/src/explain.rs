@@ -1,18 +1,7 @@
 //! The grounds of refusal explained.
 
-use crate::answer::Ground;
-use crate::fields::{
-    ACCRUED, BLOCK_KIND, CASH, CASH_CURVE, CHECK, CLEAN_PRICE, COMPONENTS, COUNT, COUPON, CURRENCY,
-    CURVE_COUNT, DAY, FIRST_PAYMENT_DAY, ID, ISSUE_INDEX, KIND, NODE_COUNT, NOMINAL, NUMBER,
-    PAYMENT_COUNT, PERIOD, PHASE, QUOTED_CURVE, RANGES, RATE, REPO_CASH, REPO_RATE, SECURITY,
-    SECURITY_CURVE, SETTLEMENT_INDEX, SIDE, STEPS, TERM, TRADE_BLOCKS, UNNAMED, USED, VALUE_DAY_1,
-    VALUE_DAY_2, ZERO,
-};
-use crate::flows::TABLE;
-use crate::found::About;
-use crate::limits::MAX_DAY;
-use crate::reasons;
-use crate::words::Unit;
+use crate::fields::*;
+use crate::{rule_texts, About, Ground, Unit, MAX_DAY, TABLE};
 use std::collections::BTreeSet;
 
 /// What a ground says, the limits of its fields, and what to do about it.
@@ -29,55 +18,31 @@ fn line(about: &About) -> String {
     format!("  {}: {limits}, {}\n", about.name, about.meaning)
 }
 
-macro_rules! abouts {
-    ($($field:ident),*) => {
-        &[$($field.about),*]
-    };
-}
-
 /// The fields that a ground tests.
 fn fields_of(ground: Ground) -> &'static [&'static About] {
-    match ground {
-        Ground::Length => abouts![USED],
-        Ground::Place => abouts![BLOCK_KIND, NUMBER],
-        Ground::Header => abouts![USED, CURVE_COUNT, TRADE_BLOCKS, UNNAMED],
-        Ground::Curve => abouts![ID, CURRENCY, NODE_COUNT, STEPS, RANGES, UNNAMED],
-        Ground::Node => abouts![DAY, RATE, COMPONENTS],
-        Ground::TradeBlock => abouts![COUNT, UNNAMED],
-        Ground::Form => abouts![
-            KIND,
-            SIDE,
-            PHASE,
-            SECURITY,
-            CASH_CURVE,
-            SECURITY_CURVE,
-            QUOTED_CURVE
-        ],
-        Ground::Days => abouts![
-            VALUE_DAY_1,
-            VALUE_DAY_2,
-            FIRST_PAYMENT_DAY,
-            PERIOD,
-            PAYMENT_COUNT,
-            TERM
-        ],
-        Ground::Amounts => abouts![
-            COUPON,
-            NOMINAL,
-            REPO_CASH,
-            CLEAN_PRICE,
-            REPO_RATE,
-            ACCRUED,
-            SETTLEMENT_INDEX,
-            ISSUE_INDEX,
-            ZERO,
-            CASH
-        ],
-        Ground::Currency => abouts![SECURITY_CURVE, CASH_CURVE],
-        Ground::FlowLimit => abouts![NOMINAL, REPO_CASH],
-        Ground::CurveEnd => abouts![NODE_COUNT, FIRST_PAYMENT_DAY, PERIOD, PAYMENT_COUNT],
-        Ground::RateRange => abouts![CASH, RATE],
-        _ => &[],
+    macro_rules! tested {
+        ($($ground:ident: $($field:ident)*;)*) => {
+            match ground {
+                $(Ground::$ground => &[$($field.about),*],)*
+                _ => &[],
+            }
+        };
+    }
+    tested! {
+        Length: USED;
+        Place: BLOCK_KIND NUMBER;
+        Header: USED CURVE_COUNT TRADE_BLOCKS UNNAMED;
+        Curve: ID CURRENCY NODE_COUNT STEPS RANGES UNNAMED;
+        Node: DAY RATE COMPONENTS;
+        TradeBlock: COUNT UNNAMED;
+        Form: KIND SIDE PHASE SECURITY CASH_CURVE SECURITY_CURVE QUOTED_CURVE;
+        Days: VALUE_DAY_1 VALUE_DAY_2 FIRST_PAYMENT_DAY PERIOD PAYMENT_COUNT TERM;
+        Amounts: COUPON NOMINAL REPO_CASH CLEAN_PRICE REPO_RATE ACCRUED SETTLEMENT_INDEX
+            ISSUE_INDEX ZERO CASH;
+        Currency: SECURITY_CURVE CASH_CURVE;
+        FlowLimit: NOMINAL REPO_CASH;
+        CurveEnd: NODE_COUNT FIRST_PAYMENT_DAY PERIOD PAYMENT_COUNT;
+        RateRange: CASH RATE;
     }
 }
 
@@ -88,29 +53,29 @@ fn more_on(ground: Ground) -> Vec<String> {
         Ground::Check => vec![format!("the check is {}", CHECK.about.meaning)],
         Ground::Form => {
             let mut more = phases();
-            more.extend([reasons::SECURITY, reasons::NO_SECURITY_CURVE].map(String::from));
+            more.extend([rule_texts::SECURITY, rule_texts::NO_SECURITY_CURVE].map(String::from));
             more
         }
         Ground::Days => vec![
-            format!("{}, and the term is {}", reasons::LEGS, reasons::TERM),
-            reasons::SETTLED.into(),
-            reasons::OUTRIGHT_PAYMENTS.into(),
-            reasons::REPO_PAYMENTS.into(),
-            reasons::SETTLED_PAYMENTS.into(),
-            reasons::BOND_PAYMENTS.into(),
+            format!("{}, and the term is {}", rule_texts::LEGS, rule_texts::TERM),
+            rule_texts::SETTLED.into(),
+            rule_texts::OUTRIGHT_PAYMENTS.into(),
+            rule_texts::REPO_PAYMENTS.into(),
+            rule_texts::SETTLED_PAYMENTS.into(),
+            rule_texts::BOND_PAYMENTS.into(),
             format!("no payment falls after day {}", Unit::Whole.words(MAX_DAY)),
         ],
         Ground::Amounts => said(&[
-            reasons::NO_SECOND_LEG,
-            reasons::NO_TERM,
-            reasons::NO_ACCRUED,
-            reasons::NO_FIRST_LEG,
-            reasons::NO_SECURITY,
-            reasons::NO_COUPONS,
-            reasons::NO_INDICES,
+            rule_texts::NO_SECOND_LEG,
+            rule_texts::NO_TERM,
+            rule_texts::NO_ACCRUED,
+            rule_texts::NO_FIRST_LEG,
+            rule_texts::NO_SECURITY,
+            rule_texts::NO_COUPONS,
+            rule_texts::NO_INDICES,
         ]),
-        Ground::FlowLimit => said(&[reasons::COUNTED_AHEAD, reasons::COUNTED_SETTLED]),
-        Ground::ValuationDay => said(&[reasons::VALUATION_DAY]),
+        Ground::FlowLimit => said(&[rule_texts::COUNTED_AHEAD, rule_texts::COUNTED_SETTLED]),
+        Ground::ValuationDay => said(&[rule_texts::VALUATION_DAY]),
         _ => vec![],
     }
 }

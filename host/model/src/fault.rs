@@ -1,7 +1,6 @@
 //! Why a book or a record is refused, in words.
 
-use crate::answer::{Ground, Refusal};
-use crate::words::Unit;
+use crate::{Ground, Refusal, Unit};
 use std::error::Error;
 use std::fmt::{self, Display, Formatter};
 

@@ -1,18 +1,14 @@
 //! The fields that rules are on: what each counts, its limits, its meaning.
 
-use crate::block::{Curve, Head, Header, Node, TradeBlock, BLOCK, HEADER, TRADES};
-use crate::found::{About, Found};
-use crate::limits::{
-    AMOUNTS, CLEAN_PRICES, CURVES, FULL_BLOCK, INDICES, MAX_ACCRUED, MAX_BLOCKS, MAX_COMPONENT,
-    MAX_COUPON, MAX_CURRENCIES, MAX_DAY, MAX_RANGE, MAX_RATE, MAX_STEPS, NODES, PAYMENTS, PERIODS,
-    TERMS,
+use crate::limits::*;
+use crate::words::Unit::Coefficient;
+use crate::words::Unit::Money;
+use crate::words::Unit::Percent;
+use crate::words::Unit::Whole;
+use crate::{
+    About, Curve, Found, Head, Header, Node, Quote, Record, TradeBlock, Unit, BLOCK, CURRENCIES,
+    FIRST_SIDE, HEADER, INDEXED_COUPONS, NO_SECURITY, OUTRIGHT, SECOND_SIDE, SPECIFIED, TRADES,
 };
-use crate::quote::Quote;
-use crate::record::{
-    Record, FIRST_SIDE, INDEXED_COUPONS, NO_SECURITY, OUTRIGHT, SECOND_SIDE, SPECIFIED,
-};
-use crate::report::CURRENCIES;
-use crate::words::Unit::{self, Coefficient, Money, Percent, Whole};
 use std::ops::RangeInclusive;
 
 /// A field of a record, a block, a node or a quote.

@@ -1,11 +1,9 @@
 //! The dated cash flows of a trade.
 
-use crate::record::{
-    Record, COUPONS, FIRST_SIDE, INDEXED_COUPONS, OUTRIGHT, POOL, SECOND_SIDE, SINGLE_PAYMENT,
-    SPECIFIED,
+use crate::{
+    half_up, Record, COUPONS, FIRST_SIDE, INDEXED_COUPONS, ONE, OUTRIGHT, POOL, SECOND_SIDE,
+    SINGLE_PAYMENT, SPECIFIED, YEAR,
 };
-use crate::rounding::half_up;
-use crate::units::{ONE, YEAR};
 
 const WITHHOLDING_PERCENT: u128 = 15;
 
@@ -65,24 +63,11 @@ pub fn signs_of(record: &Record) -> Option<Signs> {
         .map(|line| line.3)
 }
 
-/// A quoted price, without what has accrued.
-#[derive(Clone, Copy, Debug)]
-pub struct Clean(pub u32);
-
-/// The price that is settled.
-#[derive(Clone, Copy, Debug)]
-pub struct Dirty(u128);
-
-impl Clean {
-    /// The dirty price.
-    pub fn plus_accrued(self, accrued: u32) -> Dirty {
-        Dirty(u128::from(self.0) + u128::from(accrued))
-    }
-}
-
-/// What an outright settles for.
-pub fn settlement_cash(nominal: u64, price: Dirty) -> u128 {
-    half_up(u128::from(nominal) * price.0, ONE.into())
+/// What an outright settles for: the price is the clean one with what has
+/// accrued.
+pub fn settlement_cash(nominal: u64, clean_price: u32, accrued: u32) -> u128 {
+    let price = u128::from(clean_price) + u128::from(accrued);
+    half_up(u128::from(nominal) * price, ONE.into())
 }
 
 /// Interest and withholding of a repo.
@@ -193,8 +178,8 @@ pub fn named_flows(record: &Record) -> Vec<(Leg, CashFlow)> {
 
 fn first_leg(record: &Record) -> u128 {
     if record.is_repo() {
-        return record.repo_cash.into();
+        record.repo_cash.into()
+    } else {
+        settlement_cash(record.nominal, record.price_or_rate, record.accrued)
     }
-    let price = Clean(record.price_or_rate).plus_accrued(record.accrued);
-    settlement_cash(record.nominal, price)
 }

@@ -16,15 +16,13 @@ pub mod edit;
 pub mod exact;
 pub mod explain;
 pub mod fault;
+mod field_rule;
 mod fields;
 pub mod flows;
-mod found;
 pub mod list;
 pub mod margin;
 pub mod number;
-mod reasons;
-mod require;
-pub mod rounding;
+mod rule_texts;
 pub mod rules;
 pub mod scenario;
 pub mod search;
@@ -33,12 +31,11 @@ pub mod units;
 pub mod valuation;
 pub mod words;
 
-pub use accept::book_fault;
-pub use calls::{append, bootstrap, check, margin, present_value, preview, read};
-pub use calls::{statement, strike};
-pub use explain::rule;
-pub use fault::{BookFault, Fault, Part};
-pub use list::list;
-pub use rules::{quote_fault, record_fault};
-pub use seddolki_format::{answer, block, date, layout, limits, page, quote, record, report};
-pub use seddolki_format::{Answer, Date, Ground, Quote, Refusal};
+pub use self::{
+    accept::*, big::*, bootstrap::*, bounds::*, calls::*, curve::*, discount::*, edit::*, exact::*,
+    explain::*, fault::*, flows::*, list::*, margin::*, number::*, rules::*, scenario::*,
+    search::*, statement::*, units::*, valuation::*, words::*,
+};
+pub use calls::present_value;
+pub(crate) use field_rule::*;
+pub use seddolki_format::*;

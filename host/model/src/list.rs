@@ -1,8 +1,6 @@
 //! The text of the list program.
 
-use crate::accept::accept;
-use crate::margin::report;
-use crate::report::{currency_name, Report};
+use crate::{accept, currency_name, report, Report};
 
 /// What the list program prints for a book's bytes. The day is the book's own.
 pub fn list(bytes: &[u8]) -> String {

@@ -1,11 +1,10 @@
 //! The figures of a curve and of a currency, and the report.
 
-use crate::accept::Book;
-use crate::block::Curve;
-use crate::discount::{present_value, tolerance, Factors};
-use crate::flows::CashFlow;
-use crate::report::{CurrencyFigures, CurveFigures, Report, REPORT};
-use crate::valuation::Valuation;
+use crate::discount::present_value;
+use crate::{
+    tolerance, Book, CashFlow, CurrencyFigures, Curve, CurveFigures, Factors, Report, Valuation,
+    REPORT,
+};
 
 /// The base and the losses of a curve, by its flows' present values.
 pub fn valuation(curve: &Curve, flows: &[CashFlow]) -> Valuation {

@@ -8,15 +8,9 @@ mod days;
 mod form;
 mod lengthening;
 
-use crate::answer::Ground;
-use crate::block::Curve;
-use crate::fault::Fault;
 use crate::fields::CASH;
-use crate::found::Tell;
-use crate::quote::Quote;
-use crate::reasons::BOND_PAYMENTS;
-use crate::record::Record;
-use crate::require::require;
+use crate::rule_texts::BOND_PAYMENTS;
+use crate::{require, Curve, Fault, Ground, Quote, Record, Tell};
 
 /// Tests a record of a book with these curves.
 pub fn accept_record(record: &Record, curves: &[Curve]) -> Result<(), Ground> {

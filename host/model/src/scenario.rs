@@ -1,7 +1,6 @@
 //! The scenarios of a curve and the nodes that they stress.
 
-use crate::block::{Curve, Node};
-use crate::limits::MAX_RATE;
+use crate::{Curve, Node, MAX_RATE};
 
 /// A coefficient, in hundredths, for each component.
 pub type Scenario = [i64; 3];

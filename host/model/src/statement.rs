@@ -1,10 +1,6 @@
 //! The account statement: the page that is filed with a book.
 
-use crate::accept::Book;
-use crate::margin::report;
-use crate::page::LINE;
-use crate::record::Record;
-use crate::report::{currency_name, CurrencyFigures, CurveFigures};
+use crate::{currency_name, report, Book, CurrencyFigures, CurveFigures, Record, LINE};
 use seddolki_format::text::{decimal_with, MONEY};
 
 /// Columns of an amount.

@@ -1,9 +1,6 @@
 //! The base value and the losses of a curve, by any way of pricing.
 
-use crate::block::{Curve, Node};
-use crate::curve::rate_on;
-use crate::flows::CashFlow;
-use crate::scenario::{scenarios, stressed_nodes};
+use crate::{rate_on, scenarios, stressed_nodes, CashFlow, Curve, Node};
 
 /// A curve's base value, and its loss in each scenario of its list.
 #[derive(Clone, Debug, PartialEq, Eq)]

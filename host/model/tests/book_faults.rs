@@ -3,27 +3,16 @@
 mod samples;
 
 use samples::single_payment;
-use seddolki_model::block::{assemble, seal, Curve, Node, BLOCK, CURVE};
-use seddolki_model::{book_fault, BookFault, Date, Ground};
+use seddolki_model::{assemble, book_fault, seal, BookFault, Curve, Date, Ground, Node, BLOCK};
 
 /// A curve in TRY of three nodes.
 fn curve(id: u8) -> Curve {
-    let mut curve = Curve {
-        kind: CURVE,
-        number: id.into(),
-        id,
-        currency: 1,
-        node_count: 3,
-        ..Curve::default()
+    let node = |day| Node {
+        day,
+        rate: 132_500,
+        components: [250_000, 0, 0],
     };
-    for (place, day) in curve.places.iter_mut().zip([30, 365, 730]) {
-        *place = Node {
-            day,
-            rate: 132_500,
-            components: [250_000, 0, 0],
-        };
-    }
-    curve
+    Curve::new(id, 1, &[30, 365, 730].map(node))
 }
 
 /// A book of three curves and 13 trades, in blocks 0 to 5.

@@ -4,11 +4,10 @@
 mod flat_curve;
 
 use flat_curve::flat_curve;
-use seddolki_model::block::{assemble, Curve, Node, BLOCK};
-use seddolki_model::bootstrap::{bond_value, new_node};
-use seddolki_model::quote::{bond_of, BOND};
-use seddolki_model::record::Record;
-use seddolki_model::{bootstrap, check, Answer, Date, Ground, Quote};
+use seddolki_model::{
+    assemble, bond_of, bond_value, bootstrap, check, new_node, Answer, Curve, Date, Ground, Node,
+    Quote, Record, BLOCK, BOND,
+};
 
 /// The day that the books are for.
 const DAY: Date = Date::from_days(9_815);

@@ -1,12 +1,8 @@
 //! The daily factor and the exact value against their definitions.
 
-use seddolki_model::big::Big;
-use seddolki_model::bounds::Bounds;
-use seddolki_model::discount::{daily, power, yearly};
-use seddolki_model::exact::exact_value;
-use seddolki_model::number::Number;
-use seddolki_model::search::largest;
-use seddolki_model::units::{ONE, UNIT, YEAR};
+use seddolki_model::{
+    daily, exact_value, largest, power, yearly, Big, Bounds, Number, ONE, UNIT, YEAR,
+};
 
 #[test]
 fn daily_factor_is_the_largest() {

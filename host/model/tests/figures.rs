@@ -1,10 +1,8 @@
 //! The checked figures of document 01.
 
-use seddolki_model::block::Node;
-use seddolki_model::curve::rate_on;
-use seddolki_model::flows::{interest_and_withholding, second_leg};
-use seddolki_model::scenario::coefficients;
-use seddolki_model::{present_value, Answer};
+use seddolki_model::{
+    coefficients, interest_and_withholding, present_value, rate_on, second_leg, Answer, Node,
+};
 
 fn value(amount: u64, rate: u64, day: u64) -> u64 {
     let answer = present_value(amount, rate, day, &mut 0);

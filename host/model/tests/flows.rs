@@ -1,9 +1,8 @@
 //! Flows of each kind of trade, worked by hand.
 
-use seddolki_model::flows::{cash_flows, CashFlow};
-use seddolki_model::record::{
-    Record, COUPONS, FIRST_SIDE, INDEXED_COUPONS, OUTRIGHT, POOL, SECOND_SIDE, SINGLE_PAYMENT,
-    SPECIFIED,
+use seddolki_model::{
+    cash_flows, CashFlow, Record, COUPONS, FIRST_SIDE, INDEXED_COUPONS, OUTRIGHT, POOL,
+    SECOND_SIDE, SINGLE_PAYMENT, SPECIFIED,
 };
 
 const SECURITY_CURVE: u8 = 2;

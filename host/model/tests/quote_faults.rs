@@ -1,10 +1,6 @@
 //! What a refused quote is told, example by example.
 
-use seddolki_model::block::{Curve, Node};
-use seddolki_model::quote::bond_of;
-use seddolki_model::record::Record;
-use seddolki_model::rules::accept_quote;
-use seddolki_model::{quote_fault, Ground, Quote};
+use seddolki_model::{accept_quote, bond_of, quote_fault, Curve, Ground, Node, Quote, Record};
 
 fn curve(days: &[u16]) -> Curve {
     let mut curve = Curve {

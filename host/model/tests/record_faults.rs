@@ -3,9 +3,7 @@
 mod samples;
 
 use samples::single_payment;
-use seddolki_model::block::Curve;
-use seddolki_model::record::Record;
-use seddolki_model::{record_fault, Ground};
+use seddolki_model::{record_fault, Curve, Ground, Record};
 
 /// Two curves in TRY and one in USD.
 fn curves() -> [Curve; 3] {

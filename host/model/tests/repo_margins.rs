@@ -5,13 +5,10 @@
 mod flat_curve;
 
 use flat_curve::flat_curve;
-use seddolki_model::accept::{accept, Book};
-use seddolki_model::block::{assemble, BLOCK};
-use seddolki_model::exact::exact_valuation;
-use seddolki_model::layout::Layout;
-use seddolki_model::record::{Record, COUPONS, FIRST_SIDE, SECOND_SIDE, SPECIFIED};
-use seddolki_model::report::Report;
-use seddolki_model::{margin, Date};
+use seddolki_model::{
+    accept, assemble, exact_valuation, margin, Book, Date, Layout, Record, Report, BLOCK, COUPONS,
+    FIRST_SIDE, SECOND_SIDE, SPECIFIED,
+};
 
 /// The day that the books are for.
 const DAY: Date = Date::from_days(9_815);

@@ -1,12 +1,9 @@
 //! Payments inside and behind a repo's term, worked by hand.
 
-use seddolki_model::block::Curve;
-use seddolki_model::flows::{cash_flows, payment_counts, CashFlow};
-use seddolki_model::record::{
-    Record, COUPONS, FIRST_SIDE, INDEXED_COUPONS, POOL, SECOND_SIDE, SINGLE_PAYMENT, SPECIFIED,
+use seddolki_model::{
+    accept_record, cash_flows, payment_counts, CashFlow, Curve, Ground, Record, COUPONS,
+    FIRST_SIDE, INDEXED_COUPONS, POOL, SECOND_SIDE, SINGLE_PAYMENT, SPECIFIED,
 };
-use seddolki_model::rules::accept_record;
-use seddolki_model::Ground;
 
 const CASH_CURVE: u8 = 1;
 const SECURITY_CURVE: u8 = 2;

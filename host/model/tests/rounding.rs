@@ -7,15 +7,11 @@ mod samples;
 
 use flat_curve::flat_curve;
 use samples::single_payment;
-use seddolki_model::accept::accept;
-use seddolki_model::block::{assemble, Curve, BLOCK};
-use seddolki_model::discount::discount_factor;
-use seddolki_model::exact::{exact_valuation, exact_value};
-use seddolki_model::layout::Layout;
-use seddolki_model::record::{Record, FIRST_SIDE, SECOND_SIDE};
-use seddolki_model::report::{CurveFigures, Report};
-use seddolki_model::rounding::half_up;
-use seddolki_model::{margin, present_value, preview, Answer, Date};
+use seddolki_model::{
+    accept, assemble, discount_factor, exact_valuation, exact_value, half_up, margin,
+    present_value, preview, Answer, Curve, CurveFigures, Date, Layout, Record, Report, BLOCK,
+    FIRST_SIDE, SECOND_SIDE,
+};
 
 /// The day that the books are for.
 const DAY: Date = Date::from_days(9_815);

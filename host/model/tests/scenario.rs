@@ -1,9 +1,8 @@
 //! Scenarios, stressed nodes and the worst loss, worked by hand.
 
-use seddolki_model::block::{Curve, Node};
-use seddolki_model::curve::rate_on;
-use seddolki_model::scenario::{coefficients, scenarios, stressed_nodes, Scenario};
-use seddolki_model::valuation::Valuation;
+use seddolki_model::{
+    coefficients, rate_on, scenarios, stressed_nodes, Curve, Node, Scenario, Valuation,
+};
 
 fn node(day: u16, rate: u32, components: [i32; 3]) -> Node {
     Node {

@@ -1,6 +1,6 @@
 //! The searches find what trying every number would.
 
-use seddolki_model::search::{largest, smallest};
+use seddolki_model::{largest, smallest};
 
 const LIMIT: u64 = 40;
 

@@ -7,10 +7,10 @@ mod samples;
 
 use flat_curve::flat_curve;
 use samples::single_payment;
-use seddolki_model::block::{assemble, Curve, BLOCK};
-use seddolki_model::page::{LINE, PAGE};
-use seddolki_model::record::{Record, COUPONS, INDEXED_COUPONS, OUTRIGHT, POOL, SPECIFIED};
-use seddolki_model::{statement, Answer, Date, Ground, Refusal};
+use seddolki_model::{
+    assemble, statement, Answer, Curve, Date, Ground, Record, Refusal, BLOCK, COUPONS,
+    INDEXED_COUPONS, LINE, OUTRIGHT, PAGE, POOL, SPECIFIED,
+};
 
 /// The day that the books are for.
 const DAY: Date = Date::from_days(9_815);

@@ -6,13 +6,10 @@ mod samples;
 
 use flat_curve::flat_curve;
 use samples::single_payment;
-use seddolki_model::block::{assemble, seal, Curve, BLOCK};
-use seddolki_model::layout::Layout;
-use seddolki_model::page::LINE;
-use seddolki_model::quote::bond_of;
-use seddolki_model::record::{Record, RECORD};
-use seddolki_model::{append, bootstrap, check, list, margin, preview, read, statement, strike};
-use seddolki_model::{Answer, Date, Ground, Quote};
+use seddolki_model::{
+    append, assemble, bond_of, bootstrap, check, list, margin, preview, read, seal, statement,
+    strike, Answer, Curve, Date, Ground, Layout, Quote, Record, BLOCK, LINE, RECORD,
+};
 
 /// The first, the last, and days that fill one byte to four.
 const DAYS: [u32; 8] = [0, 1, 255, 9_815, 65_536, 1 << 24, 0x0102_0304, u32::MAX];

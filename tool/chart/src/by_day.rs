@@ -1,11 +1,13 @@
 //! Curves by day above cash flows by day.
 
+use crate::heading::Heading;
 use crate::legend::legend;
 use crate::numbers::units;
-use crate::page::{Area, Drawn};
+use crate::page::{page, Area, Drawn};
 use crate::panel::{Axis, Panel, Point};
 use crate::scale::Scale;
 use crate::style::{Look, Marker, BLUE, ORANGE};
+use plotters::style::RGBColor;
 
 /// A node of a curve.
 #[derive(Clone, Copy, Debug)]
@@ -17,7 +19,7 @@ pub struct Node {
 }
 
 /// The sums of a day's cash flows, in hundredths; a day once in a ladder.
-#[derive(Clone, Copy, Debug)]
+#[derive(Clone, Copy, Debug, Default)]
 pub struct DayFlows {
     /// From the valuation day.
     pub day: u32,
@@ -32,35 +34,39 @@ pub type Series<'a> = (&'a [Node], Look);
 
 /// Two panels, one above the other, along the same days.
 pub struct ByDay<'a> {
+    /// What is said above.
+    pub heading: &'a Heading,
     /// Each lies on those before it.
     pub curves: Vec<Series<'a>>,
     /// What the looks of the curves stand for.
     pub legend: &'a [(Look, String)],
     /// The cash flow ladder.
     pub flows: &'a [DayFlows],
-    /// Of the cash flows.
-    pub currency: &'a str,
 }
 
-/// The size of a page that these panels fill below a heading.
-pub const SIZE: (u32, u32) = (1200, 900);
+const SIZE: (u32, u32) = (1200, 900);
 
 const CURVES_HEIGHT: i32 = 460;
 
 impl ByDay<'_> {
-    pub fn draw(&self, area: &Area) -> Drawn {
+    /// The picture as SVG text; its title says what it shows.
+    pub fn draw(&self, what: &str) -> String {
+        page(SIZE, |area| {
+            let area = self.heading.draw(area, what)?;
+            self.draw_panels(&area)
+        })
+    }
+
+    fn draw_panels(&self, area: &Area) -> Drawn {
         let (upper, lower) = area.split_vertically(CURVES_HEIGHT);
-        let title = format!("cash flows, {}", self.currency);
+        let title = format!("cash flows, {}", self.heading.currency);
         let (rates, sums) = (self.rate_axis(), self.sum_axis(&title));
         let left = rates.breadth().max(sums.breadth());
         let last_day = self.last_day();
-        let days = Axis::roomy(
-            "days from the valuation day",
-            Scale::whole(last_day, 12),
-            0.01,
-        );
+        let title = "days from the valuation day";
+        let days = Axis::roomy(title, Scale::whole(last_day, 12), 0.01);
         let upper = legend(&upper, self.legend)?;
-        let lower = ladder_legend(&lower)?;
+        let lower = legend(&lower, &ladder_looks())?;
         let above = Panel::new(&upper, left, &days, &rates)?;
         let below = Panel::new(&lower, left, &days, &sums)?;
         self.draw_curves(above, last_day)?;
@@ -109,32 +115,24 @@ impl ByDay<'_> {
 
     fn draw_ladder(&self, mut panel: Panel) -> Drawn {
         let bars = |sum: fn(&DayFlows) -> f64| -> Vec<Point> {
-            let sums = self
-                .flows
-                .iter()
-                .map(|flows| (flows.day.into(), sum(flows)));
+            let flows = self.flows.iter();
+            let sums = flows.map(|flows| (flows.day.into(), sum(flows)));
             sums.filter(|(_, sum)| *sum != 0.0).collect()
         };
-        panel.bars(&bars(|flows| units(flows.incoming)), &incoming_look())?;
-        panel.bars(&bars(|flows| -units(flows.outgoing)), &outgoing_look())?;
+        let [(incoming, _), (outgoing, _)] = ladder_looks();
+        panel.bars(&bars(|flows| units(flows.incoming)), &incoming)?;
+        panel.bars(&bars(|flows| -units(flows.outgoing)), &outgoing)?;
         panel.zero()
     }
 }
 
-fn incoming_look() -> Look {
-    Look::new(BLUE, 1, Marker::Bar)
-}
-
-fn outgoing_look() -> Look {
-    Look::new(ORANGE, 1, Marker::Bar)
-}
-
-fn ladder_legend<'p>(area: &Area<'p>) -> Drawn<Area<'p>> {
-    let entries = [
-        (incoming_look(), "in, upwards".into()),
-        (outgoing_look(), "out, downwards".into()),
-    ];
-    legend(area, &entries)
+/// How sums in and sums out look.
+fn ladder_looks() -> [(Look, String); 2] {
+    let bar = |colour: RGBColor| Look::new(colour, 1, Marker::Bar);
+    [
+        (bar(BLUE), "in, upwards".into()),
+        (bar(ORANGE), "out, downwards".into()),
+    ]
 }
 
 /// The nodes, with the end nodes' rates carried on to both ends.

@@ -21,15 +21,7 @@ struct Measured {
     milliseconds: f64,
 }
 
-const HEADER: [&str; 7] = [
-    "grows",
-    "curves",
-    "trades",
-    "scenarios",
-    "flows",
-    "valuations",
-    "milliseconds",
-];
+const HEADER: &str = "grows,curves,trades,scenarios,flows,valuations,milliseconds";
 
 /// A count of a measured book.
 type Count = fn(&Measured) -> u32;
@@ -55,8 +47,8 @@ impl Growth {
             .flexible(true)
             .from_reader(table.as_bytes());
         let header = lines.headers().map_err(|error| error.to_string())?;
-        if header.iter().ne(HEADER) {
-            return Err(format!("the header is not {}", HEADER.join(",")));
+        if header.iter().ne(HEADER.split(',')) {
+            return Err(format!("the header is not {HEADER}"));
         }
         let line = |record: csv::Result<StringRecord>| {
             let record = record.map_err(|error| error.to_string())?;
@@ -65,10 +57,8 @@ impl Growth {
         };
         let measured: Vec<Measured> = lines.records().map(line).collect::<Result<_, _>>()?;
         let growth = Growth { measured };
-        match PANELS
-            .iter()
-            .find(|[(what, _), ..]| growth.of(what).is_empty())
-        {
+        let mut panels = PANELS.iter();
+        match panels.find(|[(what, _), ..]| growth.of(what).is_empty()) {
             Some([(what, _), ..]) => Err(format!("no line where {what} grow")),
             None => Ok(growth),
         }
@@ -93,10 +83,8 @@ impl Growth {
     fn draw_panel(&self, area: &Area, [grows, held @ ..]: &[(&str, Count); 3]) -> Drawn {
         let books = self.of(grows.0);
         let points = points(&books, grows.1);
-        let held: Vec<String> = held
-            .iter()
-            .filter_map(|held| constant(&books, held))
-            .collect();
+        let held = held.iter().filter_map(|held| constant(&books, held));
+        let held: Vec<String> = held.collect();
         let area = line(area, &held.join(", "), TEXT)?;
         let largest = books.iter().map(|book| grows.1(book)).max().unwrap_or(0);
         let across = Axis::roomy(grows.0, Scale::whole(largest.max(1), 7), 0.05);
@@ -112,24 +100,20 @@ impl Growth {
         let times = self.measured.iter().map(|book| book.milliseconds);
         let longest = times.fold(0.0, f64::max);
         let scale = Scale::new(0.0, if longest > 0.0 { longest } else { 1.0 }, 8);
-        let room = 0.05 * scale.length();
-        Axis {
-            title: "processor time, ms",
-            scale: scale.with_room(0.0, room),
-        }
+        Axis::with_room("processor time, ms", scale, [0.0, 0.05])
     }
 }
 
 impl Measured {
     fn read(record: &StringRecord) -> Result<Measured, String> {
-        if record.len() != HEADER.len() {
-            let (cells, due) = (record.len(), HEADER.len());
+        let names: Vec<&str> = HEADER.split(',').collect();
+        let (cells, due) = (record.len(), names.len());
+        if cells != due {
             return Err(format!("{cells} cells in place of {due}"));
         }
         let known = PANELS.map(|[(what, _), ..]| what);
-        let wrong = |column: usize, due: &str| {
-            format!("{} is {due}: {:?}", HEADER[column], &record[column])
-        };
+        let wrong =
+            |column: usize, due: &str| format!("{} is {due}: {:?}", names[column], &record[column]);
         let count = |column: usize| {
             let count = record[column].parse().ok().filter(|count| *count > 0);
             count.ok_or_else(|| wrong(column, "no count"))

@@ -10,10 +10,10 @@ use plotters::style::text_anchor::HPos;
 use seddolki_format::text::{decimal, MONEY};
 
 /// Losses by scenario, the first worst marked.
-#[derive(Clone, Copy, Debug)]
+#[derive(Clone, Debug)]
 pub struct Losses<'a> {
     /// What is said above.
-    pub heading: Heading<'a>,
+    pub heading: Heading,
     /// From scenario 0, in hundredths.
     pub losses: &'a [i64],
 }
@@ -68,11 +68,7 @@ impl Losses<'_> {
         let high = self.losses.iter().copied().fold(0, i64::max);
         let high = if low == high { 100 } else { high };
         let scale = Scale::new(units(low), units(high), 10);
-        let room = scale.length();
-        Axis {
-            title,
-            scale: scale.with_room(0.05 * room, 0.12 * room),
-        }
+        Axis::with_room(title, scale, [0.05, 0.12])
     }
 
     /// The first scenario with the largest loss.
@@ -87,11 +83,8 @@ impl Losses<'_> {
         let look = Look::new(VERMILLION, 3, Marker::Triangle(9));
         panel.line(vec![(point.0, 0.0), point], &look)?;
         panel.points(&[point], &look)?;
-        let currency = self.heading.currency;
-        let text = format!(
-            "worst: scenario {worst}, {} {currency}",
-            decimal(loss, MONEY)
-        );
+        let (amount, currency) = (decimal(loss, MONEY), self.heading.currency);
+        let text = format!("worst: scenario {worst}, {amount} {currency}");
         panel.label((point.0, point.1.max(0.0)), self.side(worst), &text)
     }
 

@@ -20,8 +20,13 @@ pub struct Axis<'t> {
 impl<'t> Axis<'t> {
     /// With room at both ends, a share of the scale's length.
     pub fn roomy(title: &'t str, scale: Scale, share: f64) -> Self {
-        let room = share * scale.length();
-        let scale = scale.with_room(room, room);
+        Axis::with_room(title, scale, [share, share])
+    }
+
+    /// With room below and above, shares of the scale's length.
+    pub fn with_room(title: &'t str, scale: Scale, [below, above]: [f64; 2]) -> Self {
+        let length = scale.length();
+        let scale = scale.with_room(below * length, above * length);
         Axis { title, scale }
     }
 

@@ -1,17 +1,16 @@
 //! A curve with its stressed curves, above its cash flow ladder.
 
-use crate::by_day::{ByDay, DayFlows, Node, SIZE};
+use crate::by_day::{ByDay, DayFlows, Node};
 use crate::heading::Heading;
-use crate::page::page;
 use crate::style::{over, under, Look, Marker, GREY};
 use plotters::prelude::Color;
 use seddolki_format::text::count;
 
 /// Rates by day of a curve and its stressed curves, and its cash flows by day.
-#[derive(Clone, Copy, Debug)]
+#[derive(Clone, Debug)]
 pub struct Rates<'a> {
     /// What is said above.
-    pub heading: Heading<'a>,
+    pub heading: Heading,
     /// The curve's own nodes.
     pub base: &'a [Node],
     /// The nodes of every stressed curve.
@@ -32,18 +31,14 @@ impl Rates<'_> {
             (stressed, count(self.stressed.len(), "stressed curve")),
         ];
         let all = self.stressed.iter().map(|nodes| (&nodes[..], stressed));
+        let own = [(self.base, under()), (self.worst, over())];
         let panels = ByDay {
-            curves: all
-                .chain([(self.base, under()), (self.worst, over())])
-                .collect(),
+            heading: &self.heading,
+            curves: all.chain(own).collect(),
             legend: &legend,
             flows: self.flows,
-            currency: self.heading.currency,
         };
-        page(SIZE, |area| {
-            let area = self.heading.draw(area, "rates and cash flows by day")?;
-            panels.draw(&area)
-        })
+        panels.draw("rates and cash flows by day")
     }
 }
 

@@ -1,4 +1,4 @@
-use seddolki_chart::{DayFlows, Lengthened, Node};
+use seddolki_chart::{DayFlows, Heading, Lengthened, Node};
 
 mod given;
 mod svg;
@@ -13,10 +13,11 @@ const NODE: &str = "new node: day 350, 11.9513%, components +1.0000% 0.0000% -1.
 /// A sound picture.
 fn drawn(before: &[Node], after: &[Node], flows: &[DayFlows]) -> Picture {
     let picture = Lengthened {
-        curve: "1 of account 4",
-        currency: "TRY",
-        bond: BOND,
-        node: NODE,
+        heading: Heading {
+            curve: "1 of account 4".into(),
+            currency: "TRY",
+            lines: [BOND, NODE].map(String::from),
+        },
         before,
         after,
         flows,

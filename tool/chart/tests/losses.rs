@@ -5,11 +5,12 @@ use svg::{Element, Picture, BLUE, VERMILLION};
 
 fn drawn(losses: &[i64]) -> Picture {
     let heading = Heading {
-        curve: "1",
+        curve: "1".into(),
         currency: "TRY",
-        base: "10,000.00",
-        worst_loss: "300.00",
-        worst: "worst of 7 scenarios: scenario 6, coefficients 3.00 0.00 0.00",
+        lines: [
+            "base 10,000.00, worst loss 300.00".into(),
+            "worst of 7 scenarios: scenario 6, coefficients 3.00 0.00 0.00".into(),
+        ],
     };
     Picture::sound(&Losses { heading, losses }.draw())
 }

@@ -6,13 +6,18 @@ mod svg;
 use given::{flows, nodes};
 use svg::{Picture, BLACK, BLUE, GREY, ORANGE, VERMILLION};
 
-const HEADING: Heading = Heading {
-    curve: "8",
-    currency: "TRY",
-    base: "-1,000,000,000,000.00",
-    worst_loss: "1,000,000,000,000.00",
-    worst: "worst of 343 scenarios: scenario 342, coefficients -100.00 -100.00 -100.00",
-};
+const LINES: [&str; 2] = [
+    "base -1,000,000,000,000.00, worst loss 1,000,000,000,000.00",
+    "worst of 343 scenarios: scenario 342, coefficients -100.00 -100.00 -100.00",
+];
+
+fn heading() -> Heading {
+    Heading {
+        curve: "8".into(),
+        currency: "TRY",
+        lines: LINES.map(String::from),
+    }
+}
 
 /// The nodes moved up, step by step.
 fn stressed(nodes: &[Node], count: u32) -> Vec<Vec<Node>> {
@@ -30,7 +35,7 @@ fn stressed(nodes: &[Node], count: u32) -> Vec<Vec<Node>> {
 /// A sound picture, of which the last stressed curve is the worst.
 fn drawn(base: &[Node], stressed: &[Vec<Node>], flows: &[DayFlows]) -> Picture {
     let rates = Rates {
-        heading: HEADING,
+        heading: heading(),
         base,
         stressed,
         worst: stressed.last().map_or(&[], Vec::as_slice),
@@ -132,7 +137,7 @@ fn titles_tell_figures_and_units() {
     for text in [
         "Curve 8, TRY: rates and cash flows by day",
         "base -1,000,000,000,000.00, worst loss 1,000,000,000,000.00",
-        HEADING.worst,
+        LINES[1],
         "rate, percent",
         "days from the valuation day",
         "cash flows, TRY",
@@ -181,11 +186,9 @@ fn extremes_are_drawn() {
 fn text_is_escaped_and_fits() {
     let long = "<worst> & \"so\" 'on'\u{1b}\n".repeat(20);
     let heading = Heading {
-        curve: "<1>",
+        curve: "<1>".into(),
         currency: "A&B",
-        base: "\"1\"",
-        worst_loss: "'2'",
-        worst: &long,
+        lines: ["base \"1\", worst loss '2'".into(), long],
     };
     let base = nodes(&[(1, 100_000), (4, 200_000)]);
     let rates = Rates {

@@ -1,28 +1,32 @@
 //! The commands and what they take.
 
-use crate::printed::form::Form;
+use crate::printed::Form;
 use clap::{Args, Parser, Subcommand, ValueEnum};
 use seddolki::{Date, Ground};
+use seddolki_text::curve_file;
 use std::path::PathBuf;
 
+/// A text of the help, by the name of its file.
+macro_rules! help {
+    ($name:literal) => {
+        include_str!(concat!("../help/", $name, ".txt"))
+    };
+}
+
 /// A back office's day, from an empty folder to a margin.
-pub const DAY: &str = "  seddolki template curves curves.txt
-  seddolki template trades trades.csv
-  seddolki new desk.book curves.txt
-  seddolki import desk.book trades.csv
-  seddolki margin desk.book";
+pub const DAY: &str = help!("day");
 
 /// What an exit status says.
-pub const STATUSES: &str = "  0  done
-  1  refused, by a ground of the engine, by a rule of what was put in, or by
-     whoever was asked
-  2  wrong usage
-  3  a file or the system failed; nothing has changed
+pub const STATUSES: &str = help!("statuses");
 
-An edit that is done ends with 0 also where word of it could not be printed.";
+/// What a valuation day is, and which commands test it.
+pub const VALUATION_DAY: &str = help!("valuation_day");
+
+/// Which trades look keyed twice, and what becomes of them.
+pub const DOUBLES: &str = help!("doubles");
 
 fn day_and_statuses() -> String {
-    format!("A day, from an empty folder to a margin:\n\n{DAY}\n\nExit status:\n\n{STATUSES}")
+    format!("A day, from an empty folder to a margin:\n\n{DAY}\nExit status:\n\n{STATUSES}")
 }
 
 /// Books of cash flows and their margin
@@ -84,24 +88,13 @@ pub enum Command {
 /// The columns of a trade, and which trades use them.
 fn columns() -> String {
     let meanings = seddolki_text::meanings(&seddolki_text::trade_columns());
-    format!("{meanings}\n{}", seddolki_text::uses())
-}
-
-/// What a preview shows, and the columns of a trade.
-fn preview_help() -> String {
-    format!("{}\n{}", crate::commands::preview::FORM, columns())
-}
-
-/// What becomes of a book's day, and how a file of curves is written.
-fn curves_help() -> String {
-    let file = seddolki_text::curve_file::FORM;
-    format!("{}\n{file}", crate::commands::curves::FORM)
+    format!("{meanings}\n{}", seddolki_text::USES)
 }
 
 /// The columns of a bond, and what becomes of it.
 fn bond_help() -> String {
     let meanings = seddolki_text::meanings(&seddolki_text::bond_columns());
-    format!("{meanings}\n{}", crate::commands::bootstrap::FORM)
+    format!("{meanings}\n{}", help!("bootstrap"))
 }
 
 /// Of every command that works on a day.
@@ -149,7 +142,7 @@ pub struct Template {
 }
 
 #[derive(Args, Debug)]
-#[command(after_help = seddolki_text::curve_file::FORM)]
+#[command(after_help = curve_file::FORM)]
 pub struct New {
     /// The book to make; a file that is there already stays
     pub book: PathBuf,
@@ -161,24 +154,24 @@ pub struct New {
     pub waiting: Waiting,
 }
 
-/// Of the commands that look for trades keyed twice.
-#[derive(Args, Clone, Copy, Debug)]
-pub struct Again {
-    /// Take a trade that looks keyed twice
-    #[arg(long)]
-    pub again: bool,
-}
-
 /// Of the commands that add trades.
 #[derive(Args, Clone, Copy, Debug)]
 pub struct Adding {
     /// Show the margin before and after, and ask whether to add
     #[arg(long)]
     pub preview: bool,
+    /// Take a trade that looks keyed twice
+    #[arg(long)]
+    pub again: bool,
+}
+
+/// Of the commands that edit a book.
+#[derive(Args, Clone, Debug)]
+pub struct Edited {
+    /// The book to change
+    pub book: PathBuf,
     #[command(flatten)]
     pub on: OnDay,
-    #[command(flatten)]
-    pub again: Again,
     #[command(flatten)]
     pub waiting: Waiting,
 }
@@ -186,8 +179,8 @@ pub struct Adding {
 #[derive(Args, Debug)]
 #[command(after_help = columns())]
 pub struct Append {
-    /// The book to change
-    pub book: PathBuf,
+    #[command(flatten)]
+    pub edited: Edited,
     /// Every column that the trade uses; the others are left out
     #[arg(required = true, value_name = "COLUMN=VALUE")]
     pub values: Vec<String>,
@@ -196,10 +189,10 @@ pub struct Append {
 }
 
 #[derive(Args, Debug)]
-#[command(after_help = format!("{}\n{}", crate::commands::import::FORM, columns()))]
+#[command(after_help = format!("{}\n{}", help!("import"), columns()))]
 pub struct Import {
-    /// The book to change
-    pub book: PathBuf,
+    #[command(flatten)]
+    pub edited: Edited,
     /// The file of trades; - is standard input
     pub trades: PathBuf,
     #[command(flatten)]
@@ -207,10 +200,10 @@ pub struct Import {
 }
 
 #[derive(Args, Debug)]
-#[command(after_help = preview_help())]
+#[command(after_help = format!("{}\n{}", help!("preview"), columns()))]
 pub struct Preview {
-    #[command(flatten)]
-    pub one: OneBook,
+    /// The book; - is standard input
+    pub book: PathBuf,
     /// Every column that the trade uses; the others are left out
     #[arg(value_name = "COLUMN=VALUE", required_unless_present = "trades")]
     pub values: Vec<String>,
@@ -226,56 +219,45 @@ pub struct Preview {
 #[derive(Args, Debug)]
 #[command(after_help = columns())]
 pub struct Amend {
-    /// The book to change
-    pub book: PathBuf,
+    #[command(flatten)]
+    pub edited: Edited,
     /// The trade's position as show lists it, from 0
     #[arg(value_parser = position)]
     pub position: usize,
     /// Columns that are left out stay as they are
     #[arg(required = true, value_name = "COLUMN=VALUE")]
     pub values: Vec<String>,
-    #[command(flatten)]
-    pub on: OnDay,
-    #[command(flatten)]
-    pub again: Again,
-    #[command(flatten)]
-    pub waiting: Waiting,
+    /// Take a trade that looks keyed twice
+    #[arg(long)]
+    pub again: bool,
 }
 
 #[derive(Args, Debug)]
 pub struct Strike {
-    /// The book to change
-    pub book: PathBuf,
+    #[command(flatten)]
+    pub edited: Edited,
     /// The trade's position as show lists it, from 0; those behind it move up
     #[arg(value_parser = position)]
     pub position: usize,
-    #[command(flatten)]
-    pub on: OnDay,
-    #[command(flatten)]
-    pub waiting: Waiting,
 }
 
 #[derive(Args, Debug)]
-#[command(after_help = curves_help())]
+#[command(after_help = format!("{}\n{}", help!("curves"), curve_file::FORM))]
 pub struct Curves {
-    /// The book to change
-    pub book: PathBuf,
+    #[command(flatten)]
+    pub edited: Edited,
     /// The file of curves; - is standard input
     pub file: PathBuf,
-    #[command(flatten)]
-    pub on: OnDay,
     /// Let trades keep their days, counted from another day
     #[arg(long)]
     pub keep_days: bool,
-    #[command(flatten)]
-    pub waiting: Waiting,
 }
 
 #[derive(Args, Debug)]
 #[command(after_help = bond_help())]
 pub struct Bootstrap {
-    /// The book to change; in a dry run - is standard input
-    pub book: PathBuf,
+    #[command(flatten)]
+    pub edited: Edited,
     /// Every column of the bond
     #[arg(required = true, value_name = "COLUMN=VALUE")]
     pub values: Vec<String>,
@@ -289,7 +271,7 @@ pub struct Bootstrap {
     #[arg(long, required = true, num_args = 3, value_names = ["FIRST", "SECOND", "THIRD"])]
     #[arg(allow_negative_numbers = true, action = clap::ArgAction::Set)]
     pub components: Vec<String>,
-    /// Show the new node, and leave the book as it is
+    /// Show the new node, and leave the book, which may be - for standard input
     #[arg(long)]
     pub dry_run: bool,
     /// Draw the curve before and after, an SVG picture, in a dry run
@@ -299,32 +281,14 @@ pub struct Bootstrap {
     #[arg(long, requires = "plot")]
     pub force: bool,
     #[command(flatten)]
-    pub on: OnDay,
-    #[command(flatten)]
-    pub waiting: Waiting,
-    #[command(flatten)]
     pub form: Form,
-}
-
-/// Books to read.
-#[derive(Args, Clone, Debug)]
-pub struct Books {
-    /// One book or several; - is standard input
-    #[arg(required = true, value_name = "BOOK")]
-    pub books: Vec<PathBuf>,
-}
-
-/// A book to read.
-#[derive(Args, Clone, Debug)]
-pub struct OneBook {
-    /// The book; - is standard input
-    pub book: PathBuf,
 }
 
 #[derive(Args, Debug)]
 pub struct Check {
-    #[command(flatten)]
-    pub books: Books,
+    /// One book or several; - is standard input
+    #[arg(required = true, value_name = "BOOK")]
+    pub books: Vec<PathBuf>,
     /// List the trades that look keyed twice, too
     #[arg(long)]
     pub doubles: bool,
@@ -333,19 +297,20 @@ pub struct Check {
 }
 
 #[derive(Args, Debug)]
-#[command(after_help = crate::commands::show::FORM)]
+#[command(after_help = help!("show"))]
 pub struct Show {
-    #[command(flatten)]
-    pub one: OneBook,
+    /// The book; - is standard input
+    pub book: PathBuf,
     #[command(flatten)]
     pub form: Form,
 }
 
 #[derive(Args, Debug)]
-#[command(after_help = crate::commands::margin::FIGURES)]
+#[command(after_help = help!("margin"))]
 pub struct Margin {
-    #[command(flatten)]
-    pub books: Books,
+    /// One book or several; - is standard input
+    #[arg(required = true, value_name = "BOOK")]
+    pub books: Vec<PathBuf>,
     #[command(flatten)]
     pub on: OnDay,
     #[command(flatten)]
@@ -353,10 +318,10 @@ pub struct Margin {
 }
 
 #[derive(Args, Debug)]
-#[command(after_help = crate::commands::statement::FORM)]
+#[command(after_help = help!("statement"))]
 pub struct Statement {
-    #[command(flatten)]
-    pub one: OneBook,
+    /// The book; - is standard input
+    pub book: PathBuf,
     /// The file to write; - is standard output
     #[arg(long, value_name = "FILE", default_value = "-")]
     pub to: PathBuf,
@@ -370,10 +335,10 @@ pub struct Statement {
 }
 
 #[derive(Args, Debug)]
-#[command(after_help = crate::commands::flows::FORM)]
+#[command(after_help = help!("flows"))]
 pub struct Flows {
-    #[command(flatten)]
-    pub one: OneBook,
+    /// The book; - is standard input
+    pub book: PathBuf,
     /// Only the curve with this id
     #[arg(long, value_name = "ID", value_parser = curve_id)]
     pub curve: Option<u8>,
@@ -386,8 +351,8 @@ pub struct Flows {
 
 #[derive(Args, Debug)]
 pub struct Losses {
-    #[command(flatten)]
-    pub one: OneBook,
+    /// The book; - is standard input
+    pub book: PathBuf,
     /// Only the curve with this id
     #[arg(long, value_name = "ID", value_parser = curve_id)]
     pub curve: Option<u8>,
@@ -412,8 +377,8 @@ pub struct Diff {
 
 #[derive(Args, Debug)]
 pub struct Export {
-    #[command(flatten)]
-    pub one: OneBook,
+    /// The book; - is standard input
+    pub book: PathBuf,
     /// The file to write; - is standard output
     #[arg(default_value = "-")]
     pub file: PathBuf,
@@ -429,8 +394,8 @@ pub struct Export {
 
 #[derive(Args, Debug)]
 pub struct Plot {
-    #[command(flatten)]
-    pub one: OneBook,
+    /// The book; - is standard input
+    pub book: PathBuf,
     /// The curve's id
     #[arg(value_parser = curve_id)]
     pub curve: u8,

@@ -2,19 +2,10 @@
 
 use crate::arguments::OnDay;
 use crate::ended::Ended;
-use crate::trades::refusal::by_ground;
+use crate::trades::by_ground;
 use chrono::{Datelike, Local, NaiveDate};
 use seddolki::{Book, Date, Ground, Record};
 use std::fmt::{self, Display, Formatter};
-
-/// What a valuation day is, and which commands test it.
-pub const RULE: &str = "\
-A book is for one day, its valuation day, from which its curves and trades count
-their days. new writes it, and so does curves, which brings a book to another
-day. append, import, preview, amend, strike, bootstrap, margin, statement and
-losses refuse a book that is not for today; with --day a book of that day is
-taken. The other commands take a book of any day. Today is the local date, as
-the time zone (TZ) has it.";
 
 /// The day that the engine is given.
 #[derive(Clone, Copy, Debug)]

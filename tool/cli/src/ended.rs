@@ -21,6 +21,14 @@ impl Ended {
         Ended::Refused(vec![line.into()])
     }
 
+    /// Wrong usage, where it is one.
+    pub fn misused(wrong: bool, reason: &str) -> Result<(), Self> {
+        match wrong {
+            true => Err(Ended::Misused(reason.into())),
+            false => Ok(()),
+        }
+    }
+
     pub fn status(&self) -> u8 {
         match self {
             Ended::Refused(_) => 1,

@@ -5,11 +5,11 @@
 mod arguments;
 mod commands;
 mod compared;
-mod cores;
 mod current_day;
 mod ended;
 mod figures;
 mod files;
+mod parallel;
 mod printed;
 mod trades;
 
@@ -42,7 +42,5 @@ fn help_or_misuse(error: &clap::Error) -> Result<u8, Ended> {
         )));
     }
     let text = text.trim_end().trim_start_matches("error: ");
-    let mut letters = text.chars();
-    let first = letters.next().map(|letter| letter.to_ascii_lowercase());
-    Err(Ended::Misused(first.into_iter().chain(letters).collect()))
+    Err(Ended::Misused(seddolki_store::in_sentence(text)))
 }

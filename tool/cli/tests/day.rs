@@ -1,4 +1,4 @@
-//! A back office's day, as the README and the help show it, and the rest of
+//! A back office's day, as the tool's README and the help show it, and the rest of
 //! the help.
 
 mod tool;
@@ -6,7 +6,7 @@ mod tool;
 use tool::today::{date_in, NOON};
 use tool::{example, Desk, Run, DAY_IN_WORDS, DONE, MISUSED, REFUSED};
 
-const README: &str = include_str!("../../../README.md");
+const README: &str = include_str!("../../README.md");
 
 /// The commands of the first list of five in a text, a line each.
 fn commands(text: &str) -> Vec<&str> {

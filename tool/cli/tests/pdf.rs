@@ -8,7 +8,6 @@ use seddolki_format::block::{valuation_day, Curve, BLOCK};
 use seddolki_format::layout::Layout;
 use seddolki_format::page::{LINE, PAGE};
 use std::ffi::OsStr;
-use std::io::{stderr, Write};
 use std::process::Command;
 use tool::{commands, finish, Desk, Run, DONE, FAILED, MISUSED};
 
@@ -199,10 +198,6 @@ fn words(text: &str) -> Vec<Vec<&str>> {
 
 #[test]
 fn the_real_program_puts_every_line_on_a4() {
-    if Command::new("gs").arg("--version").output().is_err() {
-        writeln!(stderr(), "gs is not there: no real PDF is made").unwrap();
-        return;
-    }
     let desk = full();
     assert_eq!(desk.done(&AS_PDF), TOLD);
     assert!(desk.read("page.pdf").starts_with(b"%PDF"));

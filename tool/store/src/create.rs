@@ -2,14 +2,14 @@
 
 use crate::failure::words;
 use crate::place::Place;
-use crate::{refuse_standard_stream, Failure, Patience, Written};
+use crate::{refuse_standard_stream, Failure, Patience};
 use std::fs;
 use std::io::ErrorKind;
 use std::path::Path;
 
 /// Makes a file that is not there yet: it appears whole or not at all, and
 /// never in another file's place.
-pub fn create(path: &Path, bytes: &[u8], patience: &Patience) -> Result<Written, Failure> {
+pub fn create(path: &Path, bytes: &[u8], patience: &Patience) -> Result<(), Failure> {
     refuse_standard_stream(path)?;
     let place = Place::of_new(path, patience)?;
     if let Ok(found) = fs::symlink_metadata(&place.target) {
@@ -33,5 +33,6 @@ pub fn create(path: &Path, bytes: &[u8], patience: &Patience) -> Result<Written,
         ),
         _ => Failure::new(path, words(&error)),
     })?;
-    Ok(place.finish())
+    place.finish();
+    Ok(())
 }

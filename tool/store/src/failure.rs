@@ -8,17 +8,19 @@ use std::path::Path;
 /// What went wrong with a file or the system, in words; nothing has changed.
 /// (What went into a stream before it failed can't be taken back.)
 #[derive(Debug)]
-pub struct Failure {
-    name: String,
-    reason: String,
-}
+pub struct Failure(String);
 
 impl Failure {
     /// What went wrong with the file at a path, and why.
     pub fn new(path: &Path, reason: impl fmt::Display) -> Failure {
-        Failure {
-            name: shown(path),
-            reason: reason.to_string(),
+        Failure(format!("{}: {reason}", shown(path)))
+    }
+
+    /// A failure where something is wrong.
+    pub(crate) fn when(wrong: bool, path: &Path, reason: impl fmt::Display) -> Result<(), Failure> {
+        match wrong {
+            true => Err(Failure::new(path, reason)),
+            false => Ok(()),
         }
     }
 
@@ -35,7 +37,7 @@ impl Failure {
 
 impl fmt::Display for Failure {
     fn fmt(&self, to: &mut fmt::Formatter) -> fmt::Result {
-        write!(to, "{}: {}", self.name, self.reason)
+        to.write_str(&self.0)
     }
 }
 
@@ -44,7 +46,11 @@ impl std::error::Error for Failure {}
 /// The system's words for an error, as part of a sentence.
 pub(crate) fn words(error: &io::Error) -> String {
     let text = error.to_string();
-    let text = text.split(" (os error").next().unwrap_or_default();
+    in_sentence(text.split(" (os error").next().unwrap_or_default())
+}
+
+/// A text as part of a sentence: its first letter is small.
+pub fn in_sentence(text: &str) -> String {
     let mut letters = text.chars();
     let first = letters.next().map(|letter| letter.to_ascii_lowercase());
     first.into_iter().chain(letters).collect()

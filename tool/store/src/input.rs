@@ -84,11 +84,8 @@ pub(crate) fn refuse_standard_output(name: &Path, file: &Metadata) -> Result<(),
     let opened = io::stdout().as_fd().try_clone_to_owned().map(File::from);
     let printed = opened.and_then(|opened| opened.metadata());
     let printed = printed.ok().as_ref().and_then(stored);
-    if printed.is_some() && printed == stored(file) {
-        let reason = "is the file that standard output goes to";
-        return Err(Failure::new(name, reason));
-    }
-    Ok(())
+    let same = printed.is_some() && printed == stored(file);
+    Failure::when(same, name, "is the file that standard output goes to")
 }
 
 /// At most so many bytes and one more.

@@ -4,35 +4,24 @@
 #![forbid(unsafe_code)]
 
 mod create;
-mod edit;
+mod existing_file;
 mod failure;
 mod input;
 mod lock;
 mod output;
+mod path_display;
 mod place;
-mod shown;
-mod standing;
 mod temporary;
 
 pub use create::create;
-pub use edit::edit;
-pub use failure::Failure;
+pub use existing_file::edit;
+pub use failure::{in_sentence, Failure};
 pub use input::{read_at_most, read_line, Input, STANDARD_INPUT};
 pub use lock::Patience;
 pub use output::{print, write_output};
-pub use shown::{is_hidden, shown};
+pub use path_display::{is_hidden, shown};
 
 use std::path::Path;
-
-/// What became of a file that is written: it has its new bytes, for certain.
-#[derive(Debug)]
-#[must_use]
-pub struct Written<T = ()> {
-    /// What the change gave besides the bytes.
-    pub result: T,
-    /// What went wrong after the file had its new bytes, in words.
-    pub warning: Option<String>,
-}
 
 /// Whether a path stands for a standard stream.
 fn is_standard_stream(path: &Path) -> bool {
@@ -41,9 +30,6 @@ fn is_standard_stream(path: &Path) -> bool {
 
 /// Where only a file will do.
 fn refuse_standard_stream(path: &Path) -> Result<(), Failure> {
-    if is_standard_stream(path) {
-        let reason = "stands for no file here; ./- is the file of that name";
-        return Err(Failure::new(path, reason));
-    }
-    Ok(())
+    let reason = "stands for no file here; ./- is the file of that name";
+    Failure::when(is_standard_stream(path), path, reason)
 }

@@ -8,11 +8,13 @@ use std::path::Path;
 use std::thread::sleep;
 use std::time::{Duration, Instant};
 
-/// How long a command waits for another one's lock, and where it says so.
+/// How long a command waits for another one's lock, and where it says what
+/// stops nothing.
 pub struct Patience<'a> {
     /// After this time it gives up.
     pub wait: Duration,
-    /// Called with one line, once, if there is something to wait for.
+    /// Called with one line, once, if there is something to wait for, and with
+    /// what went wrong after a file had its new bytes.
     pub say: &'a dyn Fn(&str),
 }
 
@@ -64,6 +66,11 @@ fn holder(folder: &File) -> Option<u32> {
     let metadata = folder.metadata().ok()?;
     let (major, minor) = device_numbers(metadata.dev());
     let locked = format!("{major:02x}:{minor:02x}:{}", metadata.ino());
+    // while other processes change their locks one may be passed over
+    (0..3).find_map(|_| listed_holder(&locked))
+}
+
+fn listed_holder(locked: &str) -> Option<u32> {
     let locks = fs::read_to_string("/proc/locks").ok()?;
     locks.lines().find_map(|line| {
         let fields: Vec<&str> = line.split_whitespace().collect();

@@ -1,7 +1,7 @@
 //! Where a command's output goes.
 
-use crate::standing::{refuse_other_kinds, Standing};
-use crate::{create, is_standard_stream, Failure, Input, Patience, Written};
+use crate::existing_file::{refuse_other_kinds, ExistingFile};
+use crate::{create, is_standard_stream, Failure, Input, Patience};
 use std::fs::{self, File, Metadata, OpenOptions};
 use std::io::{self, ErrorKind, Write};
 use std::os::fd::AsFd;
@@ -16,10 +16,10 @@ pub fn write_output(
     force: bool,
     inputs: &[&Input],
     patience: &Patience,
-) -> Result<Written, Failure> {
+) -> Result<(), Failure> {
     if is_standard_stream(path) {
         // an input that it goes to was refused when it was read
-        return print(bytes).map(|()| THROUGH);
+        return print(bytes);
     }
     let found = match fs::metadata(path) {
         Err(error) if error.kind() == ErrorKind::NotFound => {
@@ -32,14 +32,11 @@ pub fn write_output(
     }
     refuse_other_kinds(path, &found)?;
     refuse_input(path, &found, inputs)?;
-    if !force {
-        let reason = "exists already; --force writes over it";
-        return Err(Failure::new(path, reason));
-    }
-    let standing = Standing::open(path, patience)?;
+    Failure::when(!force, path, "exists already; --force writes over it")?;
+    let existing = ExistingFile::open(path, patience)?;
     // by now it may be another one
-    refuse_input(path, &standing.metadata, inputs)?;
-    standing.replace(bytes)
+    refuse_input(path, &existing.metadata, inputs)?;
+    existing.replace(bytes)
 }
 
 /// Writes to standard output. A reader that closes its end early wants no
@@ -58,23 +55,15 @@ fn is_stream(found: &Metadata) -> bool {
 }
 
 /// Writes to a FIFO or a device.
-fn write_stream(path: &Path, bytes: &[u8], inputs: &[&Input]) -> Result<Written, Failure> {
+fn write_stream(path: &Path, bytes: &[u8], inputs: &[&Input]) -> Result<(), Failure> {
     let opened = OpenOptions::new().write(true).open(path);
     let stream = opened.map_err(Failure::of(path))?;
     let metadata = stream.metadata().map_err(Failure::of(path))?;
-    if !is_stream(&metadata) {
-        let reason = "was replaced meanwhile by another program";
-        return Err(Failure::new(path, reason));
-    }
+    let reason = "was replaced meanwhile by another program";
+    Failure::when(!is_stream(&metadata), path, reason)?;
     refuse_input(path, &metadata, inputs)?;
-    write_through(path, stream, bytes).map(|()| THROUGH)
+    write_through(path, stream, bytes)
 }
-
-/// Nothing is left to go wrong when a stream has taken its bytes.
-const THROUGH: Written = Written {
-    result: (),
-    warning: None,
-};
 
 fn write_through(name: &Path, mut stream: File, bytes: &[u8]) -> Result<(), Failure> {
     match stream.write_all(bytes) {

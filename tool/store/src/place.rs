@@ -3,7 +3,7 @@
 use crate::failure::words;
 use crate::input::identity;
 use crate::temporary::{refuse_temporary_name, remove_leftovers, Temporary};
-use crate::{shown, Failure, Patience, Written};
+use crate::{shown, Failure, Patience};
 use std::fs::{self, File};
 use std::io;
 use std::os::unix::ffi::OsStrExt;
@@ -17,6 +17,8 @@ pub(crate) struct Place<'a> {
     /// The path through all links.
     pub(crate) target: PathBuf,
     folder: File,
+    /// Where a warning goes.
+    say: &'a dyn Fn(&str),
 }
 
 /// Follows the links of a path.
@@ -24,16 +26,16 @@ type Resolve = fn(&Path) -> io::Result<PathBuf>;
 
 impl<'a> Place<'a> {
     /// The place of a file that is there.
-    pub(crate) fn of_standing(given: &'a Path, patience: &Patience) -> Result<Self, Failure> {
+    pub(crate) fn of_existing(given: &'a Path, patience: &Patience<'a>) -> Result<Self, Failure> {
         Place::lock(given, |path| fs::canonicalize(path), patience)
     }
 
     /// The place of a file that is to be there.
-    pub(crate) fn of_new(given: &'a Path, patience: &Patience) -> Result<Self, Failure> {
+    pub(crate) fn of_new(given: &'a Path, patience: &Patience<'a>) -> Result<Self, Failure> {
         Place::lock(given, resolve_new, patience)
     }
 
-    fn lock(given: &'a Path, resolve: Resolve, patience: &Patience) -> Result<Self, Failure> {
+    fn lock(given: &'a Path, resolve: Resolve, patience: &Patience<'a>) -> Result<Self, Failure> {
         let target = resolve(given).map_err(Failure::of(given))?;
         refuse_temporary_name(given, &target)?;
         let opened = File::open(folder_of(&target));
@@ -43,11 +45,10 @@ impl<'a> Place<'a> {
             given,
             target,
             folder,
+            say: patience.say,
         };
-        if !place.is_still_named(resolve).map_err(Failure::of(given))? {
-            let reason = "was moved while the lock was waited for";
-            return Err(Failure::new(given, reason));
-        }
+        let named = place.is_still_named(resolve).map_err(Failure::of(given))?;
+        Failure::when(!named, given, "was moved while the lock was waited for")?;
         remove_leftovers(folder_of(&place.target));
         Ok(place)
     }
@@ -73,17 +74,12 @@ impl<'a> Place<'a> {
     }
 
     /// What is left to do when the file has its new bytes and its name.
-    pub(crate) fn finish(&self) -> Written {
-        let warning = self.folder.sync_all().err().map(|error| {
-            format!(
-                "{}: is written, but a power failure might undo it: its folder can't be synced: {}",
-                shown(self.given),
-                words(&error)
-            )
-        });
-        Written {
-            result: (),
-            warning,
+    pub(crate) fn finish(&self) {
+        if let Err(error) = self.folder.sync_all() {
+            let (name, words) = (shown(self.given), words(&error));
+            let reason =
+                "is written, but a power failure might undo it: its folder can't be synced";
+            (self.say)(&format!("{name}: {reason}: {words}"));
         }
     }
 }

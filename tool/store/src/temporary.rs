@@ -68,11 +68,8 @@ fn is_leftover(entry: &DirEntry) -> bool {
 
 /// Refuses a file whose name the next edit would take for a leftover's.
 pub(crate) fn refuse_temporary_name(given: &Path, file: &Path) -> Result<(), Failure> {
-    if file.file_name().is_some_and(is_temporary_name) {
-        let reason = "has a name that is kept for temporary files";
-        return Err(Failure::new(given, reason));
-    }
-    Ok(())
+    let kept = file.file_name().is_some_and(is_temporary_name);
+    Failure::when(kept, given, "has a name that is kept for temporary files")
 }
 
 fn is_temporary_name(name: &OsStr) -> bool {

@@ -6,8 +6,8 @@ use common::{
     again_unprivileged, edit_to, folder_with, given, is_root, make_fifo, mode, names, reason, run,
     set_mode, state, Faults, AT_ONCE, MOST, NOBODY,
 };
-use seddolki_store::{edit, Failure};
-use std::cell::Cell;
+use seddolki_store::{edit, Failure, Patience};
+use std::cell::{Cell, RefCell};
 use std::fs;
 use std::io;
 use std::os::unix::fs::{chown, symlink, MetadataExt};
@@ -23,9 +23,7 @@ fn an_edit_gives_the_new_bytes_and_the_result() {
         assert_eq!(old, b"old");
         Ok::<_, Failure>((b"longer than old".to_vec(), 7))
     });
-    let edited = edited.unwrap();
-    assert_eq!(edited.result, 7);
-    assert_eq!(edited.warning, None);
+    assert_eq!(edited.unwrap(), 7);
     assert_eq!(fs::read(&book).unwrap(), b"longer than old");
     assert_eq!(names(folder.path()), ["desk.book"]);
 }
@@ -226,16 +224,19 @@ fn a_symbolic_link_to_a_book_stays_a_link() {
 #[test]
 fn what_fails_after_the_change_is_a_warning() {
     if let Some(book) = given() {
-        let warning = edit_to(&book, b"new").unwrap().warning.unwrap();
-        assert_eq!(
-            warning,
-            format!(
-                "{}: is written, but a power failure might undo it: \
-                 its folder can't be synced: input/output error",
-                book.display()
-            )
+        let told = RefCell::new(vec![]);
+        let patience = Patience {
+            wait: Duration::ZERO,
+            say: &|line| told.borrow_mut().push(line.to_owned()),
+        };
+        let change = |_: &[u8]| Ok::<_, Failure>((b"new".to_vec(), ()));
+        edit(&book, MOST, &patience, change).unwrap();
+        let due = format!(
+            "{}: is written, but a power failure might undo it: \
+             its folder can't be synced: input/output error",
+            book.display()
         );
-        return;
+        return assert_eq!(told.take(), [due]);
     }
     let test = what_fails_after_the_change_is_a_warning;
     let (folder, book) = folder_with("desk.book", b"old");
@@ -315,7 +316,7 @@ fn access_lists_and_attributes_stay() {
     ];
     kept.retain(|(name, value)| is_given(&book, name, value));
     let before = mode(&book);
-    assert_eq!(edit_to(&book, b"new").unwrap().warning, None);
+    edit_to(&book, b"new").unwrap();
     assert_eq!(
         (fs::read(&book).unwrap(), mode(&book)),
         (b"new".to_vec(), before)
@@ -329,7 +330,7 @@ fn access_lists_and_attributes_stay() {
 fn a_folder_s_access_list_does_not_come_to_its_books() {
     let (folder, book) = folder_with("desk.book", b"old");
     is_given(folder.path(), "system.posix_acl_default", &access_list());
-    assert_eq!(edit_to(&book, b"new").unwrap().warning, None);
+    edit_to(&book, b"new").unwrap();
     let list = xattr::list(&book).unwrap();
     let lists: Vec<_> = list
         .filter(|name| name == "system.posix_acl_access")

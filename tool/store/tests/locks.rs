@@ -3,7 +3,7 @@
 mod common;
 
 use common::{again, edit_to, folder_with, given, names, reason, state, AT_ONCE, MOST};
-use seddolki_store::{create, edit, read_at_most, write_output, Failure, Patience, Written};
+use seddolki_store::{create, edit, read_at_most, write_output, Failure, Patience};
 use std::cell::RefCell;
 use std::fs::{self, File};
 use std::io::{self, BufRead, BufReader, Read};
@@ -39,7 +39,7 @@ fn process_in_message(folder: &Path, process: u32) -> String {
     }
 }
 
-fn append(book: &Path, byte: u8, patience: &Patience) -> Result<Written, Failure> {
+fn append(book: &Path, byte: u8, patience: &Patience) -> Result<(), Failure> {
     edit(book, MOST, patience, |old| {
         Ok(([old, &[byte]].concat(), ()))
     })
@@ -55,7 +55,7 @@ fn it_waits_until_the_lock_is_free_and_says_so() {
     );
     let outputs = |name: &str| folder.path().join(name);
     fs::write(outputs("old.csv"), b"").unwrap();
-    type Command<'a> = &'a dyn Fn(&Patience) -> Result<Written, Failure>;
+    type Command<'a> = &'a dyn Fn(&Patience) -> Result<(), Failure>;
     let commands: [(&str, Command); 3] = [
         ("desk.book", &|patience| append(&book, b'!', patience)),
         ("new.book", &|patience| {
@@ -204,7 +204,7 @@ fn many_writers_lose_nothing() {
 fn refused_while_waiting(
     folder: &Path,
     done: &dyn Fn(),
-    command: &dyn Fn(&Patience) -> Result<Written, Failure>,
+    command: &dyn Fn(&Patience) -> Result<(), Failure>,
 ) -> String {
     let held = RefCell::new(Some(hold(folder)));
     let say = |_: &str| {

@@ -14,7 +14,7 @@ use std::path::Path;
 fn a_new_file_has_its_bytes_and_the_usual_mode() {
     let folder = open_folder();
     let book = folder.path().join("desk.book");
-    assert_eq!(create(&book, b"new", &AT_ONCE).unwrap().warning, None);
+    create(&book, b"new", &AT_ONCE).unwrap();
     assert_eq!(fs::read(&book).unwrap(), b"new");
     assert_eq!(fs::metadata(&book).unwrap().nlink(), 1);
     assert_eq!(names(folder.path()), ["desk.book"]);

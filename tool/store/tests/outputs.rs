@@ -6,7 +6,7 @@ use common::{
     folder_with, is_root, make_fifo, mode, names, open_folder, reason, set_mode, state, AT_ONCE,
     MOST,
 };
-use seddolki_store::{read_at_most, write_output, Failure, Input, Written};
+use seddolki_store::{read_at_most, write_output, Failure, Input};
 use std::fs;
 use std::io::Read;
 use std::os::fd::AsRawFd;
@@ -15,7 +15,7 @@ use std::os::unix::net::UnixListener;
 use std::path::Path;
 use std::thread;
 
-fn output(path: &Path, force: bool, inputs: &[&Input]) -> Result<Written, Failure> {
+fn output(path: &Path, force: bool, inputs: &[&Input]) -> Result<(), Failure> {
     write_output(path, b"new", force, inputs, &AT_ONCE)
 }
 
@@ -32,7 +32,7 @@ fn refused(path: &Path, force: bool, inputs: &[&Input]) -> String {
 fn an_output_goes_to_a_new_file() {
     let folder = open_folder();
     let path = folder.path().join("out.csv");
-    assert_eq!(output(&path, false, &[]).unwrap().warning, None);
+    output(&path, false, &[]).unwrap();
     assert_eq!(fs::read(&path).unwrap(), b"new");
     let usual = folder.path().join("usual");
     fs::write(&usual, b"").unwrap();
@@ -49,7 +49,7 @@ fn over_an_existing_file_only_by_force() {
         "out.csv: exists already; --force writes over it"
     );
     let before = fs::metadata(&path).unwrap();
-    assert_eq!(output(&path, true, &[]).unwrap().warning, None);
+    output(&path, true, &[]).unwrap();
     let after = fs::metadata(&path).unwrap();
     assert_eq!(fs::read(&path).unwrap(), b"new");
     assert_eq!(mode(&path), 0o640);
@@ -127,7 +127,7 @@ fn a_fifo_is_written_through() {
             let fifo = fifo.clone();
             move || fs::read(fifo).unwrap()
         });
-        assert_eq!(output(path, false, &[]).unwrap().warning, None);
+        output(path, false, &[]).unwrap();
         assert_eq!(reader.join().unwrap(), b"new");
         assert!(fs::metadata(&fifo).unwrap().file_type().is_fifo());
         assert_eq!(state(&fifo).0, before);

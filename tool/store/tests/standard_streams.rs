@@ -41,9 +41,7 @@ fn copy(input: &Path, output: &Path) -> Result<(), Failure> {
     let input = read_at_most(input, MOST)?;
     // in the program's buffer until then
     print!("{}", std::env::var("BEFORE").unwrap_or_default());
-    let written = write_output(output, &input.bytes, true, &[&input], &AT_ONCE)?;
-    assert_eq!(written.warning, None);
-    Ok(())
+    write_output(output, &input.bytes, true, &[&input], &AT_ONCE)
 }
 
 fn copier(input: &str, output: &str) -> Command {

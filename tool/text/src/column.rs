@@ -4,8 +4,8 @@ use crate::columns::{prices, trade_columns, COLUMNS};
 use crate::decimal::{plain, Decimals};
 use crate::fault::{shown, Fault};
 use crate::quantity::Quantity;
-use crate::unknown::no_columns;
-use crate::words::{a_trade_of, phases, Word};
+use crate::trade_words::{a_trade_of, phases, Word};
+use crate::unknown_columns::no_columns;
 use seddolki_format::record::{OUTRIGHT, POOL};
 use seddolki_format::text::listed;
 use seddolki_format::Record;
@@ -14,10 +14,13 @@ use seddolki_format::Record;
 #[derive(Clone, Copy, Debug)]
 pub enum Unit {
     /// One of the words that the trade may have by its kind and phase.
-    Words(fn(&Record) -> &'static [Word]),
+    Words(Words),
     /// A number.
     Number(Quantity),
 }
+
+/// The words that a trade may have.
+type Words = fn(&Record) -> &'static [Word];
 
 /// A column: a field of the record as people write it.
 #[derive(Debug)]
@@ -125,15 +128,18 @@ impl Column {
         decimals: Decimals,
     ) -> Result<(), String> {
         if !self.fits(record.kind) {
-            return Err(unfit(text, record.kind));
+            let trade = a_trade_of(record.kind).unwrap_or("this trade");
+            let (text, prices) = (shown(text), listed(prices(record.kind), "and"));
+            return Err(format!(
+                "{text} is not for {trade}, which has {prices}: leave it empty"
+            ));
         }
         match self.unit {
             Unit::Words(words) => self.fill_word(record, text, words),
             Unit::Number(quantity) => {
                 let quantity = self.limited(quantity, record.kind);
-                quantity.read(text, decimals, |number| {
-                    self.set(record, u64::try_from(number).ok()?)
-                })
+                let mut field = |number: i64| self.set(record, number.try_into().ok()?);
+                quantity.read(text, decimals, &mut field)
             }
         }
     }
@@ -170,12 +176,7 @@ impl Column {
         }
     }
 
-    fn fill_word(
-        &self,
-        record: &mut Record,
-        text: &str,
-        words: fn(&Record) -> &'static [Word],
-    ) -> Result<(), String> {
+    fn fill_word(&self, record: &mut Record, text: &str, words: Words) -> Result<(), String> {
         let word = text.to_ascii_lowercase().replace('_', " ");
         let number = |words: &[Word]| {
             let found = words.iter().find(|(name, _)| *name == word);
@@ -208,13 +209,4 @@ fn of_kind(kind: u8) -> Record {
 
 fn named(words: &[Word]) -> String {
     listed(words.iter().map(|(word, _)| word), "or")
-}
-
-fn unfit(text: &str, kind: u8) -> String {
-    let trade = a_trade_of(kind).unwrap_or("this trade");
-    let prices = listed(prices(kind), "and");
-    format!(
-        "{} is not for {trade}, which has {prices}: leave it empty",
-        shown(text)
-    )
 }

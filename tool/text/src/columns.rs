@@ -3,17 +3,19 @@
 use crate::column::{Column, Unit};
 use crate::decimal::PERCENT;
 use crate::quantity::Quantity;
-use crate::words::{kinds, securities, sides};
+use crate::trade_words::{kinds, securities, sides};
 use seddolki_format::limits::{
     CLEAN_PRICES, CURVES, INDICES, MAX_ACCRUED, MAX_COUPON, MAX_RATE, PAYMENTS, PERIODS, TERMS,
 };
 use seddolki_format::record::{OUTRIGHT, POOL, SPECIFIED};
 use seddolki_format::Record;
 
-macro_rules! column {
-    ($name:expr, $field:ident, $unit:expr, $used:expr, $meaning:literal) => {
-        Column {
-            name: $name,
+/// A row for each column: its name, the record's field, how it is written, which
+/// trades use it, and what it means.
+macro_rules! columns {
+    ($($name:ident $field:ident ($unit:expr) ($used:expr) $meaning:literal)*) => {
+        [$(Column {
+            name: stringify!($name),
             meaning: $meaning,
             unit: $unit,
             field: stringify!($field),
@@ -23,33 +25,27 @@ macro_rules! column {
                 record.$field = value.try_into().ok()?;
                 Some(())
             },
-        }
+        }),*]
     };
 }
 
 const fn whole(low: u64, high: u64) -> Unit {
-    decimal(0, low, high)
+    Unit::Number(Quantity::new(0, low as i64, high as i64))
 }
 
-const fn decimal(places: u32, low: u64, high: u64) -> Unit {
-    Unit::Number(Quantity::new(places, low as i64, high as i64))
+const fn percent(low: u64, high: u64) -> Unit {
+    Unit::Number(Quantity::new(PERCENT, low as i64, high as i64))
 }
 
-const CURVE: Unit = whole(*CURVES.start() as u64, *CURVES.end() as u64);
+const AMOUNT: Unit = Unit::Number(Quantity::AMOUNT);
 const VALUE_DAY: Unit = Unit::Number(Quantity::day(0));
 const PAYMENT_DAY: Unit = Unit::Number(Quantity::day(1));
+const CURVE: Unit = whole(*CURVES.start() as u64, *CURVES.end() as u64);
+const TERM: Unit = whole(*TERMS.start() as u64, *TERMS.end() as u64);
+const PERIOD: Unit = whole(*PERIODS.start() as u64, *PERIODS.end() as u64);
+const COUNT: Unit = whole(*PAYMENTS.start() as u64, *PAYMENTS.end() as u64);
 const INDEX: Unit = whole(*INDICES.start() as u64, *INDICES.end() as u64);
-const AMOUNT: Unit = Unit::Number(Quantity::AMOUNT);
-const PRICE: Unit = decimal(
-    PERCENT,
-    *CLEAN_PRICES.start() as u64,
-    *CLEAN_PRICES.end() as u64,
-);
-
-const CLEAN_PRICE: &str = "clean_price";
-const ACCRUED: &str = "accrued";
-const REPO_RATE: &str = "repo_rate";
-const REPO_CASH: &str = "repo_cash";
+const PRICE: Unit = percent(*CLEAN_PRICES.start() as u64, *CLEAN_PRICES.end() as u64);
 
 fn always(_: &Record) -> bool {
     true
@@ -64,136 +60,29 @@ fn has_first_value_day(record: &Record) -> bool {
 }
 
 /// In the order in which a dealer would fill them, the kind first.
-pub static COLUMNS: [Column; 20] = [
-    column!("kind", kind, Unit::Words(kinds), always, "of trade"),
-    column!("side", side, Unit::Words(sides), always, "of the account"),
-    column!(
-        "phase",
-        phase,
-        whole(1, 3),
-        Record::is_repo,
-        "of a repo, at most 2 for a specified one"
-    ),
-    column!(
-        "cash_curve",
-        cash_curve,
-        CURVE,
-        always,
-        "id of the curve for cash"
-    ),
-    column!(
-        "security",
-        security,
-        Unit::Words(securities),
-        always,
+pub static COLUMNS: [Column; 20] = columns! {
+    kind kind (Unit::Words(kinds)) (always) "of trade"
+    side side (Unit::Words(sides)) (always) "of the account"
+    phase phase (whole(1, 3)) (Record::is_repo) "of a repo, at most 2 for a specified one"
+    cash_curve cash_curve (CURVE) (always) "id of the curve for cash"
+    security security (Unit::Words(securities)) (always)
         "what the security pays, none in phase 1 of a pool repo"
-    ),
-    column!(
-        "security_curve",
-        security_curve,
-        CURVE,
-        Record::has_security,
-        "id of the curve for its payments"
-    ),
-    column!(
-        "nominal",
-        nominal,
-        AMOUNT,
-        Record::has_security,
-        "of the security"
-    ),
-    column!(
-        "value_day_1",
-        value_day_1,
-        VALUE_DAY,
-        has_first_value_day,
-        "of settlement or the first leg"
-    ),
-    column!(
-        "value_day_2",
-        value_day_2,
-        VALUE_DAY,
-        Record::is_repo,
-        "of a repo's second leg"
-    ),
-    column!(
-        "term",
-        term,
-        whole(*TERMS.start() as u64, *TERMS.end() as u64),
-        Record::is_repo,
-        "of a repo in days"
-    ),
-    column!(
-        "first_payment_day",
-        first_payment_day,
-        PAYMENT_DAY,
-        Record::has_security,
-        "of the security"
-    ),
-    column!(
-        "period",
-        period,
-        whole(*PERIODS.start() as u64, *PERIODS.end() as u64),
-        Record::has_coupons,
-        "days from coupon to coupon"
-    ),
-    column!(
-        "payments",
-        payments,
-        whole(*PAYMENTS.start() as u64, *PAYMENTS.end() as u64),
-        Record::has_coupons,
-        "how many coupons"
-    ),
-    column!(
-        "coupon",
-        coupon,
-        decimal(PERCENT, 0, MAX_COUPON as u64),
-        Record::has_coupons,
-        "percent per period"
-    ),
-    column!(
-        CLEAN_PRICE,
-        price_or_rate,
-        PRICE,
-        is_outright,
-        "percent, of an outright"
-    ),
-    column!(
-        ACCRUED,
-        accrued,
-        decimal(PERCENT, 0, MAX_ACCRUED as u64),
-        is_outright,
-        "percent, of an outright"
-    ),
-    column!(
-        REPO_CASH,
-        repo_cash,
-        AMOUNT,
-        Record::is_repo,
-        "of a repo's first leg"
-    ),
-    column!(
-        REPO_RATE,
-        price_or_rate,
-        decimal(PERCENT, 0, MAX_RATE),
-        Record::is_repo,
-        "percent a year, of a repo"
-    ),
-    column!(
-        "settlement_index",
-        settlement_index,
-        INDEX,
-        Record::is_indexed,
-        "of indexed coupons"
-    ),
-    column!(
-        "issue_index",
-        issue_index,
-        INDEX,
-        Record::is_indexed,
-        "of indexed coupons"
-    ),
-];
+    security_curve security_curve (CURVE) (Record::has_security) "id of the curve for its payments"
+    nominal nominal (AMOUNT) (Record::has_security) "of the security"
+    value_day_1 value_day_1 (VALUE_DAY) (has_first_value_day) "of settlement or the first leg"
+    value_day_2 value_day_2 (VALUE_DAY) (Record::is_repo) "of a repo's second leg"
+    term term (TERM) (Record::is_repo) "of a repo in days"
+    first_payment_day first_payment_day (PAYMENT_DAY) (Record::has_security) "of the security"
+    period period (PERIOD) (Record::has_coupons) "days from coupon to coupon"
+    payments payments (COUNT) (Record::has_coupons) "how many coupons"
+    coupon coupon (percent(0, MAX_COUPON as u64)) (Record::has_coupons) "percent per period"
+    clean_price price_or_rate (PRICE) (is_outright) "percent, of an outright"
+    accrued accrued (percent(0, MAX_ACCRUED as u64)) (is_outright) "percent, of an outright"
+    repo_cash repo_cash (AMOUNT) (Record::is_repo) "of a repo's first leg"
+    repo_rate price_or_rate (percent(0, MAX_RATE)) (Record::is_repo) "percent a year, of a repo"
+    settlement_index settlement_index (INDEX) (Record::is_indexed) "of indexed coupons"
+    issue_index issue_index (INDEX) (Record::is_indexed) "of indexed coupons"
+};
 
 /// All columns, each of which some trade uses.
 pub fn trade_columns() -> Vec<&'static Column> {
@@ -202,24 +91,16 @@ pub fn trade_columns() -> Vec<&'static Column> {
 
 /// The columns that a coupon bond has by itself, without a trade.
 pub fn bond_columns() -> Vec<&'static Column> {
-    let all = COLUMNS.iter();
-    all.filter(|column| BOND.contains(&column.field)).collect()
+    let names = "nominal first_payment_day period payments coupon";
+    names.split(' ').filter_map(Column::named).collect()
 }
-
-const BOND: [&str; 5] = [
-    "nominal",
-    "first_payment_day",
-    "period",
-    "payments",
-    "coupon",
-];
 
 /// The columns that price a trade of a kind, and no trade of another; none
 /// while the kind is not known.
 pub(crate) fn prices(kind: u8) -> &'static [&'static str] {
     match kind {
-        OUTRIGHT => &[CLEAN_PRICE, ACCRUED],
-        POOL | SPECIFIED => &[REPO_RATE, REPO_CASH],
+        OUTRIGHT => &["clean_price", "accrued"],
+        POOL | SPECIFIED => &["repo_rate", "repo_cash"],
         _ => &[],
     }
 }
@@ -254,12 +135,7 @@ mod tests {
                 assert_eq!(Column::of_field(&record, field).unwrap().field, *field);
             }
             let price = Column::of_field(&record, "price_or_rate").unwrap();
-            let due = if kind == OUTRIGHT {
-                CLEAN_PRICE
-            } else {
-                REPO_RATE
-            };
-            assert_eq!(price.name, due);
+            assert_eq!(price.name, prices(kind)[0]);
         }
         assert!(Column::of_field(&record, "zero").is_none());
     }

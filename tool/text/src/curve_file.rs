@@ -1,25 +1,14 @@
 //! Curves in a text file.
 
-use crate::curve_draft::Draft;
+use crate::curve_reader::CurveReader;
 use crate::decimal::{plain, Decimals, COEFFICIENT, PERCENT};
 use crate::fault::{faultless, Fault};
-use crate::file::content;
+use crate::file_content::content;
 use seddolki_format::block::{Curve, Node};
 use seddolki_format::report::CURRENCIES;
 
 /// How a file of curves is written.
-pub const FORM: &str = "\
-A file of curves has a line for each of these, words and numbers a blank apart;
-what follows a # is passed over. The account is given once, and each curve has
-one line of steps, one of ranges and 2 to 24 nodes.
-
-  account NUMBER
-  curve CURRENCY             TRY, USD or EUR; the lines below it are its own
-  steps COUNT COUNT COUNT    steps of its three components, 0 to 3 each
-  ranges NUMBER x 3          the largest coefficient of each, as 1.50
-  node DAY RATE NUMBER x 3   days from the valuation day, rate in percent, and
-                             how far each component moves it, in percent
-";
+pub const FORM: &str = include_str!("../help/curve_file.txt");
 
 /// What a file of curves holds.
 #[derive(Clone, Debug, Default, PartialEq, Eq)]
@@ -50,16 +39,16 @@ pub struct CurveLines {
 /// # Errors
 /// The faults of all lines, then what is missing.
 pub fn read(bytes: &[u8]) -> Result<CurveFile, Vec<Fault>> {
-    let mut draft = Draft::default();
+    let mut reader = CurveReader::default();
     let mut faults = vec![];
     let bytes = content(bytes);
     for (number, line) in (1..).zip(bytes.split(|byte| *byte == b'\n')) {
-        let wrong = draft.take_line(number, line).err().unwrap_or_default();
+        let wrong = reader.take_line(number, line).err().unwrap_or_default();
         let wrong = wrong.into_iter();
         faults.extend(wrong.map(|message| Fault::new(message).on_line(number)));
     }
-    faults.extend(draft.missing());
-    faultless(draft.file(), faults)
+    faults.extend(reader.missing());
+    faultless(reader.file, faults)
 }
 
 /// Writes the curves of an accepted book; [`read`] gives the same.
@@ -72,14 +61,12 @@ fn curve_lines(curve: &Curve) -> String {
     let place = usize::from(curve.currency).checked_sub(1);
     let currency = place.and_then(|place| CURRENCIES.get(place));
     let nodes: Vec<String> = curve.nodes().iter().map(node_line).collect();
+    let steps = curve.steps.map(|steps| steps.to_string()).join(" ");
+    let ranges = curve.ranges.map(|r| plain(r, COEFFICIENT, Decimals::Point));
     format!(
-        "\ncurve {}\nsteps  {}\nranges {}\n#    day        rate  components\n{}",
+        "\ncurve {}\nsteps  {steps}\nranges {}\n#    day        rate  components\n{}",
         currency.unwrap_or(&"?"),
-        curve.steps.map(|steps| steps.to_string()).join(" "),
-        curve
-            .ranges
-            .map(|range| plain(range, COEFFICIENT, Decimals::Point))
-            .join(" "),
+        ranges.join(" "),
         nodes.concat()
     )
 }
@@ -87,8 +74,6 @@ fn curve_lines(curve: &Curve) -> String {
 fn node_line(node: &Node) -> String {
     let rate = plain(node.rate, PERCENT, Decimals::Point);
     let [level, slope, bend] = node.components.map(|c| plain(c, PERCENT, Decimals::Point));
-    format!(
-        "node {:<5} {rate:>9} {level:>9} {slope:>9} {bend:>9}\n",
-        node.day
-    )
+    let day = node.day;
+    format!("node {day:<5} {rate:>9} {level:>9} {slope:>9} {bend:>9}\n")
 }

@@ -3,7 +3,6 @@
 use crate::fault::shown;
 use seddolki_format::text::decimal_with;
 pub use seddolki_format::text::{decimal as format, COEFFICIENT, MONEY, PERCENT};
-use std::fmt::{self, Display, Formatter};
 
 /// Which sign stands before the decimals; the other one may separate
 /// thousands.
@@ -17,25 +16,12 @@ pub enum Decimals {
     Either,
 }
 
-/// The two signs of one way to write numbers.
-#[derive(Clone, Copy)]
-struct Signs {
-    decimal: char,
-    thousands: char,
-    name: &'static str,
-}
+/// One way to write numbers: the sign before decimals, the one between
+/// thousands, and what the first is called.
+type Signs = (char, char, &'static str);
 
-const POINT: Signs = Signs {
-    decimal: '.',
-    thousands: ',',
-    name: "point",
-};
-
-const COMMA: Signs = Signs {
-    decimal: ',',
-    thousands: '.',
-    name: "comma",
-};
+const POINT: Signs = ('.', ',', "point");
+const COMMA: Signs = (',', '.', "comma");
 
 impl Decimals {
     /// The signs to write with, and those of the other way.
@@ -56,15 +42,6 @@ pub struct NotTaken {
     pub advice: Option<String>,
 }
 
-impl Display for NotTaken {
-    fn fmt(&self, f: &mut Formatter<'_>) -> fmt::Result {
-        match &self.advice {
-            Some(advice) => write!(f, "{}: {advice}", self.reason),
-            None => write!(f, "{}", self.reason),
-        }
-    }
-}
-
 /// Why a text has no reading.
 enum NoReading {
     Form,
@@ -77,31 +54,26 @@ enum NoReading {
 /// taken.
 pub fn parse(text: &str, places: u32, decimals: Decimals) -> Result<i64, NotTaken> {
     let (own, other) = decimals.signs();
+    let (_, thousands, sign) = own;
     let either = decimals == Decimals::Either;
-    let doubtful = either || text.contains(own.thousands);
+    let doubtful = either || text.contains(thousands);
     let written = |number| grouped(number, places, decimals);
-    let not_taken = |reason: String, advice| NotTaken {
-        reason: format!("{} {reason}", shown(text)),
-        advice,
+    let (reason, advice) = match (reading(text, places, own), reading(text, places, other)) {
+        (Ok(one), Ok(two)) if doubtful && one != two => (
+            format!("can be read as {} or {}", written(one), written(two)),
+            Some("write it in one of these ways".into()),
+        ),
+        (Ok(number), _) => return Ok(number),
+        (Err(_), Ok(number)) if either => return Ok(number),
+        (Err(NoReading::Form), Ok(number)) => (
+            format!("is not a number with a decimal {sign}"),
+            Some(format!("write {}", written(number))),
+        ),
+        (Err(NoReading::Form), Err(why)) if either => (why.reason(places), None),
+        (Err(why), _) => (why.reason(places), None),
     };
-    match (reading(text, places, own), reading(text, places, other)) {
-        (Ok(one), Ok(two)) if doubtful && one != two => {
-            let reason = format!("can be read as {} or {}", written(one), written(two));
-            let advice = "write it in one of these ways";
-            Err(not_taken(reason, Some(advice.into())))
-        }
-        (Ok(number), _) => Ok(number),
-        (Err(_), Ok(number)) if either => Ok(number),
-        (Err(NoReading::Form), Ok(number)) => {
-            let reason = format!("is not a number with a decimal {}", own.name);
-            Err(not_taken(
-                reason,
-                Some(format!("write {}", written(number))),
-            ))
-        }
-        (Err(NoReading::Form), Err(why)) if either => Err(not_taken(why.reason(places), None)),
-        (Err(why), _) => Err(not_taken(why.reason(places), None)),
-    }
+    let reason = format!("{} {reason}", shown(text));
+    Err(NotTaken { reason, advice })
 }
 
 impl NoReading {
@@ -115,14 +87,14 @@ impl NoReading {
     }
 }
 
-fn reading(text: &str, places: u32, signs: Signs) -> Result<i64, NoReading> {
+fn reading(text: &str, places: u32, (sign, thousands, _): Signs) -> Result<i64, NoReading> {
     let unsigned = text.strip_prefix(['-', '+']).unwrap_or(text);
-    let (whole, decimals) = match unsigned.split_once(signs.decimal) {
+    let (whole, decimals) = match unsigned.split_once(sign) {
         Some((_, "")) => return Err(NoReading::Form),
         Some(parts) => parts,
         None => (unsigned, ""),
     };
-    let whole = without_separators(whole, signs.thousands).ok_or(NoReading::Form)?;
+    let whole = without_separators(whole, thousands).ok_or(NoReading::Form)?;
     if !decimals.bytes().all(|byte| byte.is_ascii_digit()) {
         return Err(NoReading::Form);
     }
@@ -131,11 +103,8 @@ fn reading(text: &str, places: u32, signs: Signs) -> Result<i64, NoReading> {
     }
     let digits = format!("{whole}{decimals:0<width$}", width = places as usize);
     let number: i64 = digits.parse().map_err(|_| NoReading::Size)?;
-    Ok(if text.starts_with('-') {
-        -number
-    } else {
-        number
-    })
+    let sign = if text.starts_with('-') { -1 } else { 1 };
+    Ok(sign * number)
 }
 
 /// Digits alone, or in groups of three behind the first, which does not
@@ -160,14 +129,14 @@ pub fn format_signed(number: impl Into<i128>, places: u32) -> String {
 
 /// The same by its decimal sign, `1.234.567,89` for a comma.
 pub fn grouped(number: impl Into<i128>, places: u32, decimals: Decimals) -> String {
-    let (signs, _) = decimals.signs();
-    decimal_with(signs.decimal, Some(signs.thousands), number, places)
+    let ((sign, thousands, _), _) = decimals.signs();
+    decimal_with(sign, Some(thousands), number, places)
 }
 
 /// The same as machines read it, `1234567.89` or `1234567,89`.
 pub fn plain(number: impl Into<i128>, places: u32, decimals: Decimals) -> String {
-    let (signs, _) = decimals.signs();
-    decimal_with(signs.decimal, None, number, places)
+    let ((sign, ..), _) = decimals.signs();
+    decimal_with(sign, None, number, places)
 }
 
 #[cfg(test)]
@@ -179,7 +148,8 @@ mod tests {
     const ALL: [Decimals; 3] = [Point, Comma, Either];
 
     fn message(text: &str, places: u32, decimals: Decimals) -> String {
-        parse(text, places, decimals).unwrap_err().to_string()
+        let NotTaken { reason, advice } = parse(text, places, decimals).unwrap_err();
+        reason + &advice.map_or(String::new(), |advice| format!(": {advice}"))
     }
 
     #[test]
@@ -244,22 +214,15 @@ mod tests {
             assert_eq!(message(large, 0, decimals), format!("{large} is too large"));
             assert_eq!(message("x", MONEY, decimals), "x is not a number");
         }
-        assert_eq!(
-            message("0.001", MONEY, Point),
-            "0.001 has more than 2 decimals"
-        );
-        assert_eq!(
-            message("0.001", MONEY, Either),
-            "0.001 has more than 2 decimals"
-        );
-        assert_eq!(
-            message("0,001", MONEY, Either),
-            "0,001 has more than 2 decimals"
-        );
-        assert_eq!(
-            message("5.001", MONEY, Point),
-            "5.001 has more than 2 decimals"
-        );
+        for (text, decimals) in [
+            ("0.001", Point),
+            ("0.001", Either),
+            ("0,001", Either),
+            ("5.001", Point),
+        ] {
+            let due = format!("{text} has more than 2 decimals");
+            assert_eq!(message(text, MONEY, decimals), due);
+        }
         assert_eq!(message("1.5", 0, Point), "1.5 is not a whole number");
         assert_eq!(message("1\n5", 0, Point), "1\\n5 is not a number");
     }
@@ -310,8 +273,8 @@ mod tests {
                 for (decimals, [own, other]) in
                     [(Point, readings), (Comma, [readings[1], readings[0]])]
                 {
-                    let (signs, _) = decimals.signs();
-                    let by_decimals = !text.contains(signs.thousands);
+                    let ((_, thousands, _), _) = decimals.signs();
+                    let by_decimals = !text.contains(thousands);
                     let due = own.filter(|n| by_decimals || other.is_none_or(|m| m == *n));
                     assert_eq!(parse(&text, places, decimals).ok(), due, "{text} {places}");
                     taken += u32::from(due.is_some());

@@ -58,53 +58,7 @@ fn wrapped(text: &str, width: usize) -> Vec<String> {
 /// Which columns the trades of each kind and phase use, when a security may
 /// pay, and examples that fit the curves of the template; in lines of at most
 /// 80 characters.
-pub fn uses() -> &'static str {
-    "\
-Every column that the trade uses has to be given: a 0 that is meant is written.
-By kind and phase it uses:
-
-                                outright  pool 1  pool 2       pool 3
-                                                  specified 1  specified 2
-  kind, side, cash_curve        yes       yes     yes          yes
-  phase                         no        yes     yes          yes
-  security                      yes       no      yes          yes
-  value_day_1                   yes       yes     yes          no
-  value_day_2, term             no        yes     yes          yes
-  clean_price, accrued          yes       no      no           no
-  repo_cash, repo_rate          no        yes     yes          yes
-
-and by security:
-
-                                              none  single   coupons  indexed
-                                                    payment           coupons
-  security_curve, nominal, first_payment_day  no    yes      yes      yes
-  period, payments, coupon                    no    no       yes      yes
-  settlement_index, issue_index               no    no       no       yes
-
-A security's first payment comes after value_day_1, or after the valuation day
-where the trade does not use that; it may come inside a repo's term. Before the
-first leg has settled, what is paid after value_day_1 and up to value_day_2 goes
-out for the repo member and comes in for the reverse-repo member, and what is
-paid later is no flow of the repo. Once it has settled (pool 3, specified 2),
-only what is paid after value_day_2 counts.
-
-A bond that is bought, a pool repo before its security is known, and a repo of a
-bond that pays a coupon inside the term:
-
-  seddolki append desk.book kind=outright side=buyer cash_curve=1 \\
-      security=coupons security_curve=1 nominal=5000000 value_day_1=1 \\
-      first_payment_day=120 period=182 payments=8 coupon=6.45 \\
-      clean_price=98.75 accrued=2.15
-
-  seddolki append desk.book kind=pool_repo side=repo phase=1 cash_curve=2 \\
-      value_day_1=1 value_day_2=8 term=7 repo_cash=3000000 repo_rate=13.2
-
-  seddolki append desk.book kind=specified_repo side=repo phase=1 cash_curve=2 \\
-      security=coupons security_curve=1 nominal=4000000 value_day_1=2 \\
-      value_day_2=93 term=91 first_payment_day=60 period=182 payments=5 \\
-      coupon=6.1 repo_cash=3900000 repo_rate=13.4
-"
-}
+pub const USES: &str = include_str!("../help/uses.txt");
 
 #[cfg(test)]
 mod tests {
@@ -112,7 +66,8 @@ mod tests {
     use crate::columns::{trade_columns, COLUMNS};
     use crate::trade::{record_of, Value};
     use crate::{curve_file, template};
-    use seddolki::{doubles, Book, Date};
+    use seddolki::{Book, Date};
+    use seddolki_doubles::doubles;
     use seddolki_format::assemble;
     use seddolki_format::record::SPECIFIED;
 
@@ -170,8 +125,8 @@ mod tests {
 
     #[test]
     fn the_tables_are_those_of_the_columns() {
-        assert_narrow(uses());
-        let (by_kind, by_security) = uses().split_once("and by security").unwrap();
+        assert_narrow(USES);
+        let (by_kind, by_security) = USES.split_once("and by security").unwrap();
         let forms = [
             vec![trade(OUTRIGHT, 0, 1)],
             vec![trade(POOL, 1, 0)],
@@ -204,7 +159,7 @@ mod tests {
         let day = Date::FIRST;
         let mut book = Book::from_bytes(assemble(file.account, day, &file.curves, &[]));
         let mut records = vec![];
-        for command in uses().split("seddolki append desk.book").skip(1) {
+        for command in USES.split("seddolki append desk.book").skip(1) {
             let words = command.split_whitespace().filter(|word| *word != "\\");
             let pairs = words.map(|word| word.split_once('=').unwrap());
             let named = pairs.map(|(name, value)| (Column::find(name).unwrap(), value));

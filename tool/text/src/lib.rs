@@ -26,26 +26,26 @@
 
 mod column;
 mod columns;
-mod curve_draft;
+mod csv_lines;
 pub mod curve_file;
+mod curve_reader;
 pub mod decimal;
 mod fault;
-mod file;
+mod file_content;
 mod help;
-mod lines;
 mod quantity;
 mod separator;
 pub mod template;
 pub mod trade;
+mod trade_words;
 pub mod trades_file;
-mod unknown;
-mod words;
+mod unknown_columns;
 
 pub use column::{Column, Unit};
 pub use columns::{bond_columns, trade_columns, COLUMNS};
 pub use decimal::Decimals;
 pub use fault::{shown, Fault};
-pub use help::{meanings, uses};
+pub use help::{meanings, USES};
 pub use quantity::{numbers, Quantity};
 pub use separator::Separator;
-pub use words::{a_trade_of, Word};
+pub use trade_words::{a_trade_of, Word};

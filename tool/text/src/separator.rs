@@ -22,19 +22,19 @@ impl Separator {
     pub const ALL: [Separator; 3] = [Separator::Comma, Separator::Semicolon, Separator::Tab];
 
     pub(crate) fn byte(self) -> u8 {
-        match self {
-            Separator::Comma => b',',
-            Separator::Semicolon => b';',
-            Separator::Tab => b'\t',
-        }
+        self.row().0
     }
 
     /// How the numbers between such separators are written.
     pub fn decimals(self) -> Decimals {
+        self.row().1
+    }
+
+    fn row(self) -> (u8, Decimals, &'static str) {
         match self {
-            Separator::Comma => Decimals::Point,
-            Separator::Semicolon => Decimals::Comma,
-            Separator::Tab => Decimals::Either,
+            Separator::Comma => (b',', Decimals::Point, "comma"),
+            Separator::Semicolon => (b';', Decimals::Comma, "semicolon"),
+            Separator::Tab => (b'\t', Decimals::Either, "tab"),
         }
     }
 
@@ -48,8 +48,7 @@ impl Separator {
             let text = str::from_utf8(line)
                 .ok()
                 .filter(|text| !text.contains('\0'));
-            let text = text.ok_or_else(|| not_utf_8(number))?;
-            Ok((number, text))
+            Ok((number, text.ok_or_else(|| not_utf_8(number))?))
         };
         let (number, line) = next()?;
         let Some(said) = said_by(line) else {
@@ -106,11 +105,7 @@ fn between_names(names: &str, said: Option<Separator>) -> Result<Separator, Faul
 
 impl Display for Separator {
     fn fmt(&self, f: &mut Formatter<'_>) -> fmt::Result {
-        f.write_str(match self {
-            Separator::Comma => "comma",
-            Separator::Semicolon => "semicolon",
-            Separator::Tab => "tab",
-        })
+        f.write_str(self.row().2)
     }
 }
 

@@ -4,7 +4,7 @@ use crate::column::Column;
 use crate::columns::{bond_columns, trade_columns, COLUMNS};
 use crate::decimal::Decimals;
 use crate::fault::{faultless, shown, Fault};
-use crate::words::{a_trade_of, phases};
+use crate::trade_words::{a_trade_of, phases};
 use seddolki_format::text::listed;
 use seddolki_format::{Quote, Record};
 
@@ -44,9 +44,10 @@ fn read_columns(
     values: &[Value],
     decimals: Decimals,
 ) -> Vec<Read> {
-    let read = |column: &&'static Column| {
-        let given = read_column(column, record, values, decimals);
-        (*column, given)
+    let read = |column: &&'static Column| match only_text(column, values) {
+        Ok("") => (*column, None),
+        Ok(text) => (*column, Some(column.fill(record, text, decimals))),
+        Err(message) => (*column, Some(Err(message))),
     };
     columns.iter().map(read).collect()
 }
@@ -62,19 +63,6 @@ fn faults(read: Vec<Read>, meant: &[Record], decimals: Decimals) -> Vec<Fault> {
         faults.extend(wrong.map(|message| Fault::new(message).in_column(column.name)));
     }
     faults
-}
-
-fn read_column(
-    column: &Column,
-    record: &mut Record,
-    values: &[Value],
-    decimals: Decimals,
-) -> Option<Result<(), String>> {
-    match only_text(column, values) {
-        Ok("") => None,
-        Ok(text) => Some(column.fill(record, text, decimals)),
-        Err(message) => Some(Err(message)),
-    }
 }
 
 /// The record with each phase and security that may be meant, where they are

@@ -2,13 +2,13 @@
 
 use crate::column::Column;
 use crate::columns::{trade_columns, COLUMNS};
+use crate::csv_lines::{lines, Line};
 use crate::decimal::Decimals;
 use crate::fault::{faultless, shown, Fault};
-use crate::file::content;
-use crate::lines::{Line, Lines};
+use crate::file_content::content;
 use crate::separator::{names_missing, says_separator, Separator};
 use crate::trade::{record_of, values_of, Value};
-use crate::unknown::no_columns;
+use crate::unknown_columns::no_columns;
 use csv::WriterBuilder;
 use seddolki_format::Record;
 
@@ -38,7 +38,7 @@ pub struct TradesFile {
 pub fn read(bytes: &[u8]) -> Result<TradesFile, Vec<Fault>> {
     let bytes = content(bytes);
     let separator = Separator::of_file(&bytes).map_err(|fault| vec![fault])?;
-    let mut lines = Lines::new(&bytes, separator);
+    let mut lines = lines(&bytes, separator);
     let columns = columns(&mut lines)?;
     let mut file = TradesFile::default();
     for line in lines {
@@ -60,7 +60,7 @@ struct Columns {
 
 /// The columns that the first line names, behind one that says what separates
 /// the values.
-fn columns(lines: &mut Lines) -> Result<Columns, Vec<Fault>> {
+fn columns(lines: &mut impl Iterator<Item = Result<Line, Fault>>) -> Result<Columns, Vec<Fault>> {
     let says_separator = |line: &Line| line.values.get(0).is_some_and(says_separator);
     let mut line = lines.next();
     if matches!(&line, Some(Ok(first)) if says_separator(first)) {

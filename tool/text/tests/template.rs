@@ -1,6 +1,7 @@
 //! The files that a new user starts from.
 
-use seddolki::{doubles, Book, Date};
+use seddolki::{Book, Date};
+use seddolki_doubles::doubles;
 use seddolki_format::record::{INDEXED_COUPONS, NO_SECURITY, OUTRIGHT, POOL, SPECIFIED};
 use seddolki_format::{assemble, Record};
 use seddolki_text::trades_file::Trade;

@@ -12,10 +12,7 @@
 use seddolki::{bond_of, lent, present_value, Quote, Record, Refusal};
 use seddolki_bench::{best_turn, ratio, shown};
 use seddolki_books::{assemble, mixed_book};
-use seddolki_model::accept::Book;
-use seddolki_model::bootstrap::{bond_value, new_node};
-use seddolki_model::curve::rate_on;
-use seddolki_model::flows::payments;
+use seddolki_model::{bond_value, new_node, payments, rate_on, Book};
 use std::time::Duration;
 
 /// The rate whose value is the cash, in millionths.

@@ -28,20 +28,13 @@ fn main() {
         rates[..20].iter().fold(0, |z, &r| z ^ daily_by_halves(r))
     });
     println!("a product in a chain        {product:10.2} ns");
-    println!(
-        "a factor of 182 days        {half_year:10.0} ns = {:.0} products",
-        half_year / product
-    );
-    println!(
-        "the same, two together      {together:10.0} ns = {:.0} products",
-        together / product
-    );
-    println!(
-        "a factor of 10,949 days     {last_day:10.0} ns = {:.0} products",
-        last_day / product
-    );
-    println!(
-        "a day's factor by bisection {halves:10.0} ns = {:.1} factors of 182 days",
-        halves / half_year
-    );
+    for (what, time) in [
+        ("a factor of 182 days       ", half_year),
+        ("the same, two together     ", together),
+        ("a factor of 10,949 days    ", last_day),
+    ] {
+        println!("{what} {time:10.0} ns = {:.0} products", time / product);
+    }
+    let factors = halves / half_year;
+    println!("a day's factor by bisection {halves:10.0} ns = {factors:.1} factors of 182 days");
 }

@@ -12,8 +12,7 @@ use seddolki_bench::{
 use seddolki_books::{
     assemble, full_book, near_tie_book, small_book, typical_book, zero_component_book,
 };
-use seddolki_model::accept::{self, accept};
-use seddolki_model::block::BLOCK;
+use seddolki_model::{accept, BLOCK};
 use std::error::Error;
 use std::time::Duration;
 

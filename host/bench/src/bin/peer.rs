@@ -10,8 +10,7 @@
 use seddolki_bench::peer::Peer;
 use seddolki_bench::{margin, middle, ratio, repeats, shown, sized_books, turn_time};
 use seddolki_books::assemble;
-use seddolki_model::accept::accept;
-use seddolki_model::block::valuation_day;
+use seddolki_model::{accept, valuation_day};
 use std::error::Error;
 use std::path::Path;
 

@@ -6,8 +6,7 @@ use seddolki::lent::{self, PAGE};
 use seddolki::Refusal;
 use seddolki_bench::{paying_repo_book, processor_times, ratio, repo_book, shown, sized_books};
 use seddolki_books::{assemble, buyer, most_trades};
-use seddolki_model::accept::{accept, Book};
-use seddolki_model::block::BLOCK;
+use seddolki_model::{accept, Book, BLOCK};
 
 fn main() -> Result<(), Refusal> {
     println!("book          trades   page      margin   statement  ratio");

@@ -2,12 +2,9 @@
 
 use crate::declared::Numbers;
 use seddolki::Ground;
-use seddolki_format::block::{Node, BLOCK};
-use seddolki_format::page::{LINE, PAGE};
-use seddolki_format::quote::BOND;
-use seddolki_format::record::RECORD;
-use seddolki_format::report::CURRENCIES;
-use seddolki_format::{block, limits, record, report};
+use seddolki_format::{
+    block, limits, record, report, Node, BLOCK, BOND, CURRENCIES, LINE, PAGE, RECORD,
+};
 use std::collections::BTreeSet;
 
 /// Constants of the format by their names there, and the numbers in C.

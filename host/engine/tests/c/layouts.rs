@@ -2,12 +2,10 @@
 //! whose fields are found by the bytes that they change.
 
 use crate::declared::Field;
-use seddolki_format::block::{Curve, Head, Header, Node, TradeBlock, BLOCK};
-use seddolki_format::layout::Layout;
-use seddolki_format::quote::{bond_of, BOND};
-use seddolki_format::record::RECORD;
-use seddolki_format::report::{CurrencyFigures, CurveFigures};
-use seddolki_format::{Record, Report};
+use seddolki_format::{
+    bond_of, CurrencyFigures, Curve, CurveFigures, Head, Header, Layout, Node, Record, Report,
+    TradeBlock, BLOCK, BOND, RECORD,
+};
 use std::collections::BTreeMap;
 
 /// A layout by its fields, each with its bytes.

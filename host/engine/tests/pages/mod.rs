@@ -2,9 +2,9 @@
 //! buyer's book full of its trade. The figures are worked out from document 01
 //! apart from the engine.
 
-use seddolki_format::limits::{FULL_BLOCK, MAX_BLOCKS};
-use seddolki_format::page::LINE;
-use seddolki_format::text::{decimal_with, MONEY};
+use seddolki_format::text::decimal_with;
+use seddolki_format::text::MONEY;
+use seddolki_format::{FULL_BLOCK, LINE, MAX_BLOCKS};
 
 const EMPTY: [&str; 3] = [
     "account 7                                                                       ",

@@ -1,16 +1,8 @@
 //! Amounts, prices, rates and indices, fields due to be 0, and the flows
 //! that amounts make, grounds 10 and 12.
 
-use crate::fields::{
-    Field, ACCRUED, CLEAN_PRICE, COUPON, FIRST_PAYMENT_DAY, ISSUE_INDEX, NOMINAL, PAYMENT_COUNT,
-    PERIOD, REPO_CASH, REPO_RATE, SETTLEMENT_INDEX, TERM, VALUE_DAY_1, VALUE_DAY_2, ZERO,
-};
-use crate::flows::{named_flows, payments, Leg};
-use crate::found::{Kept, Tell};
-use crate::limits::MAX_AMOUNT;
-use crate::reasons;
-use crate::record::Record;
-use crate::words::Unit;
+use crate::fields::*;
+use crate::{named_flows, payments, rule_texts, Kept, Leg, Record, Tell, Unit, MAX_AMOUNT};
 
 /// Ground 10, on the fields that the record uses.
 pub fn hold<W: Tell>(record: &Record) -> Kept<W> {
@@ -43,31 +35,35 @@ pub fn security_holds<W: Tell>(record: &Record) -> Kept<W> {
 pub fn unused_are_zero<W: Tell>(record: &Record) -> Kept<W> {
     ZERO.of(record).within_limits()?;
     if record.is_repo() {
-        all_zero(record, &[ACCRUED], reasons::NO_ACCRUED)?;
+        all_zero(record, &[ACCRUED], rule_texts::NO_ACCRUED)?;
     } else {
         let second_leg = [VALUE_DAY_2, TERM, REPO_CASH];
-        all_zero(record, &second_leg, reasons::NO_SECOND_LEG)?;
+        all_zero(record, &second_leg, rule_texts::NO_SECOND_LEG)?;
     }
     if record.first_leg_settled() {
-        all_zero(record, &[VALUE_DAY_1], reasons::NO_FIRST_LEG)?;
+        all_zero(record, &[VALUE_DAY_1], rule_texts::NO_FIRST_LEG)?;
     }
     if !record.has_security() {
-        all_zero(record, &[FIRST_PAYMENT_DAY, NOMINAL], reasons::NO_SECURITY)?;
+        all_zero(
+            record,
+            &[FIRST_PAYMENT_DAY, NOMINAL],
+            rule_texts::NO_SECURITY,
+        )?;
     }
     if !record.has_coupons() {
         let coupons = [PERIOD, PAYMENT_COUNT, COUPON];
-        all_zero(record, &coupons, reasons::NO_COUPONS)?;
+        all_zero(record, &coupons, rule_texts::NO_COUPONS)?;
     }
     if !record.is_indexed() {
         let indices = [SETTLEMENT_INDEX, ISSUE_INDEX];
-        all_zero(record, &indices, reasons::NO_INDICES)?;
+        all_zero(record, &indices, rule_texts::NO_INDICES)?;
     }
     Ok(())
 }
 
 /// Ground 10, on the term of a quoted bond.
 pub fn has_no_term<W: Tell>(bond: &Record) -> Kept<W> {
-    all_zero(bond, &[TERM], reasons::NO_TERM)
+    all_zero(bond, &[TERM], rule_texts::NO_TERM)
 }
 
 fn all_zero<W: Tell>(record: &Record, fields: &[Field<Record>], why: &str) -> Kept<W> {

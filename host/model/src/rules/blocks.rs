@@ -1,15 +1,10 @@
 //! The rules of a book's length, its blocks and its nodes, grounds 1 to 7.
 
-use crate::block::{check_of, Curve, Head, Header, Node, TradeBlock, BLOCK};
-use crate::fields::{
-    BLOCK_KIND, CHECK, COMPONENTS, COUNT, CURRENCY, CURVE_COUNT, DAY, ID, NODE_COUNT, NUMBER,
-    RANGES, RATE, STEPS, TRADE_BLOCKS, UNNAMED, USED,
+use crate::fields::*;
+use crate::{
+    check_of, Curve, Head, Header, Kept, Layout, Node, Record, Tell, TradeBlock, Unit, BLOCK,
+    FULL_BLOCK,
 };
-use crate::found::{Kept, Tell};
-use crate::layout::Layout;
-use crate::limits::FULL_BLOCK;
-use crate::record::Record;
-use crate::words::Unit;
 use std::fmt::{from_fn, Display};
 
 /// Ground 1; a book of one block is left to ground 4.
@@ -18,8 +13,10 @@ pub fn length(lent: usize, used: usize) -> Kept {
     if used != BLOCK {
         found.within_limits()?;
     }
-    found.multiple_of(BLOCK as i128, USED.about.meaning)?;
-    found.at_most(lent as i128, "no more bytes are lent")
+    let whole_blocks = format_args!("a multiple of {BLOCK}");
+    found.require(used.is_multiple_of(BLOCK), whole_blocks, USED.about.meaning)?;
+    let most = format_args!("at most {}", Unit::Whole.words(lent as i128));
+    found.require(used <= lent, most, "no more bytes are lent")
 }
 
 /// Ground 2.

@@ -1,13 +1,10 @@
 //! The curves that a record stands on and that a quote lengthens, grounds 8
 //! and 11.
 
-use crate::block::Curve;
-use crate::fields::{CASH_CURVE, QUOTED_CURVE, SECURITY_CURVE};
-use crate::found::{Found, Kept, Tell};
-use crate::quote::Quote;
-use crate::reasons;
-use crate::record::Record;
-use crate::report::CURRENCIES;
+use crate::fields::CASH_CURVE;
+use crate::fields::QUOTED_CURVE;
+use crate::fields::SECURITY_CURVE;
+use crate::{rule_texts, Curve, Found, Kept, Quote, Record, Tell, CURRENCIES};
 use seddolki_format::text::listed;
 use std::fmt::{from_fn, Display};
 
@@ -18,7 +15,7 @@ pub fn of_the_book<W: Tell>(record: &Record, curves: &[Curve]) -> Kept<W> {
     if record.has_security() {
         one_of_all(security_curve, curves)
     } else {
-        security_curve.is_zero(reasons::NO_SECURITY_CURVE)
+        security_curve.is_zero(rule_texts::NO_SECURITY_CURVE)
     }
 }
 

@@ -1,11 +1,12 @@
 //! Days, periods, payment counts and terms that a record uses, ground 9.
 
-use crate::fields::{FIRST_PAYMENT_DAY, PAYMENT_COUNT, PERIOD, TERM, VALUE_DAY_1, VALUE_DAY_2};
-use crate::found::{Kept, Tell};
-use crate::limits::MAX_DAY;
-use crate::reasons;
-use crate::record::Record;
-use crate::words::Unit;
+use crate::fields::FIRST_PAYMENT_DAY;
+use crate::fields::PAYMENT_COUNT;
+use crate::fields::PERIOD;
+use crate::fields::TERM;
+use crate::fields::VALUE_DAY_1;
+use crate::fields::VALUE_DAY_2;
+use crate::{rule_texts, Kept, Record, Tell, Unit, MAX_DAY};
 use std::fmt::{from_fn, Display};
 
 /// Something falls after value day 1: an outright's payment, a repo's second
@@ -15,17 +16,17 @@ const LAST_VALUE_DAY_1: i128 = MAX_DAY as i128 - 1;
 /// Value days, term, payments, in this order.
 pub fn hold<W: Tell>(record: &Record) -> Kept<W> {
     if !record.is_repo() {
-        let why = in_time(reasons::OUTRIGHT_PAYMENTS);
+        let why = in_time(rule_texts::OUTRIGHT_PAYMENTS);
         VALUE_DAY_1.of(record).within(0..=LAST_VALUE_DAY_1, why)?;
-        payments_hold(record, reasons::OUTRIGHT_PAYMENTS)
+        payments_hold(record, rule_texts::OUTRIGHT_PAYMENTS)
     } else if record.first_leg_settled() {
         TERM.of(record).within_limits()?;
         let days = 0..=record.term.into();
-        VALUE_DAY_2.of(record).within(days, reasons::SETTLED)?;
-        payments_hold(record, reasons::SETTLED_PAYMENTS)
+        VALUE_DAY_2.of(record).within(days, rule_texts::SETTLED)?;
+        payments_hold(record, rule_texts::SETTLED_PAYMENTS)
     } else {
         legs_hold(record)?;
-        payments_hold(record, reasons::REPO_PAYMENTS)
+        payments_hold(record, rule_texts::REPO_PAYMENTS)
     }
 }
 
@@ -45,15 +46,15 @@ pub fn payments_hold<W: Tell>(record: &Record, after: &str) -> Kept<W> {
 fn legs_hold<W: Tell>(record: &Record) -> Kept<W> {
     let (day_1, day_2) = (VALUE_DAY_1.of(record), VALUE_DAY_2.of(record));
     let (last, longest) = (VALUE_DAY_2.about.most, TERM.about.most);
-    day_1.within(0..=LAST_VALUE_DAY_1, in_time(reasons::LEGS))?;
+    day_1.within(0..=LAST_VALUE_DAY_1, in_time(rule_texts::LEGS))?;
     let apart = day_2.number - day_1.number;
     if apart > longest {
         TERM.of(record).within_limits()?;
     }
     let days = day_1.number + 1..=last.min(day_1.number + longest);
-    let why = format_args!("{}, by {longest} days at most", reasons::LEGS);
+    let why = format_args!("{}, by {longest} days at most", rule_texts::LEGS);
     day_2.within(days, why)?;
-    TERM.of(record).is(apart, reasons::TERM)
+    TERM.of(record).is(apart, rule_texts::TERM)
 }
 
 /// However early the first payment, the last is not after the last day.

@@ -1,10 +1,10 @@
 //! Kind, side, phase and security, ground 8.
 
-use crate::fields::{KIND, PHASE, SECURITY, SIDE};
-use crate::flows::TABLE;
-use crate::found::{Kept, Tell};
-use crate::reasons;
-use crate::record::{Record, OUTRIGHT, POOL};
+use crate::fields::KIND;
+use crate::fields::PHASE;
+use crate::fields::SECURITY;
+use crate::fields::SIDE;
+use crate::{rule_texts, Kept, Record, Tell, OUTRIGHT, POOL, TABLE};
 
 /// What the table of flows lacks is not allowed.
 pub fn allowed_together<W: Tell>(record: &Record) -> Kept<W> {
@@ -17,7 +17,7 @@ pub fn allowed_together<W: Tell>(record: &Record) -> Kept<W> {
     let phases = of_side.map(|line| line.1);
     PHASE.of(record).one_of(phases, phases_of(record.kind))?;
     let securities = record.securities();
-    SECURITY.of(record).one_of(securities, reasons::SECURITY)
+    SECURITY.of(record).one_of(securities, rule_texts::SECURITY)
 }
 
 fn phases_of(kind: u8) -> &'static str {

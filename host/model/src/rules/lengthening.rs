@@ -1,14 +1,12 @@
 //! The curve that a quote lengthens and the rate that it calls for, grounds
 //! 17 and 18.
 
-use crate::block::Curve;
-use crate::bootstrap::bond_value;
-use crate::fields::{CASH, DAY, FIRST_PAYMENT_DAY, NODE_COUNT, QUOTED_CURVE};
-use crate::found::{Kept, Tell};
-use crate::limits::{MAX_DAY, MAX_RATE};
-use crate::quote::Quote;
-use crate::record::Record;
-use crate::words::Unit;
+use crate::fields::CASH;
+use crate::fields::DAY;
+use crate::fields::FIRST_PAYMENT_DAY;
+use crate::fields::NODE_COUNT;
+use crate::fields::QUOTED_CURVE;
+use crate::{bond_value, Curve, Kept, Quote, Record, Tell, Unit, MAX_DAY, MAX_RATE};
 
 /// Ground 17: there is a place for one more node, and a day.
 pub fn curve_has_room<W: Tell>(quote: &Quote, curve: &Curve) -> Kept<W> {

@@ -1,6 +1,6 @@
 //! A trade that several tests start from.
 
-use seddolki_model::record::Record;
+use seddolki_model::Record;
 
 /// Bought, with a single payment in a year, both on curve 1.
 pub fn single_payment() -> Record {

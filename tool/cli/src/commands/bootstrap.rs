@@ -2,63 +2,41 @@
 
 use crate::arguments::{Bootstrap, Output};
 use crate::current_day::CurrentDay;
-use crate::ended::{Ended, DONE};
-use crate::figures::lengthened::Lengthened;
-use crate::files::books::{accepted_on, edit_on, name_of};
-use crate::files::outputs;
-use crate::printed::print;
-use crate::printed::table::Table;
-use crate::trades::keyed::{faults_told, named_values};
+use crate::ended::Ended;
+use crate::figures::Lengthened;
+use crate::files::{accepted_on, edit_on, name_of, outputs};
+use crate::printed::{print, Table};
+use crate::trades::{faults_told, named_values};
 use seddolki::{bond_of, Quote};
 use seddolki_store::shown;
 use seddolki_text::trade::purchase_of;
 use seddolki_text::{bond_columns, numbers, Decimals, Fault, Quantity};
 
-pub const FORM: &str = "\
-Every column has to be given: a 0 that is meant is written. The new node stands
-on the day of the bond's last payment, after the curve's last node. Its rate is
-the smallest at which the present values of all payments, at the rates of the
-lengthened curve, add up to at most the cash. What the bond is worth there and
-at the next lower rate is shown beside the cash.
-
-A bond that ends after the template's first curve, looked at and then taken:
-
-  seddolki bootstrap desk.book --curve 1 --cash 1040000 --components 2 1.6 0 \\
-      nominal=1000000 first_payment_day=120 period=182 payments=21 coupon=6 \\
-      --dry-run --plot longer.svg
-
-  seddolki bootstrap desk.book --curve 1 --cash 1040000 --components 2 1.6 0 \\
-      nominal=1000000 first_payment_day=120 period=182 payments=21 coupon=6
-";
-
-pub fn run(arguments: &Bootstrap) -> Result<u8, Ended> {
-    let day = CurrentDay::of(arguments.on)?;
+pub fn run(arguments: &Bootstrap) -> Result<(), Ended> {
+    let day = CurrentDay::of(arguments.edited.on)?;
     let quote = keyed(arguments)?;
     if arguments.dry_run {
-        look(arguments, day, &quote)
-    } else {
-        lengthen(arguments, day, &quote)
+        return look(arguments, day, &quote);
     }
+    lengthen(arguments, day, &quote)
 }
 
 /// Edits the book.
-fn lengthen(arguments: &Bootstrap, day: CurrentDay, quote: &Quote) -> Result<u8, Ended> {
-    let name = shown(&arguments.book);
-    let lengthened = edit_on(day, &arguments.book, arguments.waiting, |book, parts| {
+fn lengthen(arguments: &Bootstrap, day: CurrentDay, quote: &Quote) -> Result<(), Ended> {
+    let name = shown(&arguments.edited.book);
+    let lengthened = edit_on(day, &arguments.edited, |book, parts| {
         Lengthened::by(quote, day.date, &name, book, &parts)
     })?;
     let head = format!("{name}: {}", lengthened.in_words("is"));
     let tables = lengthened.tables();
-    let lines = arguments
-        .form
-        .written(&tables, |tables| text(&head, tables));
+    let lines = arguments.form.written(&tables, |all| text(&head, all));
     print::notice_lines(&lines);
-    Ok(DONE)
+    Ok(())
 }
 
 /// Shows what an edit would do.
-fn look(arguments: &Bootstrap, day: CurrentDay, quote: &Quote) -> Result<u8, Ended> {
-    let file = accepted_on(day, &arguments.book)?;
+fn look(arguments: &Bootstrap, day: CurrentDay, quote: &Quote) -> Result<(), Ended> {
+    let file = accepted_on(day, &arguments.edited.book)?;
     let mut book = file.book.clone();
     let lengthened = Lengthened::by(quote, day.date, &file.name, &mut book, &file.parts)?;
     if let Some(path) = &arguments.plot {
@@ -66,17 +44,14 @@ fn look(arguments: &Bootstrap, day: CurrentDay, quote: &Quote) -> Result<u8, End
         outputs::refuse_standard_output(path, "--plot")?;
         let output = Output {
             force: arguments.force,
-            waiting: arguments.waiting,
+            waiting: arguments.edited.waiting,
         };
         outputs::write(path, lengthened.picture(), &output, &[&file.input])?;
     }
     let words = lengthened.in_words("would be");
     let head = format!("{}: {words}; nothing is changed", file.name);
     let tables = lengthened.tables();
-    arguments
-        .form
-        .print(&tables, |tables| text(&head, tables))?;
-    Ok(DONE)
+    arguments.form.print(&tables, |all| text(&head, all))
 }
 
 fn text(head: &str, [nodes, values]: &[Table; 2]) -> String {
@@ -101,7 +76,7 @@ fn keyed(arguments: &Bootstrap) -> Result<Quote, Ended> {
         (bond, cash, components) => {
             let wrong = [bond.err(), cash.err(), components.err()];
             let faults: Vec<Fault> = wrong.into_iter().flatten().flatten().collect();
-            Err(faults_told(&name_of(&arguments.book), &faults))
+            Err(faults_told(&name_of(&arguments.edited.book), &faults))
         }
     }
 }

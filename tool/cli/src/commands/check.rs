@@ -2,12 +2,11 @@
 
 use crate::arguments::Check;
 use crate::ended::Ended;
-use crate::files::books::{one_stream, read, BookFile};
-use crate::printed::progress::over_books;
-use crate::printed::table::{Table, Value};
-use crate::trades::refusal::book_refused;
-use crate::trades::words;
-use seddolki::{doubles, Double, Likeness, Refusal};
+use crate::files::{one_stream, read, BookFile};
+use crate::printed::{over_books, Table, Value};
+use crate::trades::{book_refused, words};
+use seddolki::Refusal;
+use seddolki_doubles::{doubles, Likeness};
 use seddolki_format::text::count;
 use std::path::Path;
 
@@ -23,7 +22,7 @@ struct Refused {
 }
 
 pub fn run(arguments: &Check) -> Result<u8, Ended> {
-    let paths = &arguments.books.books;
+    let paths = &arguments.books;
     one_stream(paths)?;
     let (checked, mut worst) = over_books(paths, checked)?;
     for Checked { name, verdict } in &checked {
@@ -55,9 +54,12 @@ fn checked(path: &Path) -> Result<Checked, Ended> {
     Ok(Checked { name, verdict })
 }
 
+fn accepted(checked: &[Checked]) -> impl Iterator<Item = &BookFile> {
+    checked.iter().filter_map(|one| one.verdict.as_ref().ok())
+}
+
 fn texts(checked: &[Checked], text: fn(&BookFile) -> String) -> String {
-    let accepted = checked.iter().filter_map(|one| one.verdict.as_ref().ok());
-    accepted.map(text).collect()
+    accepted(checked).map(text).collect()
 }
 
 fn accepted_text(file: &BookFile) -> String {
@@ -83,76 +85,50 @@ fn doubles_text(file: &BookFile) -> String {
 }
 
 fn books_table(checked: &[Checked]) -> Table {
-    let columns = [
-        "book",
-        "accepted",
-        "ground",
-        "block",
-        "why",
-        "account",
-        "valuation_day",
-        "curves",
-        "trades",
-    ];
-    let mut table = Table::new("books", &columns);
+    let columns = "book accepted ground block why account valuation_day curves trades";
+    let mut table = Table::new("books", columns);
     for Checked { name, verdict } in checked {
-        let mut row = vec![Value::text(name), Value::Flag(verdict.is_ok())];
-        row.extend(match verdict {
-            Ok(file) => [
-                Value::Nothing,
-                Value::Nothing,
-                Value::Nothing,
-                Value::Id(file.parts.account),
-                Value::date(file.parts.valuation_day),
-                Value::count(file.parts.curves.len()),
-                Value::count(file.parts.trades.len()),
-            ],
-            Err(Refused { refusal, why }) => [
-                Value::count(refusal.ground.number() as usize),
-                block(*refusal),
-                Value::text(why),
-                Value::Nothing,
-                Value::Nothing,
-                Value::Nothing,
-                Value::Nothing,
-            ],
-        });
-        table.push(row);
+        let refused = verdict.as_ref().err();
+        let block = |refused: &Refused| {
+            let refusal = refused.refusal;
+            refusal.names_block().then(|| Value::count(refusal.block))
+        };
+        let parts = verdict.as_ref().ok().map(|file| &file.parts);
+        table.push([
+            Value::text(name),
+            Value::Flag(verdict.is_ok()),
+            refused
+                .map(|r| Value::count(r.refusal.ground.number() as usize))
+                .into(),
+            refused.and_then(block).into(),
+            refused.map(|refused| Value::text(&refused.why)).into(),
+            parts.map(|book| Value::Id(book.account)).into(),
+            parts.map(|book| Value::date(book.valuation_day)).into(),
+            parts.map(|book| Value::count(book.curves.len())).into(),
+            parts.map(|book| Value::count(book.trades.len())).into(),
+        ]);
     }
     table
 }
 
-fn block(refusal: Refusal) -> Value {
-    if refusal.names_block() {
-        Value::count(refusal.block)
-    } else {
-        Value::Nothing
-    }
-}
-
+/// The last column says whether append would take the later trade.
 fn doubles_table(checked: &[Checked]) -> Table {
-    let columns = ["book", "earlier", "later", "likeness", "field", "taken"];
-    let mut table = Table::new("doubles", &columns);
-    for file in checked.iter().filter_map(|one| one.verdict.as_ref().ok()) {
+    let mut table = Table::new("doubles", "book earlier later likeness field taken");
+    for file in accepted(checked) {
         for double in doubles(&file.parts.trades) {
-            table.push(double_cells(&file.name, &double));
+            let field = match double.likeness {
+                Likeness::OneField(field) => Value::text(field),
+                _ => Value::Nothing,
+            };
+            table.push([
+                Value::text(&file.name),
+                Value::count(double.earlier.position),
+                Value::count(double.later.position),
+                Value::text(double.likeness.name()),
+                field,
+                Value::Flag(!double.likeness.refused()),
+            ]);
         }
     }
     table
-}
-
-/// The last cell says whether append would take the later trade.
-fn double_cells(book: &str, double: &Double) -> Vec<Value> {
-    let field = match double.likeness {
-        Likeness::OneField(field) => Value::text(field),
-        _ => Value::Nothing,
-    };
-    vec![
-        Value::text(book),
-        Value::count(double.earlier.position),
-        Value::count(double.later.position),
-        Value::text(double.likeness.name()),
-        field,
-        Value::Flag(!double.likeness.refused()),
-    ]
 }

@@ -1,21 +1,20 @@
 //! Completions for shells.
 
 use crate::arguments::{Arguments, Completions};
-use crate::ended::{Ended, DONE};
+use crate::ended::Ended;
 use crate::printed::print;
 use clap::CommandFactory;
 use clap_complete::Shell;
 
-pub fn run(arguments: &Completions) -> Result<u8, Ended> {
+pub fn run(arguments: &Completions) -> Result<(), Ended> {
     let mut script = vec![];
     let mut command = Arguments::command();
     clap_complete::generate(arguments.shell, &mut command, "seddolki", &mut script);
     let script = String::from_utf8_lossy(&script);
     match arguments.shell {
-        Shell::Bash => print::result(&with_files(&script))?,
-        _ => print::result(&script)?,
+        Shell::Bash => print::result(&with_files(&script)),
+        _ => print::result(&script),
     }
-    Ok(DONE)
 }
 
 /// For bash the library offers the names of operands as words; where a

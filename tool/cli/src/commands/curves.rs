@@ -2,27 +2,19 @@
 
 use crate::arguments::Curves;
 use crate::current_day::CurrentDay;
-use crate::ended::{Ended, DONE};
-use crate::files::books::{edit, text};
-use crate::files::curve_files::{book_of, read_curves};
+use crate::ended::Ended;
+use crate::files::{book_of, edit, read_curves, text};
 use crate::printed::print;
 use seddolki_format::text::count;
 use seddolki_model::accept::Book;
 use seddolki_store::shown;
 
-pub const FORM: &str = "\
-The book is then for today, or for the day that --day says. Trades count their
-days from it: where it is another than before, a book with trades is refused
-unless --keep-days is said. Then their days stay as they are, and are other
-dates.
-";
-
-pub fn run(arguments: &Curves) -> Result<u8, Ended> {
-    let day = CurrentDay::of(arguments.on)?;
+pub fn run(arguments: &Curves) -> Result<(), Ended> {
+    let day = CurrentDay::of(arguments.edited.on)?;
     let input = text(&arguments.file)?;
     let (file, from) = (read_curves(&input)?, &input.name);
-    let name = shown(&arguments.book);
-    let before = edit(&arguments.book, arguments.waiting, |book, parts| {
+    let name = shown(&arguments.edited.book);
+    let before = edit(&arguments.edited, |book, parts| {
         if parts.account != file.account {
             let (account, other) = (parts.account, file.account);
             let reason = format!("{from}: account {other}, and {name} is of account {account}");
@@ -40,7 +32,7 @@ pub fn run(arguments: &Curves) -> Result<u8, Ended> {
     print::notice(&format!(
         "{name}: {curves} replaced by {now}, {trades} kept{moved}"
     ));
-    Ok(DONE)
+    Ok(())
 }
 
 /// The days of a trade are other dates where they are counted from another

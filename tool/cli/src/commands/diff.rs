@@ -1,25 +1,17 @@
 //! What two books differ in.
 
 use crate::arguments::Diff;
-use crate::compared::differences::differences;
-use crate::ended::{Ended, DONE};
-use crate::files::books::{accepted, one_stream};
-use crate::printed::table::Table;
+use crate::compared::differences;
+use crate::ended::Ended;
+use crate::files::{accepted, one_stream};
 
-pub fn run(arguments: &Diff) -> Result<u8, Ended> {
+pub fn run(arguments: &Diff) -> Result<(), Ended> {
     one_stream(&[&arguments.book, &arguments.other])?;
     let (before, after) = (accepted(&arguments.book)?, accepted(&arguments.other)?);
     let table = differences(&before.parts, &after.parts);
-    let names = format!("{} and {}", before.name, after.name);
-    arguments
-        .form
-        .print(&[table], |[table]| text(table, &names))?;
-    Ok(DONE)
-}
-
-fn text(table: &Table, names: &str) -> String {
-    if table.rows.is_empty() {
-        return format!("{names} hold the same\n");
-    }
-    table.text()
+    let form = arguments.form;
+    form.print(&[table], |[table]| match table.rows[..] {
+        [] => format!("{} and {} hold the same\n", before.name, after.name),
+        _ => table.text(),
+    })
 }

@@ -1,15 +1,12 @@
 //! The manual page, made of the same text as the help.
 
-use crate::arguments::{Arguments, DAY, STATUSES};
-use crate::current_day::RULE;
-use crate::ended::{Ended, DONE};
+use crate::arguments::{Arguments, DAY, DOUBLES, STATUSES, VALUATION_DAY};
+use crate::ended::Ended;
 use crate::printed::print;
-use crate::trades::keyed_twice::KINDS;
 use clap::{Arg, Command, CommandFactory};
 
-pub fn run() -> Result<u8, Ended> {
-    print::result(&page(&Arguments::command()))?;
-    Ok(DONE)
+pub fn run() -> Result<(), Ended> {
+    print::result(&page(&Arguments::command()))
 }
 
 fn page(tool: &Command) -> String {
@@ -26,8 +23,8 @@ fn page(tool: &Command) -> String {
         page += &section(command);
     }
     page += &format!(".SH A DAY\n{}", verbatim(DAY));
-    page += &format!(".SH VALUATION DAY\n{}\n", escaped(RULE));
-    page += &format!(".SH TRADES KEYED TWICE\n{}\n", escaped(KINDS));
+    page += &format!(".SH VALUATION DAY\n{}\n", escaped(VALUATION_DAY));
+    page += &format!(".SH TRADES KEYED TWICE\n{}\n", escaped(DOUBLES));
     page += &format!(".SH EXIT STATUS\n{}", verbatim(STATUSES));
     page
 }
@@ -35,11 +32,8 @@ fn page(tool: &Command) -> String {
 /// A command: how it is used, what it does, and its arguments.
 fn section(command: &Command) -> String {
     let name = command.get_name();
-    let usage = command
-        .clone()
-        .bin_name(format!("seddolki {name}"))
-        .render_usage()
-        .to_string();
+    let mut named = command.clone().bin_name(format!("seddolki {name}"));
+    let usage = named.render_usage().to_string();
     let usage = usage.trim_start_matches("Usage: ").replace('\n', " ");
     let about = text_of(command.get_about());
     let mut text = format!(
@@ -48,36 +42,25 @@ fn section(command: &Command) -> String {
         escaped(&usage),
         escaped(&about)
     );
-    for argument in command
+    let (operands, options): (Vec<&Arg>, Vec<&Arg>) = command
         .get_arguments()
-        .filter(|argument| !argument.is_hide_set())
-    {
-        text += &described(argument);
-    }
-    let more = text_of(command.get_after_help());
-    if !more.is_empty() {
-        text += &verbatim(&more);
-    }
-    text
+        .partition(|argument| argument.is_positional());
+    text.extend(operands.into_iter().chain(options).map(described));
+    let more = command.get_after_help().map(ToString::to_string);
+    text + &more.map_or(String::new(), |more| verbatim(&more))
 }
 
 fn described(argument: &Arg) -> String {
-    let value = argument
-        .get_value_names()
-        .map_or(String::new(), |names| names.join(" "));
+    let value = argument.get_value_names().unwrap_or_default().join(" ");
     let name = match argument.get_long() {
         Some(long) if argument.get_action().takes_values() => format!("--{long} {value}"),
         Some(long) => format!("--{long}"),
         None => value,
     };
     let mut help = text_of(argument.get_help());
-    let default: Vec<String> = argument
-        .get_default_values()
-        .iter()
-        .map(|value| value.to_string_lossy().into_owned())
-        .collect();
-    if argument.get_action().takes_values() && !default.is_empty() {
-        help += &format!(" (default {})", default.join(" "));
+    let default = argument.get_default_values().first();
+    if let Some(default) = default.filter(|_| argument.get_action().takes_values()) {
+        help += &format!(" (default {})", default.to_string_lossy());
     }
     format!(".TP\n\\fB{}\\fR\n{}\n", escaped(&name), escaped(&help))
 }

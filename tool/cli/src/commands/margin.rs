@@ -3,21 +3,12 @@
 use crate::arguments::Margin;
 use crate::current_day::CurrentDay;
 use crate::ended::Ended;
-use crate::files::books::{accepted_on, one_stream, BookFile};
-use crate::printed::progress::over_books;
-use crate::printed::table::{Table, Value};
-use seddolki::{CurrencyFigures, CurveFigures, Report};
-use seddolki_format::block::Curve;
+use crate::files::{accepted_on, one_stream, BookFile};
+use crate::printed::{over_books, Table, Value};
+use seddolki::{CurrencyFigures, Report};
 use seddolki_format::report::{currency_name, CURRENCIES};
 use seddolki_model::scenario::scenarios;
 use std::path::Path;
-
-pub const FIGURES: &str = "\
-By curve: the value of its flows on the valuation day, the largest loss over its
-scenarios, the scenario of that loss with its three coefficients, and how far
-the value may be from the exact one. By currency: initial is the sum of the
-worst losses, variation the sum of the values, total is variation less initial.
-Of several books the currencies are shown, and their totals over all books.";
 
 /// A book's report.
 struct Margined {
@@ -27,17 +18,16 @@ struct Margined {
 
 pub fn run(arguments: &Margin) -> Result<u8, Ended> {
     let day = CurrentDay::of(arguments.on)?;
-    let paths = &arguments.books.books;
+    let paths = &arguments.books;
     one_stream(paths)?;
     let (margined, worst) = over_books(paths, |path| margined(day, path))?;
     let tables = [curves(&margined), currencies(&margined), totals(&margined)];
-    arguments
-        .form
-        .print(&tables, |tables| match &margined[..] {
-            [] => String::new(),
-            [Margined { file, .. }] if paths.len() == 1 => of_one(file, tables),
-            _ => of_several(day, tables),
-        })?;
+    let form = arguments.form;
+    form.print(&tables, |tables| match &margined[..] {
+        [] => String::new(),
+        [Margined { file, .. }] if paths.len() == 1 => of_one(file, tables),
+        _ => of_several(day, tables),
+    })?;
     Ok(worst)
 }
 
@@ -60,74 +50,43 @@ fn of_several(day: CurrentDay, [_, currencies, totals]: &[Table; 3]) -> String {
 }
 
 fn curves(margined: &[Margined]) -> Table {
-    let mut table = Table::new(
-        "curves",
-        &[
-            "book",
-            "account",
-            "valuation_day",
-            "curve",
-            "currency",
-            "base",
-            "worst_loss",
-            "scenario",
-            "coefficient_1",
-            "coefficient_2",
-            "coefficient_3",
-            "tolerance",
-        ],
-    );
+    let columns = "book account valuation_day curve currency base worst_loss scenario \
+                   coefficient_1 coefficient_2 coefficient_3 tolerance";
+    let mut table = Table::new("curves", columns);
     for Margined { file, report } in margined {
         for ((id, figures), curve) in report.present_curves().zip(&file.parts.curves) {
-            let mut row = book_cells(file);
-            row.extend(curve_cells(id, figures, curve));
+            let coefficients = scenarios(curve)[figures.scenario as usize];
+            let mut row = book_cells(file).to_vec();
+            row.extend([
+                Value::count(id),
+                Value::text(currency_name(figures.currency)),
+                Value::money(figures.base),
+                Value::money(figures.worst_loss),
+                Value::whole(figures.scenario),
+            ]);
+            row.extend(coefficients.map(Value::coefficient));
+            row.push(Value::money(figures.tolerance));
             table.push(row);
         }
     }
     table
 }
 
-fn book_cells(file: &BookFile) -> Vec<Value> {
-    vec![
+fn book_cells(file: &BookFile) -> [Value; 3] {
+    [
         Value::text(&file.name),
         Value::Id(file.parts.account),
         Value::date(file.parts.valuation_day),
     ]
 }
 
-fn curve_cells(id: usize, figures: &CurveFigures, curve: &Curve) -> Vec<Value> {
-    let coefficients = scenarios(curve)[figures.scenario as usize];
-    let mut cells = vec![
-        Value::count(id),
-        Value::text(currency_name(figures.currency)),
-        Value::money(figures.base),
-        Value::money(figures.worst_loss),
-        Value::Whole(figures.scenario.into()),
-    ];
-    cells.extend(coefficients.map(Value::coefficient));
-    cells.push(Value::money(figures.tolerance));
-    cells
-}
-
 fn currencies(margined: &[Margined]) -> Table {
-    let mut table = Table::new(
-        "currencies",
-        &[
-            "book",
-            "account",
-            "valuation_day",
-            "currency",
-            "initial",
-            "variation",
-            "total",
-        ],
-    );
+    let columns = "book account valuation_day currency initial variation total";
+    let mut table = Table::new("currencies", columns);
     for Margined { file, report } in margined {
         for (name, figures) in report.present_currencies() {
-            let mut row = book_cells(file);
-            row.push(Value::text(name));
-            row.extend(amounts(figures).map(Value::money));
-            table.push(row);
+            let book = book_cells(file).into_iter().chain([Value::text(name)]);
+            table.push(book.chain(amounts(figures).map(Value::money)));
         }
     }
     table
@@ -139,10 +98,7 @@ fn amounts(figures: &CurrencyFigures) -> [i128; 3] {
 
 /// The sums over all books, by currency.
 fn totals(margined: &[Margined]) -> Table {
-    let mut table = Table::new(
-        "totals",
-        &["currency", "books", "initial", "variation", "total"],
-    );
+    let mut table = Table::new("totals", "currency books initial variation total");
     for currency in CURRENCIES {
         let all = margined.iter().flat_map(|m| m.report.present_currencies());
         let own: Vec<[i128; 3]> = all
@@ -151,9 +107,8 @@ fn totals(margined: &[Margined]) -> Table {
             .collect();
         if !own.is_empty() {
             let sum = |i: usize| own.iter().map(|amounts| amounts[i]).sum::<i128>();
-            let mut row = vec![Value::text(currency), Value::count(own.len())];
-            row.extend([0, 1, 2].map(sum).map(Value::money));
-            table.push(row);
+            let head = [Value::text(currency), Value::count(own.len())];
+            table.push(head.into_iter().chain([0, 1, 2].map(sum).map(Value::money)));
         }
     }
     table

@@ -1,15 +1,11 @@
 //! The curves and trades of a book, in words.
 
 use crate::arguments::Show;
-use crate::ended::{Ended, DONE};
-use crate::figures::node_table::of_curves;
-use crate::files::books::accepted;
-use crate::printed::account::account_on;
-use crate::printed::table::{Table, Value};
-use crate::trades::by_term::ByTerm;
-use crate::trades::flow_kind::{flows_of, signed};
-use crate::trades::keyed::cells;
-use crate::trades::words;
+use crate::ended::Ended;
+use crate::figures::node_table;
+use crate::files::accepted;
+use crate::printed::{account_on, Table, Value};
+use crate::trades::{cells, flows_of, signed, words, TermPayments};
 use seddolki::Record;
 use seddolki_format::block::Curve;
 use seddolki_format::report::currency_name;
@@ -19,40 +15,17 @@ use seddolki_model::scenario::scenarios;
 use seddolki_text::decimal::{format as decimal, COEFFICIENT, MONEY};
 use seddolki_text::COLUMNS;
 
-pub const FORM: &str = "\
-A repo's security may pay inside the term: after value day 1 and up to value
-day 2. A line below such a repo tells how many payments these are, on which
-days, and how many come after value day 2; among the flows they are marked. The
-security is with the other side then: they go out for the repo member, and come
-in for the reverse-repo member. Once the first leg has settled, only payments
-after value day 2 count.
-
-The table of trades has the columns that append takes and, for each repo with a
-security:
-
-  payments_in_term     how many payments fall inside the term
-  first_in_term        the day of the first of them
-  last_in_term         the day of the last of them
-  payments_after_term  how many payments come after value day 2
-";
-
-pub fn run(arguments: &Show) -> Result<u8, Ended> {
-    let book = accepted(&arguments.one.book)?.parts;
-    let tables = [
-        curves(&book),
-        of_curves(&book.curves),
-        trades(&book),
-        flows(&book),
-    ];
-    arguments.form.print(&tables, |_| text(&book))?;
-    Ok(DONE)
+pub fn run(arguments: &Show) -> Result<(), Ended> {
+    let book = accepted(&arguments.book)?.parts;
+    let flows = flow_table(book.trades.iter().enumerate());
+    let nodes = node_table(book.curves.iter().map(|curve| (curve, curve.nodes())));
+    let tables = [curves(&book), nodes, trades(&book), flows];
+    arguments.form.print(&tables, |_| text(&book))
 }
 
 fn text(book: &Book) -> String {
     let mut text = account_on(book.account, book.valuation_day) + "\n";
-    for curve in &book.curves {
-        text += &show_curve(curve);
-    }
+    text.extend(book.curves.iter().map(show_curve));
     for (position, record) in book.trades.iter().enumerate() {
         text += &show_trade(position, record);
     }
@@ -74,37 +47,23 @@ fn show_curve(curve: &Curve) -> String {
         count(scenarios(curve).len(), "scenario"),
         components.join(", ")
     );
-    head + &of_curves(std::slice::from_ref(curve)).text_without(&["curve"])
+    head + &node_table([(curve, curve.nodes())]).text_without(&["curve"])
 }
 
 fn show_trade(position: usize, record: &Record) -> String {
     let mut head = format!("\ntrade {position}: {}\n", words::agreed(record));
     head.extend(words::inside_term(record).map(|words| words + "\n"));
-    let mut table = Table::new("flows", &FLOWS);
-    push_flows(&mut table, position, record);
-    if table.rows.is_empty() {
-        return head + "no cash flows\n";
+    let table = flow_table([(position, record)]);
+    match table.rows[..] {
+        [] => head + "no cash flows\n",
+        _ => head + &table.text_without(&["position"]),
     }
-    head + &table.text_without(&["position"])
 }
 
 fn curves(book: &Book) -> Table {
-    let mut table = Table::new(
-        "curves",
-        &[
-            "account",
-            "valuation_day",
-            "curve",
-            "currency",
-            "scenarios",
-            "steps_1",
-            "steps_2",
-            "steps_3",
-            "range_1",
-            "range_2",
-            "range_3",
-        ],
-    );
+    let columns = "account valuation_day curve currency scenarios steps_1 steps_2 steps_3 \
+                   range_1 range_2 range_3";
+    let mut table = Table::new("curves", columns);
     for curve in &book.curves {
         let mut row = vec![
             Value::Id(book.account),
@@ -113,68 +72,54 @@ fn curves(book: &Book) -> Table {
             Value::text(currency_name(curve.currency.into())),
             Value::count(scenarios(curve).len()),
         ];
-        row.extend(curve.steps.map(|steps| Value::Whole(steps.into())));
-        row.extend(
-            curve
-                .ranges
-                .map(|range| Value::Decimal(range.into(), COEFFICIENT)),
-        );
+        row.extend(curve.steps.map(|steps| Value::whole(steps)));
+        let range = |range: u16| Value::Decimal(range.into(), COEFFICIENT);
+        row.extend(curve.ranges.map(range));
         table.push(row);
     }
     table
 }
-
-const TERM: [&str; 4] = [
-    "payments_in_term",
-    "first_in_term",
-    "last_in_term",
-    "payments_after_term",
-];
 
 /// The columns are those that append and import take, and those of the term.
 fn trades(book: &Book) -> Table {
-    let names: Vec<&str> = COLUMNS.iter().map(|column| column.name).collect();
-    let mut table = Table::new("trades", &[&["position"], &names[..], &TERM].concat());
+    let term = "payments_in_term first_in_term last_in_term payments_after_term";
+    let names = COLUMNS.iter().map(|column| column.name);
+    let columns = ["position"].into_iter().chain(names).chain(term.split(' '));
+    let mut table = Table::with("trades", columns.collect());
     for (position, record) in book.trades.iter().enumerate() {
-        let mut row = vec![Value::count(position)];
-        row.extend(cells(record));
-        row.extend(term_cells(record));
-        table.push(row);
+        let trade = [Value::count(position)].into_iter().chain(cells(record));
+        table.push(trade.chain(term_cells(record)));
     }
     table
 }
 
-fn term_cells(record: &Record) -> [Value; TERM.len()] {
-    let Some(ByTerm { inside, after }) = ByTerm::of(record) else {
-        return [const { Value::Nothing }; TERM.len()];
-    };
-    let day = |day: Option<&u64>| day.map_or(Value::Nothing, |day| Value::Whole((*day).into()));
+fn term_cells(record: &Record) -> [Value; 4] {
+    let payments = TermPayments::of(record);
+    let inside = payments.as_ref().map(|payments| &payments.inside);
+    let day = |day: &u64| Value::whole(*day);
     [
-        Value::count(inside.len()),
-        day(inside.first()),
-        day(inside.last()),
-        Value::count(after),
+        inside.map(|days| Value::count(days.len())),
+        inside.and_then(|days| days.first()).map(day),
+        inside.and_then(|days| days.last()).map(day),
+        payments
+            .as_ref()
+            .map(|payments| Value::count(payments.after)),
     ]
+    .map(Value::from)
 }
 
-const FLOWS: [&str; 5] = ["position", "day", "curve", "amount", "flow"];
-
-fn flows(book: &Book) -> Table {
-    let mut table = Table::new("flows", &FLOWS);
-    for (position, record) in book.trades.iter().enumerate() {
-        push_flows(&mut table, position, record);
+fn flow_table<'a>(trades: impl IntoIterator<Item = (usize, &'a Record)>) -> Table {
+    let mut table = Table::new("flows", "position day curve amount flow");
+    for (position, record) in trades {
+        for (kind, flow) in flows_of(record) {
+            table.push([
+                Value::count(position),
+                Value::whole(flow.day),
+                Value::Id(flow.curve.into()),
+                Value::Signed(signed(&flow), MONEY),
+                Value::text(kind.in_words()),
+            ]);
+        }
     }
     table
-}
-
-fn push_flows(table: &mut Table, position: usize, record: &Record) {
-    for (kind, flow) in flows_of(record) {
-        table.push(vec![
-            Value::count(position),
-            Value::Whole(flow.day.into()),
-            Value::Id(flow.curve.into()),
-            Value::Signed(signed(&flow), MONEY),
-            Value::text(kind.in_words()),
-        ]);
-    }
 }

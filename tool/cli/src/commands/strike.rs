@@ -2,17 +2,17 @@
 
 use crate::arguments::Strike;
 use crate::current_day::CurrentDay;
-use crate::ended::{Ended, DONE};
-use crate::files::books::edit_on;
+use crate::ended::Ended;
+use crate::files::edit_on;
 use crate::printed::print;
 use crate::trades::words::trade;
 use seddolki_store::shown;
 
-pub fn run(arguments: &Strike) -> Result<u8, Ended> {
-    let day = CurrentDay::of(arguments.on)?;
+pub fn run(arguments: &Strike) -> Result<(), Ended> {
+    let day = CurrentDay::of(arguments.edited.on)?;
     let position = arguments.position;
-    let name = shown(&arguments.book);
-    let struck = edit_on(day, &arguments.book, arguments.waiting, |book, _| {
+    let name = shown(&arguments.edited.book);
+    let struck = edit_on(day, &arguments.edited, |book, _| {
         let record = book.read(position);
         book.strike(day.date, position)
             .and(record)
@@ -20,5 +20,5 @@ pub fn run(arguments: &Strike) -> Result<u8, Ended> {
     })?;
     let words = trade(&struck);
     print::notice(&format!("{name}: trade {position} is struck: {words}"));
-    Ok(DONE)
+    Ok(())
 }

@@ -1,15 +1,15 @@
 //! What one book has and another has not.
 
-use crate::compared::common_run::{replaced, Replaced};
-use crate::printed::table::{Table, Value};
-use crate::trades::keyed::cells;
-use crate::trades::words;
+use crate::printed::{Table, Value};
+use crate::trades::{cells, words};
 use seddolki::Record;
 use seddolki_format::block::{Curve, Node};
+use seddolki_format::record::RECORD;
 use seddolki_format::report::currency_name;
 use seddolki_model::accept::Book;
 use seddolki_text::decimal::COEFFICIENT;
 use seddolki_text::COLUMNS;
+use similar::{capture_diff_slices, Algorithm, DiffTag};
 use std::collections::BTreeSet;
 
 /// Trades at the same place that differ in no more columns than these are
@@ -19,8 +19,8 @@ const AMENDED: usize = 3;
 /// A row for each difference: the account, the valuation day, the curves, then
 /// the trades.
 pub fn differences(before: &Book, after: &Book) -> Table {
-    let columns = ["change", "number", "column", "before", "after"];
-    let mut rows = Rows(Table::new("differences", &columns));
+    let columns = "change number column before after";
+    let mut rows = Rows(Table::new("differences", columns));
     let accounts = [before, after].map(|book| Value::Id(book.account));
     rows.change(("account", None), "account", accounts);
     let days = [before, after].map(|book| Value::date(book.valuation_day));
@@ -29,9 +29,7 @@ pub fn differences(before: &Book, after: &Book) -> Table {
         let curves = [before, after].map(|book| book.curves.get(place));
         rows.curve(place + 1, curves);
     }
-    for replaced in replaced(&before.trades, &after.trades) {
-        rows.trades(&replaced, &before.trades, &after.trades);
-    }
+    rows.trades(&before.trades, &after.trades);
     rows.0
 }
 
@@ -46,14 +44,13 @@ impl Rows {
         if values[0] == values[1] {
             return;
         }
-        let mut row = vec![Value::text(what)];
-        row.push(number.map_or(Value::Nothing, Value::count));
-        row.push(match column {
-            "" => Value::Nothing,
-            column => Value::text(column),
-        });
-        row.extend(values);
-        self.0.push(row);
+        let column = Some(column).filter(|column| !column.is_empty());
+        let place = [
+            Value::text(what),
+            number.map(Value::count).into(),
+            column.map(Value::text).into(),
+        ];
+        self.0.push(place.into_iter().chain(values));
     }
 
     fn curve(&mut self, id: usize, curves: [Option<&Curve>; 2]) {
@@ -62,7 +59,7 @@ impl Rows {
         let currency = |curve: &Curve| Value::text(currency_name(curve.currency.into()));
         self.change(what, "currency", cell(&currency));
         for (i, component) in (0..3).zip(1..) {
-            let steps = |curve: &Curve| Value::Whole(curve.steps[i].into());
+            let steps = |curve: &Curve| Value::whole(curve.steps[i]);
             self.change(what, &format!("steps_{component}"), cell(&steps));
             let range = |curve: &Curve| Value::Decimal(curve.ranges[i].into(), COEFFICIENT);
             self.change(what, &format!("range_{component}"), cell(&range));
@@ -85,26 +82,42 @@ impl Rows {
         }
     }
 
-    /// One by one: amended where two at the same place are nearly the same.
-    fn trades(&mut self, replaced: &Replaced, before: &[Record], after: &[Record]) {
-        let (gone, come) = (&replaced.before, &replaced.after);
-        for i in 0..gone.len().max(come.len()) {
-            let (a, b) = (gone.start + i, come.start + i);
-            let [struck, added] = [i < gone.len(), i < come.len()];
-            if struck && added && differing(&before[a], &after[b]).len() <= AMENDED {
-                for (column, values) in differing(&before[a], &after[b]) {
-                    self.change(("trade amended", Some(a)), column, values);
+    /// What is left when the longest list of trades that both have, in one
+    /// order, is taken out.
+    fn trades(&mut self, before: &[Record], after: &[Record]) {
+        let bytes = |trade: &Record| <[u8; RECORD]>::from(*trade);
+        let [old, new] = [before, after].map(|all| all.iter().map(bytes).collect::<Vec<_>>());
+        for change in capture_diff_slices(Algorithm::Myers, &old, &new) {
+            if change.tag() != DiffTag::Equal {
+                let (gone, come) = (change.old_range(), change.new_range());
+                self.replaced((gone.start, &before[gone]), (come.start, &after[come]));
+            }
+        }
+    }
+
+    /// Trades from a position on in place of others, one by one: amended where
+    /// two at the same place are nearly the same.
+    fn replaced(&mut self, (first, gone): (usize, &[Record]), come: (usize, &[Record])) {
+        for i in 0..gone.len().max(come.1.len()) {
+            let (struck, added) = (gone.get(i), come.1.get(i));
+            let number = Some(first + i);
+            let both = struck
+                .zip(added)
+                .map(|(struck, added)| differing(struck, added));
+            if let Some(columns) = both.filter(|columns| columns.len() <= AMENDED) {
+                for (column, values) in columns {
+                    self.change(("trade amended", number), column, values);
                 }
                 continue;
             }
-            if struck {
-                let trade = Value::text(words::trade(&before[a]));
-                self.change(("trade struck", Some(a)), "", [trade, Value::Nothing]);
-            }
-            if added {
-                let trade = Value::text(words::trade(&after[b]));
-                self.change(("trade added", Some(b)), "", [Value::Nothing, trade]);
-            }
+            let words = |trade: Option<&Record>| trade.map(|t| Value::text(words::trade(t))).into();
+            self.change(
+                ("trade struck", number),
+                "",
+                [words(struck), Value::Nothing],
+            );
+            let number = Some(come.0 + i);
+            self.change(("trade added", number), "", [Value::Nothing, words(added)]);
         }
     }
 }

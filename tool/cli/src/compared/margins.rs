@@ -1,7 +1,6 @@
 //! A book's margin before and after.
 
-use crate::printed::account::account_on;
-use crate::printed::table::{Table, Value};
+use crate::printed::{account_on, Table, Value};
 use seddolki::{CurrencyFigures, CurveFigures, Date, Report};
 use seddolki_format::report::currency_name;
 use seddolki_text::decimal::MONEY;
@@ -13,38 +12,13 @@ pub struct Margins {
     pub after: Report,
 }
 
-const CURRENCIES: [&str; 12] = [
-    "account",
-    "valuation_day",
-    "currency",
-    "initial_before",
-    "initial_after",
-    "initial_difference",
-    "total_before",
-    "total_after",
-    "total_difference",
-    "variation_before",
-    "variation_after",
-    "variation_difference",
-];
+const CURRENCIES: &str = "account valuation_day currency \
+    initial_before initial_after initial_difference total_before total_after total_difference \
+    variation_before variation_after variation_difference";
 
-const CURVES: [&str; 15] = [
-    "account",
-    "valuation_day",
-    "curve",
-    "currency",
-    "base_before",
-    "base_after",
-    "base_difference",
-    "worst_loss_before",
-    "worst_loss_after",
-    "worst_loss_difference",
-    "scenario_before",
-    "scenario_after",
-    "tolerance_before",
-    "tolerance_after",
-    "tolerance_difference",
-];
+const CURVES: &str = "account valuation_day curve currency base_before base_after base_difference \
+    worst_loss_before worst_loss_after worst_loss_difference scenario_before scenario_after \
+    tolerance_before tolerance_after tolerance_difference";
 
 /// The figures of a currency or of a curve.
 struct Part {
@@ -54,27 +28,25 @@ struct Part {
     figures: Vec<Figure>,
 }
 
-/// A figure before and after; a scenario has no difference.
-struct Figure {
-    name: &'static str,
-    before: Value,
-    after: Value,
-    difference: Value,
-}
+/// A figure by its name, before and after.
+type Figure = (&'static str, [Value; 2]);
 
 impl Margins {
     /// A row for each currency, and one for each curve.
     pub fn tables(&self) -> [Table; 2] {
         let mut tables = [
-            Table::new("currencies", &CURRENCIES),
-            Table::new("curves", &CURVES),
+            Table::new("currencies", CURRENCIES),
+            Table::new("curves", CURVES),
         ];
         for (table, parts) in tables.iter_mut().zip(self.parts()) {
             for part in parts {
-                let mut row = vec![Value::Id(self.after.account), Value::date(self.day)];
-                row.extend(part.cells);
-                row.extend(part.figures.into_iter().flat_map(Figure::cells));
-                table.push(row);
+                let book = [Value::Id(self.after.account), Value::date(self.day)];
+                let cells = |(_, figures): Figure| {
+                    let difference = difference(&figures);
+                    figures.into_iter().chain(difference)
+                };
+                let figures = part.figures.into_iter().flat_map(cells);
+                table.push(book.into_iter().chain(part.cells).chain(figures));
             }
         }
         tables
@@ -83,7 +55,8 @@ impl Margins {
     /// What changes, a line for each figure; below it what stays as it was, a
     /// line for each currency and curve.
     pub fn text(&self) -> String {
-        let mut changes = Table::new("changes", &["", "before", "after", "difference"]);
+        let columns = vec!["", "before", "after", "difference"];
+        let mut changes = Table::with("changes", columns);
         let mut texts = vec![account_on(self.after.account, self.day) + "\n"];
         let mut same = vec![];
         for parts in self.parts() {
@@ -103,94 +76,90 @@ impl Margins {
     fn parts(&self) -> [Vec<Part>; 2] {
         let [before, after] = [&self.before, &self.after];
         let currencies = before.present_currencies().zip(after.present_currencies());
-        let currencies = currencies.map(|((name, a), (_, b))| currency(name, a, b));
+        let currencies = currencies.map(|((name, a), (_, b))| currency(name, [a, b]));
         let curves = before.present_curves().zip(after.present_curves());
-        let curves = curves.map(|((id, a), (_, b))| curve(id, a, b));
+        let curves = curves.map(|((id, a), (_, b))| curve(id, [a, b]));
         [currencies.collect(), curves.collect()]
     }
 }
 
-fn currency(name: &str, before: &CurrencyFigures, after: &CurrencyFigures) -> Part {
+fn currency(name: &str, both: [&CurrencyFigures; 2]) -> Part {
     Part {
         cells: vec![Value::text(name)],
         name: name.into(),
         figures: vec![
-            Figure::money("initial", before.initial, after.initial),
-            Figure::money("total", before.total, after.total),
-            Figure::money("variation", before.variation, after.variation),
+            ("initial", both.map(|figures| Value::money(figures.initial))),
+            ("total", both.map(|figures| Value::money(figures.total))),
+            (
+                "variation",
+                both.map(|figures| Value::money(figures.variation)),
+            ),
         ],
     }
 }
 
-fn curve(id: usize, before: &CurveFigures, after: &CurveFigures) -> Part {
-    let currency = currency_name(after.currency);
+fn curve(id: usize, both: [&CurveFigures; 2]) -> Part {
+    let currency = currency_name(both[1].currency);
     Part {
         cells: vec![Value::count(id), Value::text(currency)],
         name: format!("curve {id}, {currency}"),
         figures: vec![
-            Figure::money("base", before.base, after.base),
-            Figure::money("worst_loss", before.worst_loss, after.worst_loss),
-            Figure {
-                name: "scenario",
-                before: Value::Whole(before.scenario.into()),
-                after: Value::Whole(after.scenario.into()),
-                difference: Value::Nothing,
-            },
-            Figure::money("tolerance", before.tolerance, after.tolerance),
+            ("base", both.map(|figures| Value::money(figures.base))),
+            (
+                "worst_loss",
+                both.map(|figures| Value::money(figures.worst_loss)),
+            ),
+            (
+                "scenario",
+                both.map(|figures| Value::whole(figures.scenario)),
+            ),
+            (
+                "tolerance",
+                both.map(|figures| Value::money(figures.tolerance)),
+            ),
         ],
+    }
+}
+
+/// A scenario has no difference.
+fn difference([before, after]: &[Value; 2]) -> Option<Value> {
+    match (before, after) {
+        (Value::Decimal(before, MONEY), Value::Decimal(after, MONEY)) => {
+            Some(Value::Signed(after - before, MONEY))
+        }
+        _ => None,
     }
 }
 
 impl Part {
     fn is_changed(&self) -> bool {
         let mut figures = self.figures.iter();
-        figures.any(|figure| figure.before != figure.after)
+        figures.any(|(_, [before, after])| before != after)
     }
 
     /// Its name, and a line for each figure; a blank line behind another's.
     fn push_lines(self, table: &mut Table) {
-        let nothing = || vec![Value::Nothing; 3];
+        let nothing = || Value::Nothing;
         if !table.rows.is_empty() {
-            table.push([vec![Value::Nothing], nothing()].concat());
+            table.push([nothing(), nothing(), nothing(), nothing()]);
         }
-        table.push([vec![Value::text(self.name)], nothing()].concat());
-        for figure in self.figures {
-            let name = Value::text(figure.name.replace('_', " "));
-            table.push(vec![name, figure.before, figure.after, figure.difference]);
+        table.push([Value::text(self.name), nothing(), nothing(), nothing()]);
+        for (name, figures) in self.figures {
+            let (name, difference) = (name.replace('_', " "), difference(&figures).into());
+            let [before, after] = figures;
+            table.push([Value::text(name), before, after, difference]);
         }
-    }
-}
-
-impl Figure {
-    fn money(name: &'static str, before: impl Into<i128>, after: impl Into<i128>) -> Self {
-        let (before, after) = (before.into(), after.into());
-        Figure {
-            name,
-            before: Value::money(before),
-            after: Value::money(after),
-            difference: Value::Signed(after - before, MONEY),
-        }
-    }
-
-    fn cells(self) -> impl Iterator<Item = Value> {
-        let difference = Some(self.difference).filter(|cell| *cell != Value::Nothing);
-        [self.before, self.after].into_iter().chain(difference)
     }
 }
 
 /// Parts of one kind that stay as they were, if there are any.
 fn unchanged(parts: Vec<Part>) -> Option<Table> {
-    let names = parts.first()?.figures.iter().map(|figure| figure.name);
-    let columns: Vec<&str> = ["unchanged"].into_iter().chain(names).collect();
-    let mut table = Table::new("unchanged", &columns);
+    let names = parts.first()?.figures.iter().map(|(name, _)| *name);
+    let columns = ["unchanged"].into_iter().chain(names).collect();
+    let mut table = Table::with("unchanged", columns);
     for part in parts {
-        let figures = part.figures.into_iter().map(|figure| figure.after);
-        table.push(
-            [Value::text(part.name)]
-                .into_iter()
-                .chain(figures)
-                .collect(),
-        );
+        let figures = part.figures.into_iter().map(|(_, [_, after])| after);
+        table.push([Value::text(part.name)].into_iter().chain(figures));
     }
     Some(table)
 }

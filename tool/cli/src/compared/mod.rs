@@ -1,5 +1,7 @@
 //! Two books beside each other.
 
-mod common_run;
-pub mod differences;
-pub mod margins;
+mod differences;
+mod margins;
+
+pub use differences::differences;
+pub use margins::Margins;

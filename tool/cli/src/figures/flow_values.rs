@@ -3,9 +3,9 @@
 //! not add up to the engine's figures of the curve is never shown.
 
 use crate::ended::Ended;
-use crate::figures::valued::unlike;
-use crate::files::books::BookFile;
-use crate::trades::flow_kind::{flows_of, FlowKind};
+use crate::figures::unlike;
+use crate::files::BookFile;
+use crate::trades::{flows_of, FlowKind};
 use seddolki::{present_value, Report};
 use seddolki_format::block::Curve;
 use seddolki_model::curve::rate_on;

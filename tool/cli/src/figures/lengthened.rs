@@ -3,20 +3,19 @@
 //! not bear out is never shown.
 
 use crate::ended::Ended;
-use crate::figures::drawn::{day_flows, nodes};
-use crate::figures::node_table::of_node;
-use crate::printed::table::{Table, Value};
-use crate::trades::refusal::quote_refused;
-use crate::trades::words;
+use crate::figures::{chart_nodes, node_table};
+use crate::printed::{Table, Value};
+use crate::trades::{quote_refused, words};
 use seddolki::{Book, Date, Quote};
-use seddolki_chart as chart;
+use seddolki_chart::{self as chart, DayFlows};
 use seddolki_format::block::{Curve, Node, BLOCK};
 use seddolki_format::layout::Layout;
 use seddolki_format::report::currency_name;
 use seddolki_model::accept;
 use seddolki_model::bootstrap::bond_value;
-use seddolki_model::flows::{payments, CashFlow};
+use seddolki_model::flows::payments;
 use seddolki_text::decimal::{format as decimal, format_signed, MONEY, PERCENT};
+use std::slice;
 
 /// A curve before and after, and what it was lengthened by.
 pub struct Lengthened {
@@ -80,26 +79,24 @@ impl Lengthened {
     /// The new node, and what the bond is worth at its rate and at the next
     /// below it.
     pub fn tables(&self) -> [Table; 2] {
-        let mut values = Table::new("values", &["rate", "value", "cash", "difference"]);
+        let mut values = Table::new("values", "rate value cash difference");
         let cash = i128::from(self.quote.cash);
         for (rate, value) in self.values() {
-            values.push(vec![
+            values.push([
                 Value::percent(rate),
                 Value::money(value),
                 Value::money(cash),
                 Value::Signed(i128::from(value) - cash, MONEY),
             ]);
         }
-        [of_node(self.before.id, self.node()), values]
+        let node = slice::from_ref(self.node());
+        [node_table([(&self.before, node)]), values]
     }
 
     /// Which curve, to which day and by which bond, in words.
     pub fn in_words(&self, verb: &str) -> String {
-        let (id, day) = (self.before.id, decimal(self.node().day, 0));
-        format!(
-            "curve {id} {verb} lengthened to day {day} by {}",
-            self.bond()
-        )
+        let (id, day, bond) = (self.before.id, decimal(self.node().day, 0), self.bond());
+        format!("curve {id} {verb} lengthened to day {day} by {bond}")
     }
 
     fn bond(&self) -> String {
@@ -110,36 +107,39 @@ impl Lengthened {
 
     /// The curve before and after, above what the bond costs and pays.
     pub fn picture(&self) -> String {
-        let node = self.node();
-        let components = node.components.map(|c| format_signed(c, PERCENT) + "%");
+        let Node {
+            day,
+            rate,
+            components,
+        } = *self.node();
+        let (day, rate) = (decimal(day, 0), decimal(rate, PERCENT));
+        let components = components
+            .map(|c| format_signed(c, PERCENT) + "%")
+            .join(" ");
+        let node = format!("new node: day {day}, rate {rate}%, components {components}");
         let picture = chart::Lengthened {
-            curve: &format!("{} of account {}", self.before.id, self.account),
-            currency: currency_name(self.before.currency.into()),
-            bond: &self.bond(),
-            node: &format!(
-                "new node: day {}, rate {}%, components {}",
-                decimal(node.day, 0),
-                decimal(node.rate, PERCENT),
-                components.join(" ")
-            ),
-            before: &nodes(self.before.nodes()),
-            after: &nodes(self.after.nodes()),
-            flows: &day_flows(&self.flows()),
+            heading: chart::Heading {
+                curve: format!("{} of account {}", self.before.id, self.account),
+                currency: currency_name(self.before.currency.into()),
+                lines: [self.bond(), node],
+            },
+            before: &chart_nodes(self.before.nodes()),
+            after: &chart_nodes(self.after.nodes()),
+            flows: &self.flows(),
         };
         picture.draw()
     }
 
     /// The cash out on day 0, and the payments in.
-    fn flows(&self) -> Vec<CashFlow> {
-        let flow = |sign, day, amount| CashFlow {
-            curve: self.before.id,
+    fn flows(&self) -> Vec<DayFlows> {
+        let flows = |(day, incoming, outgoing)| DayFlows {
             day,
-            amount,
-            sign,
+            incoming,
+            outgoing,
         };
-        let cash = flow(-1, 0, self.quote.cash.into());
         let payments = payments(&self.quote.purchase()).into_iter();
-        let payments = payments.map(|(day, amount)| flow(1, day, amount));
-        [cash].into_iter().chain(payments).collect()
+        let payments = payments.map(|(day, amount)| (day as u32, amount as u64, 0));
+        let cash = [(0, 0, self.quote.cash)].into_iter();
+        cash.chain(payments).map(flows).collect()
     }
 }

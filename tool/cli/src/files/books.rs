@@ -1,16 +1,15 @@
 //! Books in files.
 
-use crate::arguments::Waiting;
+use crate::arguments::{Edited, Waiting};
 use crate::current_day::CurrentDay;
 use crate::ended::Ended;
-use crate::printed::account::account_on;
-use crate::printed::print;
-use crate::trades::refusal::book_refused;
+use crate::printed::{account_on, print};
+use crate::trades::book_refused;
 use seddolki::{Book, Date, Refusal, Report};
 use seddolki_format::block::BLOCK;
 use seddolki_format::limits::MAX_BLOCKS;
 use seddolki_model::accept::{self, accept};
-use seddolki_store::{self as store, shown, Failure, Input, Patience, Written};
+use seddolki_store::{self as store, shown, Failure, Input, Patience};
 use std::path::Path;
 use std::time::Duration;
 
@@ -114,42 +113,31 @@ pub fn text(path: &Path) -> Result<Input, Ended> {
 /// Edits the book in a file; `change` gets the book and its parts. Where the
 /// edit is refused, the file stays.
 pub fn edit<T>(
-    path: &Path,
-    waiting: Waiting,
+    edited: &Edited,
     change: impl FnOnce(&mut Book, accept::Book) -> Result<T, Ended>,
 ) -> Result<T, Ended> {
+    let path = &edited.book;
     refuse_dash(path)?;
     let name = shown(path);
-    let edited = store::edit(path, LARGEST, &patience(waiting), |bytes| {
+    store::edit(path, LARGEST, &patience(edited.waiting), |bytes| {
         let mut book = Book::from_bytes(bytes);
         accept_book(&name, &book)?;
         let parts = parts(&name, &book)?;
         let result = change(&mut book, parts)?;
-        Ok::<_, Ended>((book.as_bytes().to_vec(), result))
-    })?;
-    Ok(with_warning_told(edited))
+        Ok((book.as_bytes().to_vec(), result))
+    })
 }
 
 /// The same for a book that is for the current day.
 pub fn edit_on<T>(
     day: CurrentDay,
-    path: &Path,
-    waiting: Waiting,
+    edited: &Edited,
     change: impl FnOnce(&mut Book, accept::Book) -> Result<T, Ended>,
 ) -> Result<T, Ended> {
-    edit(path, waiting, |book, parts| {
-        day.refuse_other_day(&shown(path), book, parts.valuation_day)?;
+    edit(edited, |book, parts| {
+        day.refuse_other_day(&shown(&edited.book), book, parts.valuation_day)?;
         change(book, parts)
     })
-}
-
-/// Says what went wrong after a file had its new bytes: it is written all
-/// the same.
-pub fn with_warning_told<T>(written: Written<T>) -> T {
-    if let Some(warning) = written.warning {
-        print::say(&warning);
-    }
-    written.result
 }
 
 pub fn patience(waiting: Waiting) -> Patience<'static> {
@@ -171,18 +159,13 @@ pub fn name_of(path: &Path) -> String {
 
 /// Where a book is to be edited.
 pub fn refuse_dash(path: &Path) -> Result<(), Ended> {
-    if is_dash(path) {
-        let reason = "an edit takes a book in a file, and not standard input";
-        return Err(Ended::Misused(reason.into()));
-    }
-    Ok(())
+    let reason = "an edit takes a book in a file, and not standard input";
+    Ended::misused(is_dash(path), reason)
 }
 
 /// Standard input can be read once.
 pub fn one_stream(paths: &[impl AsRef<Path>]) -> Result<(), Ended> {
-    if paths.iter().filter(|path| is_dash(path.as_ref())).count() > 1 {
-        let reason = "standard input (-) is named twice, and can be read once";
-        return Err(Ended::Misused(reason.into()));
-    }
-    Ok(())
+    let named = paths.iter().filter(|path| is_dash(path.as_ref())).count();
+    let reason = "standard input (-) is named twice, and can be read once";
+    Ended::misused(named > 1, reason)
 }

@@ -1,8 +1,7 @@
 //! Books from files of curves.
 
 use crate::ended::Ended;
-use crate::trades::keyed::faults_told;
-use crate::trades::refusal::{book_refused, by_ground, where_and_why};
+use crate::trades::{book_refused, by_ground, faults_told, where_and_why};
 use seddolki::{Book, Date, Record};
 use seddolki_format::assemble;
 use seddolki_model::{BookFault, Fault};

@@ -1,5 +1,8 @@
 //! Books and texts in files.
 
-pub mod books;
-pub mod curve_files;
+mod books;
+mod curve_files;
 pub mod outputs;
+
+pub use books::*;
+pub use curve_files::{book_of, read_curves};

@@ -2,7 +2,7 @@
 
 use crate::arguments::Output;
 use crate::ended::Ended;
-use crate::files::books::{is_dash, patience, with_warning_told};
+use crate::files::{is_dash, patience};
 use crate::printed::print;
 use seddolki_store::{self as store, shown, Input};
 use std::path::Path;
@@ -15,9 +15,8 @@ pub fn write(
     inputs: &[&Input],
 ) -> Result<(), Ended> {
     let patience = patience(output.waiting);
-    let written = store::write_output(path, bytes.as_ref(), output.force, inputs, &patience)?;
-    with_warning_told(written);
-    Ok(())
+    let written = store::write_output(path, bytes.as_ref(), output.force, inputs, &patience);
+    Ok(written?)
 }
 
 /// The same, and what the file holds is told, unless it is standard output.
@@ -37,9 +36,6 @@ pub fn write_told(
 
 /// Where an option takes a file alone.
 pub fn refuse_standard_output(path: &Path, option: &str) -> Result<(), Ended> {
-    if is_dash(path) {
-        let reason = format!("{option} takes a file, and not standard output");
-        return Err(Ended::Misused(reason));
-    }
-    Ok(())
+    let reason = format!("{option} takes a file, and not standard output");
+    Ended::misused(is_dash(path), &reason)
 }

@@ -1,8 +1,7 @@
 //! The form in which tables are printed.
 
 use crate::ended::Ended;
-use crate::printed::print;
-use crate::printed::table::{csv, json, Table};
+use crate::printed::{csv, json, print, Table};
 use clap::Args;
 use seddolki_text::decimal::Decimals;
 

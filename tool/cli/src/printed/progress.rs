@@ -1,7 +1,7 @@
 //! Work on several books at once, on all cores.
 
-use crate::cores::on_all_cores;
 use crate::ended::{Ended, DONE};
+use crate::parallel::on_all_cores;
 use indicatif::{ProgressBar, ProgressStyle};
 use seddolki_store::shown;
 use std::collections::BTreeSet;

@@ -1,8 +1,10 @@
 //! Tables, for people and for programs.
 
+use crate::printed::print::visible;
 use seddolki::Date;
 use seddolki_text::decimal::{self, Decimals};
 use serde_json::{Map, Value as Json};
+use std::collections::BTreeSet;
 use unicode_width::UnicodeWidthStr;
 
 /// A cell. A decimal number is whole in units of the last of its places.
@@ -10,7 +12,6 @@ use unicode_width::UnicodeWidthStr;
 pub enum Value {
     Nothing,
     Text(String),
-    Whole(i128),
     /// A number that is a name, as an account's.
     Id(u32),
     Flag(bool),
@@ -25,6 +26,12 @@ pub struct Table {
     pub name: &'static str,
     pub columns: Vec<&'static str>,
     pub rows: Vec<Vec<Value>>,
+}
+
+impl From<Option<Value>> for Value {
+    fn from(cell: Option<Value>) -> Self {
+        cell.unwrap_or(Value::Nothing)
+    }
 }
 
 impl Value {
@@ -48,15 +55,18 @@ impl Value {
         Value::Signed(coefficient.into(), decimal::COEFFICIENT)
     }
 
+    pub fn whole(number: impl Into<i128>) -> Self {
+        Value::Decimal(number.into(), 0)
+    }
+
     pub fn count(number: usize) -> Self {
-        Value::Whole(number as i128)
+        Value::whole(number as i128)
     }
 
     fn for_people(&self) -> String {
         match self {
             Value::Nothing => String::new(),
-            Value::Text(text) => crate::printed::print::visible(text).replace('\n', "\\n"),
-            Value::Whole(number) => decimal::format(*number, 0),
+            Value::Text(text) => visible(text).replace('\n', "\\n"),
             Value::Id(number) => number.to_string(),
             Value::Flag(flag) => if *flag { "yes" } else { "" }.to_owned(),
             Value::Decimal(number, places) => decimal::format(*number, *places),
@@ -68,7 +78,6 @@ impl Value {
         match self {
             Value::Nothing => String::new(),
             Value::Text(text) => text.clone(),
-            Value::Whole(number) => number.to_string(),
             Value::Id(number) => number.to_string(),
             Value::Flag(flag) => flag.to_string(),
             Value::Decimal(number, places) | Value::Signed(number, places) => {
@@ -81,7 +90,7 @@ impl Value {
     fn json(&self) -> Json {
         match self {
             Value::Nothing => Json::Null,
-            Value::Whole(number) => i64::try_from(*number).map_or(Json::Null, Json::from),
+            Value::Decimal(number, 0) => i64::try_from(*number).map_or(Json::Null, Json::from),
             Value::Id(number) => Json::from(*number),
             Value::Flag(flag) => Json::from(*flag),
             other => Json::String(other.plain(Decimals::Point)),
@@ -90,15 +99,22 @@ impl Value {
 }
 
 impl Table {
-    pub fn new(name: &'static str, columns: &[&'static str]) -> Self {
+    /// The names of its columns are a blank apart.
+    pub fn new(name: &'static str, columns: &'static str) -> Self {
+        Table::with(name, columns.split_whitespace().collect())
+    }
+
+    pub fn with(name: &'static str, columns: Vec<&'static str>) -> Self {
+        let rows = vec![];
         Table {
             name,
-            columns: columns.to_vec(),
-            rows: vec![],
+            columns,
+            rows,
         }
     }
 
-    pub fn push(&mut self, row: Vec<Value>) {
+    pub fn push(&mut self, row: impl IntoIterator<Item = Value>) {
+        let row: Vec<Value> = row.into_iter().collect();
         debug_assert_eq!(row.len(), self.columns.len());
         self.rows.push(row);
     }
@@ -155,19 +171,17 @@ fn aligned(left: &[bool], lines: &[Vec<String>]) -> String {
         cells.max().unwrap_or(0)
     };
     let widths: Vec<usize> = (0..left.len()).map(width).collect();
+    let padded = |((cell, left), width): ((&String, &bool), &usize)| {
+        let blanks = " ".repeat(width - cell.width());
+        match left {
+            true => format!("{cell}{blanks}"),
+            false => format!("{blanks}{cell}"),
+        }
+    };
     let line = |cells: &Vec<String>| {
-        let cells = cells.iter().zip(left).zip(&widths);
-        let cells: Vec<String> = cells
-            .map(|((cell, left), width)| {
-                let blanks = " ".repeat(width - cell.width());
-                if *left {
-                    format!("{cell}{blanks}")
-                } else {
-                    format!("{blanks}{cell}")
-                }
-            })
-            .collect();
-        cells.join("  ").trim_end().to_owned() + "\n"
+        let cells = cells.iter().zip(left).zip(&widths).map(padded);
+        let line = cells.collect::<Vec<_>>().join("  ");
+        line.trim_end().to_owned() + "\n"
     };
     lines.iter().map(line).collect()
 }
@@ -182,42 +196,30 @@ pub fn json(tables: &[Table]) -> String {
 /// One line of names, then all rows. Where there are several tables, the
 /// first column says which a row is of, and what its table lacks is empty.
 pub fn csv(tables: &[Table], decimals: Decimals) -> String {
-    let mut names: Vec<&str> = vec![];
-    for name in tables.iter().flat_map(|table| &table.columns) {
-        if !names.contains(name) {
-            names.push(name);
-        }
-    }
-    let delimiter = if decimals == Decimals::Comma {
-        b';'
-    } else {
-        b','
+    let mut names: Vec<&str> = tables.iter().flat_map(|t| t.columns.clone()).collect();
+    let mut seen = BTreeSet::new();
+    names.retain(|name| seen.insert(*name));
+    let delimiter = match decimals {
+        Decimals::Comma => b';',
+        _ => b',',
     };
-    let mut out = csv::WriterBuilder::new()
-        .delimiter(delimiter)
-        .from_writer(vec![]);
-    let several = tables.len() > 1;
-    let mut lines = vec![line(
-        several.then_some("table"),
-        names.iter().map(|n| (*n).to_owned()),
-    )];
+    let mut builder = csv::WriterBuilder::new();
+    let mut out = builder.delimiter(delimiter).from_writer(vec![]);
+    let mut write = |table: &str, cells: Vec<String>| {
+        let table = (tables.len() > 1).then(|| table.to_owned());
+        let line = table.into_iter().chain(cells);
+        out.write_record(line).expect("memory takes every record");
+    };
+    write("table", names.iter().map(ToString::to_string).collect());
     for table in tables {
         for row in &table.rows {
             let cell = |name: &&str| {
                 let place = table.columns.iter().position(|column| column == name);
                 place.map_or(String::new(), |i| row[i].plain(decimals))
             };
-            lines.push(line(several.then_some(table.name), names.iter().map(cell)));
+            write(table.name, names.iter().map(cell).collect());
         }
-    }
-    for line in lines {
-        out.write_record(line)
-            .expect("memory takes every record of one length");
     }
     let bytes = out.into_inner().expect("memory is flushed");
     String::from_utf8(bytes).expect("texts are written as they are")
-}
-
-fn line(table: Option<&str>, cells: impl Iterator<Item = String>) -> Vec<String> {
-    table.map(str::to_owned).into_iter().chain(cells).collect()
 }

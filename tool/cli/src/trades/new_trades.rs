@@ -1,22 +1,19 @@
 //! Trades that are to be added to a book: one that was keyed, or those of a
 //! file.
 
-use crate::arguments::Again;
-use crate::compared::margins::Margins;
+use crate::compared::Margins;
 use crate::current_day::CurrentDay;
 use crate::ended::Ended;
-use crate::files::books::{name_of, one_stream, text, BookFile};
-use crate::trades::keyed::{faults_told, named_values};
-use crate::trades::keyed_twice::Told;
-use crate::trades::lines::Lines;
-use crate::trades::refusal::record_refused;
-use crate::trades::words;
-use seddolki::{doubles_among, stands_already, Book, Ground, Placed, Record, Refusal};
+use crate::files::{name_of, one_stream, text, BookFile};
+use crate::trades::{faults_told, named_values, record_refused, words, Told};
+use seddolki::{Book, Ground, Record, Refusal};
+use seddolki_doubles::{doubles_among, stands_already, Placed};
 use seddolki_format::block::Curve;
 use seddolki_format::text::count;
 use seddolki_model::accept;
 use seddolki_text::trade::record_of;
-use seddolki_text::{trade_columns, trades_file, Decimals};
+use seddolki_text::trades_file::{self, TradesFile};
+use seddolki_text::{trade_columns, Decimals};
 use std::path::Path;
 
 pub struct NewTrades {
@@ -25,8 +22,8 @@ pub struct NewTrades {
     /// The day that the book is to be for.
     pub day: CurrentDay,
     records: Vec<Record>,
-    /// Of a file; none where a trade was keyed.
-    lines: Option<Lines>,
+    /// The name of their file, and what it holds; none where a trade was keyed.
+    file: Option<(String, TradesFile)>,
 }
 
 impl NewTrades {
@@ -40,7 +37,7 @@ impl NewTrades {
             book,
             day,
             records: vec![record],
-            lines: None,
+            file: None,
         })
     }
 
@@ -54,7 +51,7 @@ impl NewTrades {
             book: name_of(book),
             day,
             records: read.trades.iter().map(|trade| trade.record).collect(),
-            lines: Some(Lines::of(input.name, &read)),
+            file: Some((input.name, read)),
         })
     }
 
@@ -64,15 +61,18 @@ impl NewTrades {
 
     /// The command that adds them.
     pub fn command(&self) -> &'static str {
-        self.lines.as_ref().map_or("append", |_| "import")
+        self.file.as_ref().map_or("append", |_| "import")
     }
 
-    /// Which are added from a position on, in words; a verb says whether they
-    /// are by now.
-    pub fn in_words(&self, first: usize, verb: impl Fn(usize) -> &'static str) -> String {
+    /// Which are added from a position on, or would be, in words.
+    pub fn in_words(&self, first: usize, done: bool) -> String {
         let (book, trades) = (&self.book, self.count());
-        let verb = verb(trades);
-        match (&self.lines, trades) {
+        let verb = match trades {
+            _ if !done => "would be",
+            0 | 1 => "is",
+            _ => "are",
+        };
+        match (&self.file, trades) {
             (None, _) => {
                 let words = words::trade(&self.records[0]);
                 format!("{book}: trade {first} {verb} added: {words}")
@@ -93,7 +93,7 @@ impl NewTrades {
         &self,
         book: &mut Book,
         parts: &accept::Book,
-        again: Again,
+        again: bool,
     ) -> Result<Told, Ended> {
         let wrong = self.wrong(&parts.curves, |_, record| {
             book.append(self.day.date, record).map(drop)
@@ -135,20 +135,28 @@ impl NewTrades {
                 }
             }
         }
-        match &self.lines {
-            Some(lines) => lines.wrong(refused),
-            None => {
-                let told = |(_, reason)| format!("{}: {reason}", self.book);
-                refused.into_iter().map(told).collect()
-            }
-        }
+        let Some((name, file)) = &self.file else {
+            let told = |(_, reason)| format!("{}: {reason}", self.book);
+            return refused.into_iter().map(told).collect();
+        };
+        // every line that is wrong or whose trade is refused, in order
+        let faults = file.faults.iter();
+        let faults = faults.map(|fault| (fault.line.unwrap_or_default(), fault.to_string()));
+        let refused = refused.into_iter().map(|(place, reason)| {
+            let line = file.trades[place].line;
+            (line, format!("line {line}, {reason}"))
+        });
+        let mut wrong: Vec<(u64, String)> = faults.chain(refused).collect();
+        wrong.sort_by_key(|(line, _)| *line);
+        let told = wrong.iter().map(|(_, fault)| format!("{name}: {fault}"));
+        told.collect()
     }
 
     /// What is said of those that look keyed twice, beside the trades of a
     /// book; of a file that was imported before, unless that is meant, no more
     /// than this.
-    pub fn told(&self, trades: &[Record], again: Again) -> Told {
-        match self.imported_already(trades).filter(|_| !again.again) {
+    pub fn told(&self, trades: &[Record], again: bool) -> Told {
+        match self.imported_already(trades).filter(|_| !again) {
             Some(reason) => Told::refusing(reason),
             None => {
                 let named = |trade: &Placed| self.named(trade, trades.len());
@@ -159,28 +167,23 @@ impl NewTrades {
 
     /// A trade of the book by its position, a new one by its line.
     fn named(&self, trade: &Placed, standing: usize) -> String {
-        match (trade.position.checked_sub(standing), &self.lines) {
+        match (trade.position.checked_sub(standing), &self.file) {
             (None, _) => trade.to_string(),
             (Some(_), None) => "the new trade".into(),
-            (Some(place), Some(lines)) => lines.named(place),
+            (Some(place), Some((name, file))) => {
+                format!("line {} of {name}", file.trades[place].line)
+            }
         }
     }
 
     /// Where the trades of a file stand in the book, if all of them do.
     fn imported_already(&self, trades: &[Record]) -> Option<String> {
-        let lines = self.lines.as_ref().filter(|lines| lines.are_right())?;
+        let (name, _) = self
+            .file
+            .as_ref()
+            .filter(|(_, file)| file.faults.is_empty())?;
         let standing = stands_already(trades, &self.records)?;
-        let (name, book) = (&lines.name, &self.book);
         let words = "imported already: all its trades stand in";
-        Some(format!("{name}: {words} {book}, {standing}"))
-    }
-}
-
-/// The verb for so many trades that are added.
-pub fn is_or_are(trades: usize) -> &'static str {
-    if trades > 1 {
-        "are"
-    } else {
-        "is"
+        Some(format!("{name}: {words} {}, {standing}", self.book))
     }
 }

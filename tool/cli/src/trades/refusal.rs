@@ -74,25 +74,20 @@ fn column_of(record: &Record, field: &str) -> String {
 
 /// A sentence with words alone where it has `2 (coupons)`, as a column has.
 fn without_codes(sentence: &str) -> String {
+    let is_code = |code: &str| !code.is_empty() && code.bytes().all(|byte| byte.is_ascii_digit());
     let mut text = String::new();
-    let mut rest = sentence;
-    while let Some((before, behind)) = rest.split_once(" (") {
-        let code = before.rsplit(' ').next().unwrap_or(before);
-        let is_code = !code.is_empty() && code.bytes().all(|byte| byte.is_ascii_digit());
-        match behind.split_once(')').filter(|_| is_code) {
-            Some((word, more)) => {
-                text += &before[..before.len() - code.len()];
-                text += word;
-                rest = more;
-            }
-            None => {
-                text += before;
-                text += " (";
-                rest = behind;
-            }
+    for part in sentence.split_inclusive(')') {
+        let coded = part
+            .strip_suffix(')')
+            .and_then(|part| part.split_once(" ("));
+        let before = coded.map_or(part, |(before, _)| before);
+        let start = before.rfind(' ').map_or(0, |blank| blank + 1);
+        match coded.filter(|_| is_code(&before[start..])) {
+            Some((_, word)) => text.extend([&before[..start], word]),
+            None => text += part,
         }
     }
-    text + rest
+    text
 }
 
 #[cfg(test)]

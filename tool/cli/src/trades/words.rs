@@ -1,6 +1,6 @@
 //! Trades in plain words.
 
-use crate::trades::by_term::ByTerm;
+use crate::trades::TermPayments;
 use seddolki::Record;
 use seddolki_format::record::{COUPONS, FIRST_SIDE, INDEXED_COUPONS, POOL, SINGLE_PAYMENT};
 use seddolki_format::text::count;
@@ -14,96 +14,76 @@ fn percent(rate: u32) -> String {
     decimal(rate, PERCENT) + "%"
 }
 
+/// A day, or another whole number.
 fn day(day: impl Into<i128>) -> String {
     decimal(day, 0)
 }
 
 /// A trade in one sentence.
 pub fn trade(record: &Record) -> String {
-    let parts = [Some(agreed(record)), inside_term(record)];
-    let parts: Vec<String> = parts.into_iter().flatten().collect();
-    parts.join(", ")
+    let inside = inside_term(record).map(|words| format!(", {words}"));
+    agreed(record) + &inside.unwrap_or_default()
 }
 
 /// What was agreed: the trade without the payments inside its term.
 pub fn agreed(record: &Record) -> String {
-    if record.is_repo() {
-        repo(record)
-    } else {
-        outright(record)
+    match record.is_repo() {
+        true => repo(record),
+        false => outright(record),
     }
 }
 
 fn outright(record: &Record) -> String {
-    let verb = if record.side == FIRST_SIDE {
-        "buys"
-    } else {
-        "sells"
+    let verb = match record.side {
+        FIRST_SIDE => "buys",
+        _ => "sells",
     };
-    format!(
-        "{verb} {}, at {} clean and {} accrued, value day {}",
-        security(record),
-        percent(record.price_or_rate),
-        percent(record.accrued),
-        day(record.value_day_1)
-    )
+    let (price, accrued) = (percent(record.price_or_rate), percent(record.accrued));
+    let (security, day) = (security(record), day(record.value_day_1));
+    format!("{verb} {security}, at {price} clean and {accrued} accrued, value day {day}")
 }
 
 fn repo(record: &Record) -> String {
-    let member = if record.side == FIRST_SIDE {
-        "repo member"
-    } else {
-        "reverse-repo member"
+    let member = match record.side {
+        FIRST_SIDE => "repo member",
+        _ => "reverse-repo member",
     };
-    let kind = if record.kind == POOL {
-        "pool"
-    } else {
-        "specified"
+    let kind = match record.kind {
+        POOL => "pool",
+        _ => "specified",
     };
-    let days = if record.first_leg_settled() {
-        format!(
-            "first leg settled, second leg on day {}",
-            day(record.value_day_2)
-        )
-    } else {
-        let (first, second) = (day(record.value_day_1), day(record.value_day_2));
-        format!("from day {first} to day {second}")
+    let [first, second] = [record.value_day_1, record.value_day_2].map(day);
+    let days = match record.first_leg_settled() {
+        true => format!("first leg settled, second leg on day {second}"),
+        false => format!("from day {first} to day {second}"),
     };
-    let against = if record.has_security() {
-        format!(", against {}", security(record))
-    } else {
-        String::new()
+    let against = match record.has_security() {
+        true => format!(", against {}", security(record)),
+        false => String::new(),
     };
-    format!(
-        "{member} in a {kind} repo, phase {}: cash {} at {} for {}, {days}{against}",
-        record.phase,
-        money(record.repo_cash),
-        percent(record.price_or_rate),
-        count(record.term.into(), "day"),
-    )
+    let (cash, rate) = (money(record.repo_cash), percent(record.price_or_rate));
+    let (phase, term) = (record.phase, count(record.term.into(), "day"));
+    format!("{member} in a {kind} repo, phase {phase}: cash {cash} at {rate} for {term}, {days}{against}")
 }
 
 /// What the security of a trade pays.
 pub fn security(record: &Record) -> String {
-    let nominal = money(record.nominal);
+    let (nominal, first) = (money(record.nominal), day(record.first_payment_day));
     let coupons = || {
-        format!(
-            "{nominal} nominal with {} of {} each {} from day {}",
+        let (coupons, rate) = (
             count(record.payments.into(), "coupon"),
             percent(record.coupon),
-            count(record.period.into(), "day"),
-            day(record.first_payment_day)
-        )
+        );
+        let period = count(record.period.into(), "day");
+        format!("{nominal} nominal with {coupons} of {rate} each {period} from day {first}")
     };
     match record.security {
-        SINGLE_PAYMENT => format!("{nominal} paid on day {}", day(record.first_payment_day)),
+        SINGLE_PAYMENT => format!("{nominal} paid on day {first}"),
         COUPONS => coupons(),
-        INDEXED_COUPONS => format!(
-            "{}, index {} over {}",
-            coupons(),
-            decimal(record.settlement_index, 0),
-            decimal(record.issue_index, 0)
-        ),
+        INDEXED_COUPONS => {
+            let [index, issued] = [record.settlement_index, record.issue_index].map(day);
+            format!("{}, index {index} over {issued}", coupons())
+        }
         _ => String::from("no security"),
     }
 }
@@ -111,12 +91,11 @@ pub fn security(record: &Record) -> String {
 /// The payments inside a repo's term, if there are any, and how many come
 /// after it.
 pub fn inside_term(record: &Record) -> Option<String> {
-    let ByTerm { inside, after } = ByTerm::of(record)?;
+    let TermPayments { inside, after } = TermPayments::of(record)?;
     let (first, last) = (*inside.first()?, *inside.last()?);
-    let days = if first == last {
-        format!("on day {}", day(first))
-    } else {
-        format!("from day {} to day {}", day(first), day(last))
+    let days = match day(first) {
+        only if first == last => format!("on day {only}"),
+        first => format!("from day {first} to day {}", day(last)),
     };
     let settled = match inside.len() {
         _ if !record.first_leg_settled() => "",

@@ -4,7 +4,7 @@
 // each test file uses a part of it
 #![allow(dead_code)]
 
-use seddolki_store::{edit, Failure, Patience, Written};
+use seddolki_store::{edit, Failure, Patience};
 use std::fs;
 use std::os::unix::fs::{MetadataExt, PermissionsExt};
 use std::os::unix::process::{CommandExt, ExitStatusExt};
@@ -82,7 +82,7 @@ pub fn state(path: &Path) -> (u64, u32, u32, u64, i64, Vec<u8>) {
 }
 
 /// Gives a file new bytes by an edit.
-pub fn edit_to(path: &Path, bytes: &[u8]) -> Result<Written, Failure> {
+pub fn edit_to(path: &Path, bytes: &[u8]) -> Result<(), Failure> {
     edit(path, MOST, &AT_ONCE, |_| Ok((bytes.to_vec(), ())))
 }
 
