@@ -21,8 +21,8 @@
  * mapping of the file.
  *
  * Bytes that a call writes must not overlap the others of the same call: where
- * they do, nothing of what this file says holds. A page over its book is written
- * past its end and crashes the program.
+ * they do, nothing of what this file says holds: a page over its book may be
+ * written past its end and crash the program.
  *
  * Every function returns; none allocates, keeps a pointer, reads or writes a
  * file, or holds state between calls. Calls on different bytes may run at
