@@ -1,4 +1,6 @@
 // Whether a book is accepted: the check of the whole, with the current day or without.
+#![tactic(auto)]
+
 ghost use Rattle.std.specs.Prelude.{◌≡◌};
 ghost use Rattle.acceptance.specs.Verdict.{breaks_valuation_day, book_verdict};
 
@@ -6,7 +8,7 @@ use book::parts::valuation_day;
 use ground::{Ground, Verdict};
 
 // The current day as an entry is given it, in days since 1 January 2000.
-#[derive(Drop)]
+#[derive(Clone, Copy)]
 pub enum Today {
     Given(u64),
     NotGiven,

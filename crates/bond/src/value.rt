@@ -119,7 +119,7 @@ fn value_between(c: Curve, l: Leg, from: u64, to: u64, tables: &[u64]) -> u64
 
 // A bond on a curve that is to get a node, at a rate not yet known. The value of the payments that fall up to the curve's last node does not
 // depend on that rate, and is taken once: `within` of them are worth `known`.
-#[derive(Drop)]
+#[derive(Clone, Copy)]
 pub struct Extension {
     pub curve: Curve,
     pub node: Node,

@@ -1,4 +1,6 @@
 // A book: its parts, and the verdict on its blocks.
+#![tactic(auto)]
+
 mod blocks;
 pub mod parts;
 mod rules;

@@ -30,7 +30,7 @@ use legs::Leg;
 use logarithm::tables::fill;
 
 // The node to add, or the ground and the block.
-#[derive(Drop)]
+#[derive(Clone, Copy)]
 pub enum Decision {
     Add(Node),
     Refused(Ground, u64),

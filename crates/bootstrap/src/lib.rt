@@ -1,5 +1,7 @@
 // Extending a curve of a book from a coupon bond's price. First it is decided, from the bytes as they are, whether the call is refused and which
 // node is added; then the curve's block is written. A refusal writes nothing.
+#![tactic(auto)]
+
 mod bought;
 mod decide;
 mod refusals;
@@ -12,7 +14,7 @@ use decide::Decision;
 use ground::Verdict;
 
 // What a desk gives: the curve's id, the bond (bytes 12 to 31 of a record), its settlement cash today, and the components of the new node.
-#[derive(Drop)]
+#[derive(Clone, Copy)]
 pub struct Quote {
     pub curve: usize,
     pub bond: [u8; 20],

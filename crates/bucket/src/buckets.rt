@@ -6,7 +6,7 @@ ghost use Rattle.bucket.specs.Buckets.{alone, first_day_of, last_day_of, fitting
 
 // A day's bucket: its first and its last day, how many days are gone since the one and left to the other, and how far the day's factor is from the line
 // between theirs at most, in parts of 2^32 of the first day's.
-#[derive(Drop)]
+#[derive(Clone, Copy)]
 pub struct Bucket {
     pub first: u64,
     pub last: u64,

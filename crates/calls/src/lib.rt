@@ -1,1 +1,2 @@
 // No code: this crate says what lists of calls leave of a book.
+#![tactic(auto)]

@@ -1,4 +1,6 @@
 // The rate of a curve on a day, the scenarios of its components, and its nodes under a scenario.
+#![tactic(auto)]
+
 ghost use Rattle.std.specs.Prelude.{◌≡◌, ◌<◌, nat_abs};
 ghost use Rattle.curve.specs.Rates.{nodes_of, interpolated, rate_at, BetweenNodes};
 ghost use Rattle.curve.specs.Limits.{NodeLimits, ProperCurve, ComponentLimits, ProperComponents, ScenarioLimits};
@@ -7,7 +9,7 @@ ghost use Rattle.curve.specs.Stress.{shifted, clamped, stressed, stressed_curve}
 ghost use Rattle.curve.specs.Lengthen.{end_day, lengthened_curve, at_rate};
 
 // A node of a curve: its rate on a day, and the three components of the rate's moves, all in millionths.
-#[derive(Drop)]
+#[derive(Clone, Copy)]
 pub struct Node {
     pub day: u64,
     pub rate: u64,
@@ -17,20 +19,20 @@ pub struct Node {
 }
 
 // The first `count` nodes are the curve's.
-#[derive(Drop)]
+#[derive(Clone, Copy)]
 pub struct Curve {
     pub nodes: [Node; 24],
     pub count: usize,
 }
 
 // How far and how finely a component is stressed: its steps to each side of 0, and its range in hundredths.
-#[derive(Drop)]
+#[derive(Clone, Copy)]
 pub struct Component {
     pub steps: u64,
     pub range: u64,
 }
 
-#[derive(Drop)]
+#[derive(Clone, Copy)]
 pub struct Components {
     pub first: Component,
     pub second: Component,
@@ -38,7 +40,7 @@ pub struct Components {
 }
 
 // A coefficient for each component, in hundredths.
-#[derive(Drop)]
+#[derive(Clone, Copy)]
 pub struct Scenario {
     pub first: i64,
     pub second: i64,

@@ -1,4 +1,6 @@
 // A curve block: what it holds, and its verdict.
+#![tactic(auto)]
+
 pub mod rules;
 
 ghost use Rattle.std.specs.Prelude.{◌≡◌, ◌≤◌, ◌<◌, length};

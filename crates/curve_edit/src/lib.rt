@@ -1,4 +1,6 @@
 // A curve block with one node more.
+#![tactic(auto)]
+
 ghost use Rattle.std.specs.Prelude.{◌≡◌, ◌≤◌, ◌<◌, ◌+◌, length};
 ghost use Rattle.layout.specs.Bytes.{put};
 ghost use Rattle.curve_block.specs.Parts.{node_count};

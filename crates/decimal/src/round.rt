@@ -62,7 +62,7 @@ pub fn discounted(amount: u64, factor: u64) -> u64
 }
 
 // An amount, or that it is above the largest.
-#[derive(Drop)]
+#[derive(Clone, Copy)]
 pub enum Scaled {
     Within(u64),
     Over,

@@ -13,7 +13,7 @@ const YEAR: u64 = 365;
 
 // The powers of a factor and of the next one, side by side: a product waits for the one before it, so two chains of products take little longer
 // than one.
-#[derive(Drop)]
+#[derive(Clone, Copy)]
 pub struct Chains {
     pub low: Factor,
     pub high: Factor,

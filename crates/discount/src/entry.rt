@@ -7,7 +7,7 @@ use super::value::{present_value, tolerance};
 use ground::{Ground, LAST_DAY};
 
 // The present value and its tolerance, or the ground and the block.
-#[derive(Drop)]
+#[derive(Clone, Copy)]
 pub enum Valued {
     Worth(u64, u64),
     Refused(Ground, u64),

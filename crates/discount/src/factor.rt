@@ -6,7 +6,7 @@ ghost use Rattle.discount.specs.Discount.{million, yearly, compound, power};
 use decimal::product::multiply;
 
 // A factor, in parts of UNIT.
-#[derive(Drop)]
+#[derive(Clone, Copy)]
 pub struct Factor(pub u64);
 
 impl Factor {

@@ -11,7 +11,7 @@ use super::guess::guess;
 use super::value::factor;
 
 // The chains of two factors.
-#[derive(Drop)]
+#[derive(Clone, Copy)]
 pub struct Both {
     pub first: Chains,
     pub second: Chains,
@@ -39,7 +39,7 @@ fn run(from: Both, q: Factor, p: Factor, j: u64, k: u64) -> Both
 }
 
 // Two factors.
-#[derive(Drop)]
+#[derive(Clone, Copy)]
 pub struct Pair {
     pub first: Factor,
     pub second: Factor,

@@ -1,5 +1,7 @@
 // Reading, appending and striking records of a book. First it is decided whether a call is refused, from the bytes as they are; then it is
 // done. A refusal writes nothing.
+#![tactic(auto)]
+
 pub mod refusals;
 
 ghost use Rattle.std.specs.Prelude.{◌≡◌, ◌++◌, ◌-◌, ◌<◌, length, drop, replicate};
@@ -15,7 +17,7 @@ use ground::{Ground, Verdict, Written};
 use trade_edit::{blocks, steps};
 
 // The answer of a read: the verdict, and the record, all 0 where refused.
-#[derive(Drop)]
+#[derive(Clone, Copy)]
 pub struct Found {
     pub verdict: Verdict,
     pub bytes: [u8; 56],

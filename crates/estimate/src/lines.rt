@@ -9,7 +9,7 @@ use curve::Node;
 const PARTS: u64 = 134_217_728;
 
 // A line gives rates of days: it stands at `start` on day 0, and moves by `slope` a day.
-#[derive(Drop)]
+#[derive(Clone, Copy)]
 pub struct Line {
     pub start: i64,
     pub slope: i64,

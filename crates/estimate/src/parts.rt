@@ -11,7 +11,7 @@ use curve::Node;
 use netting::value::worth;
 
 // A first part of the listed days: how many they are, and what their net amounts are worth.
-#[derive(Drop)]
+#[derive(Clone, Copy)]
 pub struct Part {
     pub done: usize,
     pub value: i64,

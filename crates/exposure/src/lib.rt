@@ -1,4 +1,6 @@
 // What an account has on a curve, from its book: the cash flow ladder, gathered from the trades, and the components.
+#![tactic(auto)]
+
 ghost use Rattle.std.specs.Prelude.{◌≡◌, ◌+◌, ◌*◌, ◌≤◌, length};
 ghost use Rattle.exposure.specs.Schedules.{stands_on, with_leg, count_with_leg};
 ghost use Rattle.exposure.specs.Growth.{Grown, LegsSound};

@@ -3,11 +3,11 @@
 ghost use Rattle.std.specs.Prelude.{◌<◌};
 
 // A payment: an amount, the rate that it is discounted at, and its day.
-#[derive(Drop)]
+#[derive(Clone, Copy)]
 pub struct Payment(pub u64, pub u64, pub u64);
 
 // What a figure is, and its inputs.
-#[derive(Drop)]
+#[derive(Clone, Copy)]
 pub enum Work {
     // The settlement price of a nominal of 100: clean price, accrued.
     Price(u64, u64),
@@ -26,7 +26,7 @@ pub enum Work {
 }
 
 // The line of 004 that a figure stands in, its work, and the figure: a price in kurus, all others in lira.
-#[derive(Drop)]
+#[derive(Clone, Copy)]
 pub struct Figure(pub u64, pub Work, pub u64);
 
 pub const COUNT: usize = 47;

@@ -1,5 +1,7 @@
 // Compares the engine's arithmetic with the worked figures of source document 004, and with those that document 01 takes from it: a line for
 // each, and their count.
+#![tactic(auto)]
+
 mod extension;
 mod figure;
 mod worked;

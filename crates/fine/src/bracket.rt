@@ -7,7 +7,7 @@ ghost use Rattle.fine.specs.Fine.{lost, bracket_of, bracket_at, InBracket, Brack
 use super::factor::factor;
 
 // In parts of 2^42.
-#[derive(Drop)]
+#[derive(Clone, Copy)]
 pub struct Bracket {
     pub low: u64,
     pub high: u64,

@@ -11,7 +11,7 @@ ghost use Rattle.fine.specs.FineValue.{fine_value_in, fine_value_at};
 use super::bracket::{Bracket, bracket_at};
 
 // The value at the lower end, and whether it is known: the same as at the upper one.
-#[derive(Drop)]
+#[derive(Clone, Copy)]
 pub struct FineValue {
     pub known: bool,
     pub value: u64,

@@ -1,4 +1,6 @@
 // The grounds on which a call is refused, the verdict, and a limit that several crates share.
+#![tactic(auto)]
+
 ghost use Rattle.std.specs.Prelude.{◌≡◌};
 ghost use Rattle.ground.specs.Number.{number_of};
 ghost use Rattle.ground.specs.Space.{breaks_space};
@@ -9,7 +11,7 @@ ghost use Rattle.ground.specs.Verdicts.{or_else, unless, is_accepted};
 pub const LAST_DAY: u64 = 10_950;
 
 // A case for each rule of documents 01 and 02.
-#[derive(Drop)]
+#[derive(Clone, Copy)]
 pub enum Ground {
     Length,
     Check,
@@ -33,14 +35,14 @@ pub enum Ground {
 }
 
 // The answer of a check: nothing found, or the first ground that applies and the block that it was found in.
-#[derive(Drop)]
+#[derive(Clone, Copy)]
 pub enum Verdict {
     Accepted,
     Refused(Ground, u64),
 }
 
 // The answer of a call that writes and gives a length: that of what it wrote, or the ground by which nothing was, and the block.
-#[derive(Drop)]
+#[derive(Clone, Copy)]
 pub enum Written {
     Length(usize),
     Refused(Ground, u64),

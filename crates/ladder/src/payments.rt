@@ -7,7 +7,7 @@ ghost use Rattle.ladder.specs.Ladder.{leg_at, RungLimits, next_rung};
 use discount::Flow;
 
 // A payment's place in a ladder: its schedule, and which of its payments it is.
-#[derive(Drop)]
+#[derive(Clone, Copy)]
 pub struct Rung {
     pub schedule: usize,
     pub payment: u64,

@@ -7,7 +7,7 @@ use discount::Flow;
 use discount::value::tolerance;
 
 // The signed sum of flows' values, and the sum of their tolerances.
-#[derive(Drop)]
+#[derive(Clone, Copy)]
 pub struct Total {
     pub sum: i64,
     pub tolerance: u64,

@@ -55,7 +55,7 @@ fn with_two(total: Total, curve: Curve, f: Flow, g: Flow, factors: &mut [u64]) -
 
 // The total of the flows valued so far. A flow that the fine factor leaves open waits for another: two factors together take little longer than
 // one.
-#[derive(Drop)]
+#[derive(Clone, Copy)]
 pub struct Valuing {
     pub total: Total,
     pub waits: bool,

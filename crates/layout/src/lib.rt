@@ -1,5 +1,7 @@
 // Fields of a byte slice, read and written; bytes written over bytes.
 // Every unsigned field is answered as a u64, so that no caller casts.
+#![tactic(auto)]
+
 pub mod check;
 
 ghost use Rattle.std.specs.Prelude.{◌≡◌, ◌+◌, ◌<◌, ◌≤◌, length, unsigned_abs};

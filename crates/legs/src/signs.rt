@@ -3,7 +3,7 @@ ghost use Rattle.std.specs.Prelude.{◌≡◌, ◌≤◌};
 ghost use Rattle.legs.specs.Signs.{signs_of};
 
 // The signs of a trade's flows: 1 in, -1 out, 0 no such flow.
-#[derive(Drop)]
+#[derive(Clone, Copy)]
 pub struct Signs {
     pub first: i64,
     pub second: i64,

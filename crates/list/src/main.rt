@@ -1,4 +1,6 @@
 // The list program: a book on standard input, its margin's lines on standard output.
+#![tactic(auto)]
+
 mod book_text;
 
 use ground::Written;

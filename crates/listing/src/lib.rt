@@ -1,5 +1,7 @@
 // The text that the list program prints, written into lent bytes.
 // Each function writes from a place on and answers the place behind what it wrote.
+#![tactic(auto)]
+
 ghost use Rattle.std.specs.Prelude.{◌≡◌, ◌++◌, ◌+◌, ◌*◌, ◌≤◌, length, take, drop};
 ghost use Rattle.text.specs.Text.{lines_of, TextWritten};
 ghost use Rattle.listing.specs.Listing.{curve_figures, curve_listed, currency_figures, currency_listed_if, currency_listed_in, listing, refused_line};

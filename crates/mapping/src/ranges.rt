@@ -5,7 +5,7 @@ ghost use Rattle.mapping.specs.Ranges.{swing, moved_apart, width_of, height_of, 
 
 use curve::{Component, Components, Node};
 
-#[derive(Drop)]
+#[derive(Clone, Copy)]
 pub struct Range {
     pub width: u64,
     pub highest: u64,

@@ -1,4 +1,5 @@
 // The margin of a book: per curve its base value, its worst loss and its tolerance; per currency initial, variation and total.
+#![tactic(auto)]
 
 pub mod choice;
 pub mod estimates;
@@ -8,14 +9,14 @@ pub mod margins;
 use ladder::Position;
 
 // A position with its base value.
-#[derive(Drop)]
+#[derive(Clone, Copy)]
 pub struct ValuedPosition {
     pub position: Position,
     pub base: i64,
 }
 
 // The figures of a curve.
-#[derive(Drop)]
+#[derive(Clone, Copy)]
 pub struct CurveMargin {
     pub base: i64,
     pub worstloss: i64,
@@ -25,7 +26,7 @@ pub struct CurveMargin {
 }
 
 // The figures of a currency.
-#[derive(Drop)]
+#[derive(Clone, Copy)]
 pub struct CurrencyMargin {
     pub initial: i64,
     pub variation: i64,
@@ -33,7 +34,7 @@ pub struct CurrencyMargin {
 }
 
 // The margin of an account's book. Places of curves and currencies that the book does not have are 0.
-#[derive(Drop)]
+#[derive(Clone, Copy)]
 pub struct Margin {
     pub account: u64,
     pub curves: [CurveMargin; 8],

@@ -36,7 +36,7 @@ pub fn loss_of(valued: ValuedPosition, ladder: &[u64], tables: &[u64], s: u64) -
 }
 
 // A scenario and its loss.
-#[derive(Drop)]
+#[derive(Clone, Copy)]
 pub struct Loss {
     pub amount: i64,
     pub scenario: u64,

@@ -40,7 +40,7 @@ pub fn curve_margin(position: Position, ladder: &[u64]) -> CurveMargin
 }
 
 // The sums of a currency's worst losses and base values.
-#[derive(Drop)]
+#[derive(Clone, Copy)]
 pub struct Sums {
     pub initial: i64,
     pub variation: i64,

@@ -1,5 +1,7 @@
 // The lines of the account statement, written into lent bytes: here those that show a margin, of curves and of currencies, and the length of a page.
 // Each function writes from a place on and answers the place behind what it wrote.
+#![tactic(auto)]
+
 pub mod line;
 
 ghost use Rattle.std.specs.Prelude.{◌≡◌, ◌+◌, ◌*◌, ◌≤◌, length, take};

@@ -1,4 +1,6 @@
 // The preview entry: the report of a book as it would be with one more trade. The trade is added to a copy.
+#![tactic(auto)]
+
 ghost use Rattle.std.specs.Prelude.{◌≡◌, length};
 ghost use Rattle.ground.specs.declared.Verdict.TheVariants.{Accepted};
 ghost use Rattle.edit.specs.Edits.{appended};

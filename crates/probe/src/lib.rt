@@ -1,4 +1,6 @@
 // Inner functions of the engine, exported for the host's benchmark and tests. The engine does not use this crate.
+#![tactic(auto)]
+
 ghost use Rattle.std.specs.Prelude.{◌≡◌, ◌+◌, ◌%◌, ◌≤◌};
 ghost use Rattle.discount.specs.Discount.{million, factor, compound};
 

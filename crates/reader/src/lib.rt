@@ -1,11 +1,13 @@
 // A reader of a book: the lent slice, and a position in it. It is thin: `current` takes it apart, and `edit::read`, over the slice and the
 // numbers, does the work. `read_at` has plain parameters, for every other caller.
+#![tactic(auto)]
+
 ghost use Rattle.std.specs.Prelude.{◌≡◌};
 ghost use Rattle.edit.specs.Edits.{found};
 
 use edit::Found;
 
-#[derive(Drop)]
+#[derive(Clone, Copy)]
 pub struct Reader<'a> {
     pub book: &'a [u8],
     pub position: usize,

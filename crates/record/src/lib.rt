@@ -1,4 +1,6 @@
 // A trade record: its fields as numbers, and the rules on them.
+#![tactic(auto)]
+
 pub mod bytes;
 pub mod rules;
 
@@ -6,7 +8,7 @@ pub mod rules;
 pub const LARGEST: u64 = 1_000_000_000_000;
 
 // What kind of trade it is, and the curves that it stands on; `blank` is bytes 6-7.
-#[derive(Drop)]
+#[derive(Clone, Copy)]
 pub struct Form {
     pub kind: u64,
     pub side: u64,
@@ -18,7 +20,7 @@ pub struct Form {
 }
 
 // Its value days, first payment day, days between payments, number of payments and repo term.
-#[derive(Drop)]
+#[derive(Clone, Copy)]
 pub struct Days {
     pub valueday1: u64,
     pub valueday2: u64,
@@ -29,7 +31,7 @@ pub struct Days {
 }
 
 // Its amounts and prices. `price` is the clean price or the repo rate; `index` is that at settlement, `issue` that at issue.
-#[derive(Drop)]
+#[derive(Clone, Copy)]
 pub struct Amounts {
     pub coupon: u64,
     pub nominal: u64,
@@ -41,7 +43,7 @@ pub struct Amounts {
 }
 
 // The fields of a record.
-#[derive(Drop)]
+#[derive(Clone, Copy)]
 pub struct Fields {
     pub form: Form,
     pub days: Days,
@@ -49,7 +51,7 @@ pub struct Fields {
 }
 
 // What the rules know of the book's curves: how many there are, and the currency of curve id k at k - 1.
-#[derive(Drop)]
+#[derive(Clone, Copy)]
 pub struct Curves {
     pub count: u64,
     pub currency: [u64; 8],

@@ -1,4 +1,6 @@
 // The margin entry: from a book to its report.
+#![tactic(auto)]
+
 ghost use Rattle.std.specs.Prelude.{◌≡◌, ◌*◌, ◌≤◌, length};
 ghost use Rattle.ground.specs.declared.Verdict.TheVariants.{Accepted};
 ghost use Rattle.ground.specs.Verdicts.{bytes_after};

@@ -1,4 +1,6 @@
 // The report of a margin, written as one block.
+#![tactic(auto)]
+
 ghost use Rattle.std.specs.Prelude.{◌≡◌, ◌+◌, ◌≤◌, length, drop};
 ghost use mathlib.Core.List.{◌++◌, flat_map};
 ghost use Rattle.layout.specs.Bytes.{put};

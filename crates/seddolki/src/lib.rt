@@ -1,5 +1,7 @@
 // The engine's calls from C. Each takes whatever it is lent: it promises its answer, and every lent byte afterwards. The day is the current one,
 // in days since 1 January 2000.
+#![tactic(auto)]
+
 mod answers;
 
 ghost use Rattle.std.specs.Prelude.{◌≡◌, length};
@@ -23,7 +25,7 @@ use bootstrap::Quote;
 
 // Number 0 is done, and the value is the result; any other number is the ground of refusal, and the value is the block.
 #[repr(C)]
-#[derive(Drop)]
+#[derive(Clone, Copy)]
 pub struct Answer {
     pub number: u64,
     pub value: u64,

@@ -1,4 +1,6 @@
 // The statement entry: from a book to its page.
+#![tactic(auto)]
+
 ghost use Rattle.std.specs.Prelude.{◌≡◌, ◌+◌, ◌≤◌, length};
 ghost use Rattle.ground.specs.Verdicts.{bytes_after, written_of};
 ghost use Rattle.book.specs.Parts.{records};

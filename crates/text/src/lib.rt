@@ -1,5 +1,7 @@
 // Words and numbers written into lent bytes.
 // Each function writes from a place on and answers the place behind what it wrote.
+#![tactic(auto)]
+
 pub mod columns;
 
 ghost use Rattle.std.specs.Prelude.{◌≡◌, ◌++◌, ◌+◌, ◌≤◌, nat_abs, length};

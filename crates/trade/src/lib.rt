@@ -1,10 +1,12 @@
 // A trade as an enum of its kinds, with the security inside, made from a record's fields.
+#![tactic(auto)]
+
 pub mod price;
 pub mod read;
 
 use price::Clean;
 
-#[derive(Drop)]
+#[derive(Clone, Copy)]
 pub struct SinglePayment {
     pub curve: u64,
     pub first: u64,
@@ -12,7 +14,7 @@ pub struct SinglePayment {
 }
 
 // Payments from the first day on, `period` days apart. `coupon` is that of a period, in millionths.
-#[derive(Drop)]
+#[derive(Clone, Copy)]
 pub struct CouponBond {
     pub curve: u64,
     pub first: u64,
@@ -23,14 +25,14 @@ pub struct CouponBond {
 }
 
 // `index` is that at settlement, `issue` that at issue.
-#[derive(Drop)]
+#[derive(Clone, Copy)]
 pub struct IndexedBond {
     pub bond: CouponBond,
     pub index: u64,
     pub issue: u64,
 }
 
-#[derive(Drop)]
+#[derive(Clone, Copy)]
 pub enum Security {
     Nothing,
     Single(SinglePayment),
@@ -38,7 +40,7 @@ pub enum Security {
     Indexed(IndexedBond),
 }
 
-#[derive(Drop)]
+#[derive(Clone, Copy)]
 pub struct OutrightTrade {
     pub side: u64,
     pub cashcurve: u64,
@@ -48,7 +50,7 @@ pub struct OutrightTrade {
     pub security: Security,
 }
 
-#[derive(Drop)]
+#[derive(Clone, Copy)]
 pub struct RepoTrade {
     pub side: u64,
     pub phase: u64,
@@ -61,7 +63,7 @@ pub struct RepoTrade {
     pub security: Security,
 }
 
-#[derive(Drop)]
+#[derive(Clone, Copy)]
 pub enum Trade {
     Outright(OutrightTrade),
     Pool(RepoTrade),

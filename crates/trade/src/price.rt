@@ -3,11 +3,11 @@ ghost use Rattle.std.specs.Prelude.{◌≡◌, ◌≤◌};
 ghost use Rattle.trade.specs.Prices.{dirty_of};
 
 // The price that is quoted.
-#[derive(Drop)]
+#[derive(Clone, Copy)]
 pub struct Clean(pub u64);
 
 // The price that is paid. No other module makes one.
-#[derive(Drop)]
+#[derive(Clone, Copy)]
 pub struct Dirty(u64);
 
 impl Clean {
