@@ -47,6 +47,10 @@ module _ (x : ℕ) where
   rows-le : scaled (power_row upper_base upper) (power_row middle_base middle) ≤ fine_whole
   rows-le = scaled-le _ _ (power-row-le upper_base upper-le upper) (power-row-le middle_base middle-le middle)
 
+  pub antilog-le : antilog x ≤ fine_whole
+  unfolding antilog
+  antilog-le = scaled-le _ _ rows-le lowest-le
+
   pub antilog-low : Low fine_whole (antilog x) x
   unfolding antilog scaled power_row
   antilog-low =

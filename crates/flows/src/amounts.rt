@@ -11,7 +11,7 @@ pub fn settlement_cash(nominal: u64, price: Dirty) -> u64
     requires { (nominal ≤ unit) × (price.0 ≤ 5_000_000) }
     ensures { result ≡ settlement_cash nominal price }
 {
-    decimal::round::millionths_of(nominal, price.millionths())
+    decimal::round::millionths_of(nominal, price.0)
 }
 
 // What a repo's second leg pays.

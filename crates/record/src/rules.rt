@@ -1,7 +1,7 @@
 // The rules 8 to 11 on a record: for each a function of its fields that answers whether it is broken, in straight-line code over bools.
 ghost use Rattle.std.specs.Prelude.{◌≡◌, cond, ◌-◌, ◌≤◌};
 ghost use Rattle.ground.specs.Limits.{last_day};
-ghost use Rattle.record.specs.Uses.{in_limits, used_in_limits, asked, has_settled, has_security, has_coupons, last_payment_day};
+ghost use Rattle.record.specs.Uses.{in_limits, used_in_limits, asked, is_outright, is_pool, is_specified, has_settled, has_security, has_coupons, is_indexed, last_payment_day};
 ghost use Rattle.record.specs.Rules.{phase_fits, security_fits, curves_fit, breaks_form};
 ghost use Rattle.record.specs.Rules.{in_reach, legs_ahead, second_leg_ahead, value_days_fit, first_payment_fits, counts_fit, coupon_days_fit, breaks_days};
 ghost use Rattle.record.specs.Rules.{unused_days_fit, principals_fit, price_fits, coupons_fit, indices_fit, breaks_amounts};
@@ -9,15 +9,6 @@ ghost use Rattle.record.specs.Rules.{currency_of_id, breaks_currency};
 
 use crate::{Amounts, Curves, Days, Form, LARGEST};
 use ground::LAST_DAY;
-
-// Kinds of trade, and a security.
-const OUTRIGHT: u64 = 1;
-
-const POOL: u64 = 2;
-
-const SPECIFIED: u64 = 3;
-
-const INDEXED: u64 = 3;
 
 fn in_limits(least: u64, x: u64, most: u64) -> bool
     ensures { result ≡ in_limits least x most }
@@ -43,10 +34,28 @@ fn asked(used: bool, rule: bool) -> bool
     !used | rule
 }
 
+fn is_outright(kind: u64) -> bool
+    ensures { result ≡ is_outright kind }
+{
+    kind == 1
+}
+
+fn is_pool(kind: u64) -> bool
+    ensures { result ≡ is_pool kind }
+{
+    kind == 2
+}
+
+fn is_specified(kind: u64) -> bool
+    ensures { result ≡ is_specified kind }
+{
+    kind == 3
+}
+
 pub fn has_settled(kind: u64, phase: u64) -> bool
     ensures { result ≡ has_settled kind phase }
 {
-    (kind == POOL) & (phase == 3) | (kind == SPECIFIED) & (phase == 2)
+    is_pool(kind) & (phase == 3) | is_specified(kind) & (phase == 2)
 }
 
 pub fn has_security(security: u64) -> bool
@@ -61,20 +70,26 @@ fn has_coupons(security: u64) -> bool
     in_limits(2, security, 3)
 }
 
+fn is_indexed(security: u64) -> bool
+    ensures { result ≡ is_indexed security }
+{
+    security == 3
+}
+
 // ---- 8
 
 fn phase_fits(kind: u64, phase: u64) -> bool
     ensures { result ≡ phase_fits kind phase }
 {
-    (kind == OUTRIGHT) & (phase == 0)
-        | (kind == POOL) & in_limits(1, phase, 3)
-        | (kind == SPECIFIED) & in_limits(1, phase, 2)
+    is_outright(kind) & (phase == 0)
+        | is_pool(kind) & in_limits(1, phase, 3)
+        | is_specified(kind) & in_limits(1, phase, 2)
 }
 
 fn security_fits(f: Form) -> bool
     ensures { result ≡ security_fits f }
 {
-    used_in_limits(!((f.kind == POOL) & (f.phase == 1)), 1, f.security, 3)
+    used_in_limits(!(is_pool(f.kind) & (f.phase == 1)), 1, f.security, 3)
 }
 
 fn curves_fit(count: u64, f: Form) -> bool
@@ -127,7 +142,7 @@ fn value_days_fit(f: Form, d: Days) -> bool
     ensures { result ≡ value_days_fit f d }
 {
     pick(
-        f.kind == OUTRIGHT,
+        is_outright(f.kind),
         in_reach(d.valueday1),
         pick(
             has_settled(f.kind, f.phase),
@@ -189,7 +204,7 @@ pub fn breaks_days(f: Form, d: Days) -> bool
 fn unused_days_fit(f: Form, d: Days) -> bool
     ensures { result ≡ unused_days_fit f d }
 {
-    asked(f.kind == OUTRIGHT, (d.valueday2 == 0) & (d.term == 0))
+    asked(is_outright(f.kind), (d.valueday2 == 0) & (d.term == 0))
         & asked(has_settled(f.kind, f.phase), d.valueday1 == 0)
         & asked(!has_security(f.security), d.first == 0)
         & asked(
@@ -202,14 +217,14 @@ fn principals_fit(f: Form, a: Amounts) -> bool
     ensures { result ≡ principals_fit f a }
 {
     used_in_limits(has_security(f.security), 1, a.nominal, LARGEST)
-        & used_in_limits(!(f.kind == OUTRIGHT), 1, a.cash, LARGEST)
+        & used_in_limits(!is_outright(f.kind), 1, a.cash, LARGEST)
 }
 
 fn price_fits(f: Form, a: Amounts) -> bool
     ensures { result ≡ price_fits f a }
 {
     pick(
-        f.kind == OUTRIGHT,
+        is_outright(f.kind),
         in_limits(1, a.price, 4_000_000),
         a.price <= 1_000_000,
     )
@@ -218,15 +233,15 @@ fn price_fits(f: Form, a: Amounts) -> bool
 fn coupons_fit(f: Form, a: Amounts) -> bool
     ensures { result ≡ coupons_fit f a }
 {
-    used_in_limits(f.kind == OUTRIGHT, 0, a.accrued, 1_000_000)
+    used_in_limits(is_outright(f.kind), 0, a.accrued, 1_000_000)
         & used_in_limits(has_coupons(f.security), 0, a.coupon, 1_000_000)
 }
 
 fn indices_fit(f: Form, a: Amounts) -> bool
     ensures { result ≡ indices_fit f a }
 {
-    used_in_limits(f.security == INDEXED, 1, a.index, 10_000_000)
-        & used_in_limits(f.security == INDEXED, 1, a.issue, 10_000_000)
+    used_in_limits(is_indexed(f.security), 1, a.index, 10_000_000)
+        & used_in_limits(is_indexed(f.security), 1, a.issue, 10_000_000)
 }
 
 pub fn breaks_amounts(f: Form, d: Days, a: Amounts) -> bool

@@ -28,35 +28,35 @@ use Rattle.page.proofs.Lengths.{length-id, length-scenario}
 use Rattle.statement.specs.Fits.{Whole, CurveWhole, CurrencyWhole, EveryAmountFits}
 use Rattle.statement.proofs.Limits.{record-limits, curve-limits}
 
--- ---- bounds on the amounts of an accepted book, as text without a minus
+-- ---- the largest amounts that an accepted book can yield, without a minus
 
-pub base-bound : money_text (most_flows * unit) ≡ ascii "1400000000000000.00"
+pub largest-base : money_text (most_flows * unit) ≡ ascii "1400000000000000.00"
 unfolding unit money_text decimal_of digits_within ascii
-base-bound = refl
+largest-base = refl
 
-pub loss-bound : money_text (2 * (most_flows * unit)) ≡ ascii "2800000000000000.00"
+pub largest-loss : money_text (2 * (most_flows * unit)) ≡ ascii "2800000000000000.00"
 unfolding unit money_text decimal_of digits_within ascii
-loss-bound = refl
+largest-loss = refl
 
-pub tolerance-bound : money_text (most_flows * 1000) ≡ ascii "1400000.00"
+pub largest-tolerance : money_text (most_flows * 1000) ≡ ascii "1400000.00"
 unfolding money_text decimal_of digits_within ascii
-tolerance-bound = refl
+largest-tolerance = refl
 
-pub initial-bound : money_text (16 * (most_flows * unit)) ≡ ascii "22400000000000000.00"
+pub largest-initial : money_text (16 * (most_flows * unit)) ≡ ascii "22400000000000000.00"
 unfolding unit money_text decimal_of digits_within ascii
-initial-bound = refl
+largest-initial = refl
 
-pub variation-bound : money_text (8 * (most_flows * unit)) ≡ ascii "11200000000000000.00"
+pub largest-variation : money_text (8 * (most_flows * unit)) ≡ ascii "11200000000000000.00"
 unfolding unit money_text decimal_of digits_within ascii
-variation-bound = refl
+largest-variation = refl
 
-pub total-bound : money_text (24 * (most_flows * unit)) ≡ ascii "33600000000000000.00"
+pub largest-total : money_text (24 * (most_flows * unit)) ≡ ascii "33600000000000000.00"
 unfolding unit money_text decimal_of digits_within ascii
-total-bound = refl
+largest-total = refl
 
-pub nominal-bound : money_text unit ≡ ascii "10000000000.00"
+pub largest-nominal : money_text unit ≡ ascii "10000000000.00"
 unfolding unit money_text decimal_of digits_within ascii
-nominal-bound = refl
+largest-nominal = refl
 
 -- ---- each in its column
 
@@ -64,23 +64,23 @@ curve-fits : (m : CurveMargin) → CurveSizes m → CurveWhole m
 unfolding ascii
 curve-fits m h =
     record {
-      base = omega (arith, length-largest m.base (most_flows * unit) h.base, ap length base-bound);
-      worstloss = omega (arith, length-largest m.worstloss (2 * (most_flows * unit)) h.worstloss, ap length loss-bound);
-      tolerance = omega (arith, length-largest (pos m.tolerance) (most_flows * 1000) h.tolerance, ap length tolerance-bound);
+      base = omega (arith, length-largest m.base (most_flows * unit) h.base, ap length largest-base);
+      worstloss = omega (arith, length-largest m.worstloss (2 * (most_flows * unit)) h.worstloss, ap length largest-loss);
+      tolerance = omega (arith, length-largest (pos m.tolerance) (most_flows * 1000) h.tolerance, ap length largest-tolerance);
     }
 
 currency-fits : (m : CurrencyMargin) → CurrencySizes m → CurrencyWhole m
 unfolding ascii
 currency-fits m h =
     record {
-      initial = omega (arith, length-largest m.initial (16 * (most_flows * unit)) h.initial, ap length initial-bound);
-      variation = omega (arith, length-largest m.variation (8 * (most_flows * unit)) h.variation, ap length variation-bound);
-      total = omega (arith, length-largest m.total (24 * (most_flows * unit)) h.total, ap length total-bound);
+      initial = omega (arith, length-largest m.initial (16 * (most_flows * unit)) h.initial, ap length largest-initial);
+      variation = omega (arith, length-largest m.variation (8 * (most_flows * unit)) h.variation, ap length largest-variation);
+      total = omega (arith, length-largest m.total (24 * (most_flows * unit)) h.total, ap length largest-total);
     }
 
 nominal-fits : (n : ℕ) → n ≤ unit → Whole (pos n)
 unfolding ascii
-nominal-fits n h = omega (arith, length-largest (pos n) unit h, ap length nominal-bound)
+nominal-fits n h = omega (arith, length-largest (pos n) unit h, ap length largest-nominal)
 
 -- ---- what stands from the left
 

@@ -6,9 +6,9 @@ ghost use Rattle.trade.specs.Prices.{dirty_of};
 #[derive(Clone, Copy)]
 pub struct Clean(pub u64);
 
-// The price that is paid. No other module makes one.
+// The price that is paid.
 #[derive(Clone, Copy)]
-pub struct Dirty(u64);
+pub struct Dirty(pub u64);
 
 impl Clean {
     pub fn dirty(self, accrued: u64) -> Dirty
@@ -16,13 +16,5 @@ impl Clean {
         ensures { result ≡ dirty_of self accrued }
     {
         Dirty(self.0 + accrued)
-    }
-}
-
-impl Dirty {
-    pub fn millionths(self) -> u64
-        ensures { result ≡ self.0 }
-    {
-        self.0
     }
 }

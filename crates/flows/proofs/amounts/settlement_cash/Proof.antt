@@ -6,7 +6,7 @@ use Rattle.flows.proofs.amounts.settlement_cash.Tie as tie
 
 returns : tie.Need-returns
 unfolding settlement_cash
-returns c = rw (c.millionths-of.ensures, c.before.millionths.ensures)
+returns c = rw c.millionths-of.ensures
 
 pub settlement-cash-spec : {M : Type 1} → statement M
-settlement-cash-spec = tie.close (tie.spec (λ c κs. search rules) (λ c κs. search rules) returns)
+settlement-cash-spec = tie.close (tie.spec (λ c κs. search rules) returns)
