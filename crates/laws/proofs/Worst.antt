@@ -25,6 +25,7 @@ module _ {A : Type 0} (l : A → ℤ) where
   pub worst-all : (a : A) (xs : List A) (s : A) → Memᴰ s (a ∷ xs) → l s ≤ℤ l (worst l a xs)
   unfolding worst
   worst-all a [] s (Memᴰ.head e) = rw e (≤ℤ_refl (l a))
+  worst-all a [] s (Memᴰ.tail m) = elim m [ ]
   worst-all a (x ∷ xs) s m =
       go (lt_z (l a) (l x)) refl (worst l (cond (lt_z (l a) (l x)) x a) xs) m
       (worst-all (cond (lt_z (l a) (l x)) x a) xs _ (Memᴰ.head refl)) (worst-all (cond (lt_z (l a) (l x)) x a) xs s)
