@@ -1,0 +1,24 @@
+-- `bond::rate::rate_for` meets its contract.
+use Prim.Native.Nat.{◌-◌}
+use native.Mathlib.Omega.{arith}
+use borrow.Author.Rules.{rules}
+use Rattle.curve.specs.Rates.{nodes_of}
+use Rattle.legs.specs.Runs.{leg_flows}
+use Rattle.bond.proofs.Halves.{Left, left-all, left-low, left-high, left_one}
+use Rattle.bond.proofs.rate.rate_for.Goals as goal
+
+pub loop-low-init : goal.loop-low-init
+loop-low-init c = left-all c.requires.cash_value
+
+pub loop-low-preserved-then-value_at-cash : goal.loop-low-preserved-then-value_at-cash
+loop-low-preserved-then-value_at-cash c =
+    let at-loop = c.before.before.before in
+    left-low at-loop.loop-low.invariant _ (search rules) (search rules) (omega (arith, c.value_at.ensures))
+
+pub loop-low-preserved : goal.loop-low-preserved
+loop-low-preserved c =
+    let at-loop = c.before.before.before in
+    left-high at-loop.loop-low.invariant _ (search rules) (omega (arith, c.value_at.ensures))
+
+pub returns : goal.returns
+returns c = record { value = left_one c.loop-low.invariant c.loop-low-test.false; upper_bound = search rules }

@@ -1,0 +1,12 @@
+-- `bond::value::fine_value_of` meets its contract.
+use borrow.Author.Rules.{rules}
+use Rattle.curve.proofs.Rates.{curve-rate-limit}
+use Rattle.bond.proofs.value.fine_value_of.Goals as goal
+
+pub fine_value_at-requires : goal.fine_value_at-requires
+fine_value_at-requires c =
+    let pre = c.requires in
+    (pre.3, pre.1, rw c.rate_at.ensures (curve-rate-limit _ pre.0 _), pre.2)
+
+pub returns : goal.returns
+returns c = rw c.rate_at.ensures at c.fine_value_at.ensures.worth

@@ -1,0 +1,39 @@
+-- `bond::value::value_of_two` meets its contract.
+use mathlib.Core.Path.{◌≡◌}
+use mathlib.Core.Bool.{true}
+use native.Mathlib.Omega.{arith}
+use borrow.Author.Rules.{rules}
+use Rattle.laws.proofs.Bools.{both}
+use Rattle.decimal.specs.Product.{unit}
+use Rattle.discount.specs.Flows.{flow_value}
+use Rattle.curve.specs.Rates.{nodes_of, rate_at}
+use Rattle.bond.proofs.Values.{two-most}
+use Rattle.bond.proofs.value.value_of_two.Goals as goal
+use Rattle.bond.proofs.value.value_of_two.Goals.{After-fine_value_of-second, Start, Then-first-second}
+
+-- where both are known
+module _ (c : Then-first-second) where
+  abbrev found : After-fine_value_of-second
+  found = c.before.before.before
+
+  abbrev start : Start
+  start = found.before.before.before
+
+  known : (found.fine_value_of-first.result.known ≡ true) × (found.fine_value_of-second.result.known ≡ true)
+  known = both found.fine_value_of-first.result.known found.fine_value_of-second.result.known c.if-first-second.true
+
+  first : found.fine_value_of-first.result.value ≡ flow_value (rate_at (nodes_of start.args.c)) start.args.f
+  first = found.fine_value_of-first.ensures known.0
+
+  second : found.fine_value_of-second.result.value ≡ flow_value (rate_at (nodes_of start.args.c)) start.args.g
+  second = found.fine_value_of-second.ensures known.1
+
+pub overflow_add-result : goal.overflow_add-result
+unfolding unit
+overflow_add-result c =
+    let known = c.before.before in
+    let s = start known in
+    omega (arith, first known, second known, two-most (nodes_of s.args.c) s.args.f s.args.g s.requires.1 s.requires.2)
+
+pub returns-then-first-second : goal.returns-then-first-second
+returns-then-first-second c = omega (arith, first c.before.before, second c.before.before)

@@ -1,0 +1,30 @@
+-- `book::block_by_block` meets its contract.
+use mathlib.Core.Path.{◌≡◌, refl, sym, ◌∙◌}
+use Prim.Native.Nat.{◌≤◌, ◌-◌}
+use native.Mathlib.Omega.{arith}
+use borrow.Author.Rules.{rules}
+use borrow.Author.Tests.{not-true, not-false}
+use Rattle.book.specs.Verdict.{first_of, block_verdict}
+use Rattle.book.proofs.First.{first-passed, first-stopped, first-end}
+use Rattle.book.proofs.block_by_block.Goals as goal
+
+pub loop-k-init : goal.loop-k-init
+loop-k-init c = (omega arith, refl)
+
+pub returns-then-not-is_accepted : goal.returns-then-not-is_accepted
+returns-then-not-is_accepted c =
+    let turn = c.before.before.before in
+    let l = turn.loop-k in
+    let e = c.block_verdict-v.ensures in
+    let stop = rw e at (sym c.is_accepted.ensures ∙ not-true _ c.if-not-is_accepted.true) in
+    e ∙ sym (l.invariant.1 ∙ first-stopped _ l.k _ turn.loop-k-test.true stop)
+
+pub loop-k-preserved : goal.loop-k-preserved
+loop-k-preserved c =
+    let turn = c.before.before.before in
+    let l = turn.loop-k in
+    let pass = rw c.block_verdict-v.ensures at (sym c.is_accepted.ensures ∙ not-false _ c.if-not-is_accepted.false) in
+    (omega arith, l.invariant.1 ∙ first-passed _ l.k _ turn.loop-k-test.true pass)
+
+pub returns : goal.returns
+returns c = sym (c.loop-k.invariant.1 ∙ first-end _ _ _ c.loop-k-test.false)

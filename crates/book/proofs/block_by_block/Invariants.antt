@@ -1,0 +1,15 @@
+-- `book::block_by_block` meets its contract.
+use mathlib.Core.Path.{◌≡◌, refl, sym, ◌∙◌}
+use Prim.Native.Nat.{◌≤◌, ◌-◌}
+use native.Mathlib.Omega.{arith}
+use borrow.Author.Rules.{rules}
+use borrow.Author.Tests.{not-true, not-false}
+use Rattle.book.specs.Verdict.{first_of, block_verdict}
+use Rattle.book.proofs.First.{first-passed, first-stopped, first-end}
+use Rattle.book.proofs.block_by_block.Given as goal
+
+abbrev pub invariant-loop-k : goal.invariant-loop-k
+invariant-loop-k l = (1 ≤ l.k) × (first_of (block_verdict l.book l.n) 1 (l.n - 1) ≡ first_of (block_verdict l.book l.n) l.k (l.n - l.k))
+
+abbrev pub decreases-loop-k : goal.decreases-loop-k
+decreases-loop-k l = l.n - l.k

@@ -1,0 +1,46 @@
+-- `book::blocks::records_verdict` meets its contract.
+use mathlib.Core.Path.{◌≡◌, sym, ◌∙◌}
+use Prim.Native.Nat.{ℕ, ◌≤◌, ◌-◌}
+use native.Mathlib.Nat.{sub-zero}
+use native.Mathlib.Omega.{arith}
+use borrow.Author.Rules.{rules}
+use borrow.Author.Tests.{not-true, not-false}
+use Rattle.book.specs.Parts.{record_in}
+use Rattle.book.specs.Verdict.{bytes_verdict, first_of, records_verdict}
+use Rattle.book.proofs.First.{first-passed, first-stopped, first-end}
+use Rattle.book.proofs.blocks.records_verdict.Goals as goal
+use Rattle.book.proofs.blocks.records_verdict.Goals.{After-is_accepted, In-loop-i}
+
+pub loop-i-init : goal.loop-i-init
+unfolding records_verdict
+loop-i-init c = (omega arith, rw (sub-zero, c.record_count-n.ensures.value))
+
+-- a turn: the record's verdict, in the contract's terms
+module _ (c : After-is_accepted) where
+  abbrev inside : In-loop-i
+  inside = let f = c.before.before in f.before.before
+
+  judged : let l = inside.before in
+      let a = l.args in
+      c.record_verdict-v.result ≡ bytes_verdict a.curves (record_in a.b.now l.loop-i.i) a.k
+  judged =
+      let f = c.before.before in
+      rw (f.fields_of-f.ensures, f.record_in.ensures.result_value) at c.record_verdict-v.ensures
+
+pub returns-then-not-is_accepted : goal.returns-then-not-is_accepted
+returns-then-not-is_accepted c =
+    let turn = inside c.before in
+    let l = turn.loop-i in
+    let e = judged c.before in
+    let stop = rw e at (sym c.is_accepted.ensures ∙ not-true _ c.if-not-is_accepted.true) in
+    e ∙ sym (l.inv.1 ∙ first-stopped _ l.i _ turn.loop-i-test.taken stop)
+
+pub loop-i-preserved : goal.loop-i-preserved
+loop-i-preserved c =
+    let turn = inside c.before in
+    let l = turn.loop-i in
+    let pass = rw (judged c.before) at (sym c.is_accepted.ensures ∙ not-false _ c.if-not-is_accepted.false) in
+    (omega arith, l.inv.1 ∙ first-passed _ l.i _ turn.loop-i-test.taken pass)
+
+pub returns : goal.returns
+returns c = sym (c.loop-i.invariant.1 ∙ first-end _ _ _ c.loop-i-test.false)

@@ -1,0 +1,51 @@
+-- `book::blocks::trades_verdict` meets its contract.
+use mathlib.Core.Path.{◌≡◌, refl, sym, ◌∙◌}
+use borrow.Author.Rules.{rules}
+use borrow.Author.Tests.{not-true, not-false}
+use Rattle.ground.specs.declared.Ground.TheVariants.{Check, Place, TradeBlock}
+use Rattle.ground.specs.declared.Verdict.TheVariants.{Accepted}
+use Rattle.ground.specs.Verdicts.{first_broken}
+use Rattle.ground.proofs.Verdicts.{unbroken, is-accepted, stops, in-turn, also}
+use Rattle.book.specs.Verdict.{trades_rules, trades_verdict}
+use Rattle.book.proofs.Sound.{traded}
+use Rattle.book.proofs.blocks.trades_verdict.Goals as goal
+use Rattle.book.proofs.blocks.trades_verdict.Goals.{After-or_if-v, Start}
+
+module _ (c : After-or_if-v) where
+  abbrev start : Start
+  start = let place = c.before.before.before in let after-shared-slice-known = place.before.before.before in after-shared-slice-known.before
+
+  -- grounds 2, 3 and 7
+  so_far : c.or_if-v.result ≡ first_broken start.args.k (trades_rules start.args.b.now start.args.k start.args.last)
+  so_far =
+      let count = c.before in
+      let place = count.before.before in
+      let check = place.before.before in
+      let a = start.args in
+      also TradeBlock a.k
+      (also Place a.k
+      (also {v = Accepted} Check a.k refl check.breaks_check.ensures place.or_if.ensures)
+      place.breaks_place.ensures count.or_if-2.ensures)
+      count.breaks_trade_block.ensures c.or_if-v.ensures
+      ∙ in-turn Accepted a.k (trades_rules a.b.now a.k a.last)
+
+pub returns-then-not-is_accepted : goal.returns-then-not-is_accepted
+unfolding trades_verdict
+returns-then-not-is_accepted c =
+    let v = c.before.before in
+    let e = so_far v in
+    e ∙ sym (stops _ _ (rw e at (sym c.is_accepted.ensures ∙ not-true _ c.if-not-is_accepted.true)))
+
+pub records_verdict-requires : goal.records_verdict-requires
+records_verdict-requires c =
+    let v = c.before.before in
+    let a = (start v).args in
+    let accepted = sym (so_far v) ∙ is-accepted _ (sym c.is_accepted.ensures ∙ not-false _ c.if-not-is_accepted.false) in
+    (search rules, (traded _ _ (unbroken a.k (trades_rules a.b.now a.k a.last) accepted 2)).count.most)
+
+pub returns : goal.returns
+unfolding trades_verdict
+returns c =
+    let told = c.before.before in
+    let accepted = sym (so_far told.before) ∙ is-accepted _ (sym told.is_accepted.ensures ∙ not-false _ c.if-not-is_accepted.false) in
+    c.records_verdict.ensures ∙ rw accepted

@@ -1,0 +1,80 @@
+-- `book::blocks_verdict` meets its contract.
+use mathlib.Core.Path.{◌≡◌, sym, ◌∙◌}
+use mathlib.Core.Bool.{true, false}
+use Prim.Native.Nat.{◌/◌}
+use native.Mathlib.Omega.{arith}
+use borrow.Author.Rules.{rules}
+use borrow.Author.Tests.{not-true, not-false}
+use lib.ListN.{length}
+use Rattle.ground.specs.Verdicts.{is_accepted}
+use Rattle.ground.proofs.Verdicts.{is-accepted}
+use Rattle.book.specs.Rules.{breaks_length}
+use Rattle.book.specs.Parts.{block_at}
+use Rattle.book.specs.Verdict.{header_verdict, blocks_verdict}
+use Rattle.book.proofs.Sound.{Long, long, Headed}
+use Rattle.book.proofs.Places.{head-curves}
+use Rattle.book.proofs.Verdicts.{header-accepted, header-stops, header-passes, verdict-blocks}
+use Rattle.book.proofs.blocks_verdict.Goals as goal
+use Rattle.book.proofs.blocks_verdict.Goals.{After-header_verdict-first, Else-breaks_length, Else-not-is_accepted, Start}
+
+pub returns-then-breaks_length : goal.returns-then-breaks_length
+unfolding blocks_verdict
+returns-then-breaks_length c = rw (← c.breaks_length.ensures, c.if-breaks_length.true)
+
+-- past the first test
+module _ (c : Else-breaks_length) where
+  abbrev start : Start
+  start = c.before.before.before
+
+  kept : breaks_length start.args.used (length start.args.book.now) ≡ false
+  kept = sym c.breaks_length.ensures ∙ c.if-breaks_length.false
+
+  fits : Long start.args.used (length start.args.book.now)
+  fits = long _ _ kept
+
+pub block_at-requires : goal.block_at-requires
+block_at-requires c = let l = fits c in omega arith
+
+-- the header's verdict, in the contract's terms
+module _ (c : After-header_verdict-first) where
+  abbrev whole : Else-breaks_length
+  whole = c.before.before
+
+  judged : c.header_verdict-first.result ≡ header_verdict (block_at (start whole).args.book.now 0) ((start whole).args.used / 512)
+  judged = rw c.block_at.ensures.result_value at c.header_verdict-first.ensures
+
+pub returns-then-not-is_accepted : goal.returns-then-not-is_accepted
+returns-then-not-is_accepted c =
+    let header = c.before.before in
+    let l = fits (whole header) in
+    let e = judged header in
+    let stop = rw e at (sym c.is_accepted.ensures ∙ not-true _ c.if-not-is_accepted.true) in
+    e ∙ sym (verdict-blocks _ _ (kept (whole header)) ∙ header-stops _ _ (omega arith) stop)
+
+-- past the second
+module _ (c : Else-not-is_accepted) where
+  abbrev header : After-header_verdict-first
+  header = c.before.before
+
+  told : is_accepted header.header_verdict-first.result ≡ true
+  told = sym c.is_accepted.ensures ∙ not-false _ c.if-not-is_accepted.false
+
+  heads : Headed (block_at (start (whole header)).args.book.now 0) ((start (whole header)).args.used / 512)
+  heads = (header-accepted _ _ (sym (judged header) ∙ is-accepted _ told)).counts
+
+pub curves_of-requires : goal.curves_of-requires
+curves_of-requires c =
+    let w = whole (header c) in
+    let l = fits w in
+    let h = heads c in
+    omega (arith, head-curves (start w).args.book.now)
+
+pub block_by_block-requires : goal.block_by_block-requires
+block_by_block-requires c = let l = fits (whole (header c.before)) in record { n_bound = (omega arith, omega arith); curves_value = c.curves_of.ensures }
+
+pub returns : goal.returns
+returns c =
+    let passed = c.before.before in
+    let w = whole (header passed) in
+    let l = fits w in
+    c.block_by_block.ensures ∙ sym (verdict-blocks _ _ (kept w) ∙ header-passes _ _ (omega arith) (rw (judged (header passed)) at (told passed)))

@@ -1,0 +1,48 @@
+-- `book::parts::curves_of` meets its contract.
+use mathlib.Core.Path.{◌≡◌, refl, sym, ap, ◌∙◌}
+use mathlib.Core.List.{List, []}
+use Prim.Native.Nat.{ℕ, ◌≤◌, ◌<◌, ◌-◌}
+use native.Mathlib.Omega.{arith}
+use borrow.Author.Rules.{rules}
+use borrow.Author.Count.{below_more}
+use lib.ListN.{length, get_or, length-set}
+use lib.Seq.{get_or-set_same, get_or-set_other, ext_get_or}
+use Rattle.laws.specs.Walk.{table}
+use Rattle.laws.proofs.Walk.{length-table, get_d-table}
+use Rattle.curve_block.specs.Parts.{currency_of}
+use Rattle.book.specs.Parts.{curve_blocks, curves_in}
+use Rattle.book.proofs.Places.{length-curve_blocks}
+use Rattle.book.proofs.parts.curves_of.Goals as goal
+
+-- what stands at k - 1 of a book's currencies
+abbrev currency : List ℕ → ℕ → ℕ
+currency s k = currency_of (get_or (curve_blocks s) k [])
+
+pub loop-k-init : goal.loop-k-init
+loop-k-init c = (search rules, refl, λ j l. absurd (omega arith))
+
+pub loop-k-preserved : goal.loop-k-preserved
+loop-k-preserved c =
+    let at-loop = c.before.before in
+    let k = at-loop.loop-k.k in
+    let held = at-loop.loop-k.currency in (
+      search rules,
+      simp length-set at-loop.loop-k.invariant.1,
+      below_more _ k
+          (λ j l. get_or-set_other held k j c.currency_at.result 0 (λ e. omega arith) ∙ at-loop.loop-k.invariant.2 j l)
+          (get_or-set_same held k c.currency_at.result 0 (omega arith) ∙ c.currency_at.ensures),
+    )
+
+pub returns : goal.returns
+unfolding curves_in
+returns c =
+    let at-loop = c.before.before in
+    let s = at-loop.args.book.now in
+    let inv = at-loop.loop-k.invariant in
+    let last : at-loop.loop-k.k ≡ 8 = omega arith in
+    rw (
+      c.curve_count-count.ensures.value,
+      length-curve_blocks s,
+      ext_get_or 0 at-loop.loop-k.currency (table (currency s) 0 8) (inv.1 ∙ sym (length-table (currency s) 0 8))
+          (λ j l. inv.2 j (omega arith) ∙ sym (get_d-table (currency s) 0 8 j 0 (omega arith) ∙ ap (currency s) (omega arith))),
+    )

@@ -1,0 +1,36 @@
+-- `book::rules::breaks_trade_block` meets its contract.
+use mathlib.Core.Path.{sym, ◌∙◌}
+use native.Mathlib.Omega.{arith}
+use borrow.Author.Rules.{rules}
+use borrow.Author.Tests.{not-true, not-false}
+use Rattle.book.specs.Rules.{breaks_trade_block}
+use Rattle.book.proofs.Sound.{Counted, counted}
+use Rattle.book.proofs.rules.breaks_trade_block.Goals as goal
+use Rattle.book.proofs.rules.breaks_trade_block.Goals.{Else-not-count_fits}
+
+pub returns-then-not-count_fits : goal.returns-then-not-count_fits
+unfolding breaks_trade_block
+returns-then-not-count_fits c =
+    rw (← c.record_count-n.ensures.value, ← c.count_fits.ensures, not-true c.count_fits.result c.if-not-count_fits.true)
+
+-- past the first test the count is at most 9
+few : (c : Else-not-count_fits) → let count = c.before.before in Counted count.record_count-n.result count.args.last
+few c = counted _ _ (sym c.count_fits.ensures ∙ not-false _ c.if-not-count_fits.false)
+
+pub record_place-requires : goal.record_place-requires
+record_place-requires c = (few c).most
+
+pub zeros-requires : goal.zeros-requires
+zeros-requires c = let f = few c.before in (omega arith, omega arith)
+
+pub returns : goal.returns
+unfolding breaks_trade_block
+returns c =
+    let fits = c.before.before.before in
+    rw (
+      ← fits.record_count-n.ensures.value,
+      ← fits.count_fits.ensures,
+      not-false fits.count_fits.result c.if-not-count_fits.false,
+      c.zeros.ensures,
+      c.record_place.ensures,
+    )

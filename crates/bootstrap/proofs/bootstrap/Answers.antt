@@ -1,0 +1,74 @@
+-- `bootstrap::bootstrap` meets its contract.
+use mathlib.Core.Path.{◌≡◌, sym, ◌∙◌}
+use Prim.Native.Nat.{◌*◌, ◌+◌, ◌≤◌}
+use native.Mathlib.Nat.{add-sub_cancel_left}
+use native.Mathlib.Omega.{arith}
+use borrow.Author.Rules.{rules}
+use lib.ListN.{length}
+use Rattle.layout.proofs.Bytes.{length_part}
+use Rattle.ground.specs.declared.Verdict.{Verdict}
+use Rattle.ground.specs.declared.Verdict.TheVariants as verdict
+use Rattle.curve.specs.declared.Node.{Node}
+use Rattle.bootstrap.specs.Refusals.{curve_at, bootstrap_verdict}
+use Rattle.bootstrap.specs.Bootstrap.{new_node, bootstrapped}
+use Rattle.bootstrap.proofs.Added.{node-left, book-sound, within, node-room}
+use Rattle.bootstrap.proofs.Decisions.{decided-add, decided-refused}
+use Rattle.bootstrap.proofs.bootstrap.Goals as goal
+use Rattle.bootstrap.proofs.bootstrap.Goals.{In-Add-2, Start}
+
+-- where a node is added nothing refuses
+module _ (c : In-Add-2) where
+  abbrev began : Start
+  began = let decided = c.before.before in decided.before.before.before
+
+  abbrev judged : Verdict
+  judged = bootstrap_verdict began.args.book-1.now began.args.used began.args.day began.args.q
+
+  abbrev new : Node
+  new = new_node (curve_at began.args.book-1.now began.args.q.curve) began.args.q
+
+  told : (judged ≡ verdict.Accepted) × (c.in-Add.n ≡ new)
+  told = decided-add judged new c.in-Add.n (sym c.decided-d.ensures ∙ c.in-Add.is)
+
+  accepted : judged ≡ verdict.Accepted
+  accepted = told.0
+
+  fits : began.args.q.curve * 512 + 512 ≤ length began.args.book-1.now
+  fits =
+      let w = within began.args.book-1.now began.args.used began.args.day began.args.q accepted in
+      let b = book-sound began.args.book-1.now began.args.used began.args.day began.args.q accepted in
+      omega (arith, b.lent)
+
+pub overflow_mul-at : goal.overflow_mul-at
+overflow_mul-at c = omega (arith, fits c.before.before)
+
+pub overflow_add-at : goal.overflow_add-at
+overflow_add-at c = omega (arith, fits c.before.before)
+
+pub slice_bounds-add_node-end : goal.slice_bounds-add_node-end
+slice_bounds-add_node-end c = omega (arith, fits c.before.before)
+
+pub add_node-requires : goal.add_node-requires
+add_node-requires c =
+    let d = c.before.before.before in
+    let s = (began d).args.book-1.now in
+    rw add-sub_cancel_left (length_part s ((began d).args.q.curve * 512) 512 (fits d), node-room s (began d).args.used (began d).args.day (began d).args.q (accepted d))
+
+pub returns-in-Refused : goal.returns-in-Refused
+unfolding bootstrapped
+returns-in-Refused c =
+    let d = c.before in
+    let decided = d.before.before in
+    let e = decided-refused _ _ _ _ (sym decided.decided-d.ensures ∙ d.in-Refused.is) in
+    record { value = sym e; book_after = rw e }
+
+pub returns-in-Add : goal.returns-in-Add
+unfolding bootstrapped
+returns-in-Add c =
+    let added-node = c.before.before in
+    let place = added-node.before.before in
+    let d = place.before.before in
+    let s = (began d).args.book-1.now in
+    let q = (began d).args.q in
+    let left = rw add-sub_cancel_left at added-node.add_node.ensures in
+    record { value = sym (accepted d); book_after = rw (accepted d, add-sub_cancel_left) (node-left s q.curve (fits d) (told d).1 left) }

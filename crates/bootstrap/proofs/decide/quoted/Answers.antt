@@ -1,0 +1,55 @@
+-- `bootstrap::decide::quoted` meets its contract.
+use mathlib.Core.Path.{◌≡◌, sym, ◌∙◌}
+use native.Mathlib.Omega.{arith}
+use borrow.Author.Rules.{rules}
+use Rattle.ground.specs.declared.Verdict.TheVariants.{Accepted}
+use Rattle.record.proofs.Limits.{InLimits}
+use Rattle.book.specs.Parts.{curve_count, curves_of}
+use Rattle.book.proofs.Accepted.{Sound, sound, curve-sound}
+use Rattle.bootstrap.specs.Refusals.{quote_verdict, in_book_verdict}
+use Rattle.bootstrap.proofs.Kept.{id-in-book, quote-kept}
+use Rattle.bootstrap.proofs.decide.quoted.Goals as goal
+use Rattle.bootstrap.proofs.decide.quoted.Goals.{After-quote_verdict-v, In-Accepted, Start}
+
+pub curves_of-requires : goal.curves_of-requires
+curves_of-requires c = let b = sound _ _ c.requires.accepted in omega (arith, b.blocks, b.lent)
+
+-- the quote's own verdict
+judged : (c : After-quote_verdict-v) → let s = c.before.before.before in c.quote_verdict-v.result ≡ quote_verdict (curves_of s.args.book.now) s.args.q
+judged c = c.quote_verdict-v.ensures ∙ rw c.curves_of.ensures
+
+module _ (c : In-Accepted) where
+  abbrev start : Start
+  start = let told = c.before.before in told.before.before.before
+
+  accepted : quote_verdict (curves_of start.args.book.now) start.args.q ≡ Accepted
+  accepted = sym (judged c.before.before) ∙ c.in-Accepted.is
+
+  book : Sound start.args.book.now start.requires.used
+  book = sound _ _ start.requires.accepted
+
+  id : InLimits 1 start.args.q.curve (curve_count start.args.book.now)
+  id = id-in-book start.args.book.now start.args.q accepted
+
+pub block_at-requires : goal.block_at-requires
+block_at-requires c = let b = book c in omega (arith, b.blocks, b.lent, (id c).high)
+
+pub extended-requires : goal.extended-requires
+extended-requires c =
+    let told = c.before.before in
+    let s = start told in
+    let curve = (curve-sound s.args.book.now s.requires.used (book told) s.args.q.curve (id told).low (id told).high).curve in
+    (rw (c.curve_of.ensures, c.block_at.ensures.result_value) curve, quote-kept _ s.args.q (accepted told))
+
+pub returns-in-Refused : goal.returns-in-Refused
+unfolding in_book_verdict
+returns-in-Refused c =
+    let v = c.before in
+    rw (sym (judged v.before.before) ∙ v.in-Refused.is)
+
+pub returns-in-Accepted : goal.returns-in-Accepted
+unfolding in_book_verdict
+returns-in-Accepted c =
+    let curve = c.before in
+    let told = curve.before.before in
+    rw (accepted told, c.extended.ensures, curve.curve_of.ensures, curve.block_at.ensures.result_value)

@@ -1,0 +1,24 @@
+-- `bootstrap::refusals::quote_verdict` meets its contract.
+use mathlib.Core.Path.{◌≡◌, ◌∙◌}
+use borrow.Author.Rules.{rules}
+use Rattle.ground.specs.declared.Ground.TheVariants.{Node, Amounts}
+use Rattle.ground.proofs.Verdicts.{in-turn, also}
+use Rattle.flows.specs.Verdict.{record_verdict}
+use Rattle.bootstrap.specs.Bought.{bond_fields}
+use Rattle.bootstrap.specs.Refusals.{quote_rules, quote_verdict}
+use Rattle.bootstrap.proofs.refusals.quote_verdict.Goals as goal
+
+pub returns : goal.returns
+unfolding quote_verdict
+returns c =
+    let components = c.before.before in
+    let judged = components.before.before in
+    let start = judged.before.before in
+    let q = start.args.q in
+    let e : judged.record_verdict.result ≡ record_verdict start.args.curves (bond_fields q) 0 =
+    judged.record_verdict.ensures ∙ rw judged.bond_fields.ensures in
+    also Amounts 0
+    (also Node 0 e components.breaks_components.ensures components.or_if.ensures)
+    c.breaks_cash.ensures
+    c.or_if-2.ensures
+    ∙ in-turn (record_verdict start.args.curves (bond_fields q) 0) 0 (quote_rules q)

@@ -1,0 +1,63 @@
+-- `bucket::buckets::bucket_on` meets its contract: the day is in its bucket, and the bucket in its segment of days.
+use borrow.Author.Rules.{rules}
+use borrow.Author.Tests.{le-leb, lt-leb, lt-ltb, le-ltb}
+use Prim.Native.Nat.{ℕ, ◌+◌, ◌-◌, ◌*◌, ◌≤◌}
+use native.Mathlib.Nat.{mul-le-mul, div-le_self}
+use native.Mathlib.Omega.{arith}
+use Rattle.bucket.specs.Buckets.{bucket_on}
+use Rattle.bucket.proofs.buckets.bucket_on.Goals as goal
+use Rattle.bucket.proofs.buckets.bucket_on.Goals.{After-last_day_of-last, Else-until-day, Start}
+
+pub returns-then-day-from : goal.returns-then-day-from
+unfolding bucket_on
+returns-then-day-from c = rw (lt-ltb _ _ c.if-day-from.true) c.alone.ensures
+
+pub returns-then-until-day : goal.returns-then-until-day
+unfolding bucket_on
+returns-then-until-day c =
+    let then = c.before in
+    rw (le-ltb _ _ then.if-day-from.false, le-leb _ _ then.if-until-day.true) c.alone-then-until-day.ensures
+
+-- with the ends of the bucket known
+module _ (c : After-last_day_of-last) where
+  abbrev else : Else-until-day
+  else = c.before.before
+
+  abbrev start : Start
+  start = else.before.before
+
+  record Ends (near far day : ℕ) : Type 0 where
+    near_le : near ≤ day
+    le-far : day ≤ far
+    span : far ≤ near + 32
+    last : far ≤ 10950
+
+  ends : Ends c.first_day_of-first.result c.last_day_of-last.result start.args.day
+  ends =
+      let n = c.first_day_of-first.ensures in
+      let f = c.last_day_of-last.ensures in
+      let from = else.if-day-from.left in
+      let until = else.if-until-day.left in
+      record { near_le = omega arith; le-far = omega arith; span = omega arith; last = omega (arith, start.requires.2) }
+
+  moved : start.args.width * (c.last_day_of-last.result - c.first_day_of-first.result) ≤ 1000000 * 32
+  moved = mul-le-mul {n₂ = 1000000} {m₂ = 32} start.requires.0 (omega (arith, ends))
+
+pub returns : goal.returns
+unfolding bucket_on
+returns c =
+    let at = c.before in
+    let e = else at in
+    rw (le-ltb _ _ e.if-day-from.left, lt-leb _ _ e.if-until-day.left, ← at.first_day_of-first.ensures, ← at.last_day_of-last.ensures) c.fitting.ensures
+
+pub overflow_sub-jump : goal.overflow_sub-jump
+overflow_sub-jump c = omega (arith, ends c)
+
+pub overflow_mul-jump : goal.overflow_mul-jump
+overflow_mul-jump c = omega (arith, moved c)
+
+pub overflow_add-jump : goal.overflow_add-jump
+overflow_add-jump c = omega (arith, moved c, div-le_self ((start c).args.width * (c.last_day_of-last.result - c.first_day_of-first.result)) ((start c).args.until - (start c).args.from))
+
+pub fitting-requires : goal.fitting-requires
+fitting-requires c = ((start c).requires.1, (ends c).near_le, (ends c).le-far, (ends c).span, (ends c).last)

@@ -1,0 +1,16 @@
+-- `cheap::factor::factor` meets its contract.
+use mathlib.Core.Path.{ap, ◌∙◌}
+use borrow.Author.Rules.{rules}
+use Rattle.logarithm.proofs.Rows.{exponent-le}
+use Rattle.cheap.specs.Cheap.{cheap_log, cheap_power, cheap_factor}
+use Rattle.cheap.proofs.CheapLogs.{cheap-log-le}
+use Rattle.cheap.proofs.factor.factor.Goals as goal
+
+pub power-requires : goal.power-requires
+power-requires c =
+    let start = c.before.before in
+    (start.requires.0, rw c.exponent.ensures (exponent-le (cheap_log start.args.rate) start.args.day (cheap-log-le start.args.rate start.requires.1) start.requires.2))
+
+pub returns : goal.returns
+unfolding cheap_factor
+returns c = c.power.ensures ∙ ap cheap_power c.exponent.ensures

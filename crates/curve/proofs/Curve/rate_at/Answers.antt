@@ -1,0 +1,40 @@
+-- `curve::Curve::rate_at` meets its contract.
+use borrow.Author.Rules.{rules}
+use mathlib.Core.Path.{sym, ◌∙◌}
+use Prim.Native.Nat.{◌-◌}
+use Rattle.curve.proofs.Search.{Passed, before-all, passed_first, passed-between, passed-interpolated, passed-next, passed-all}
+use Rattle.curve.proofs.Curve.rate_at.Goals as goal
+
+pub returns-then-t-a : goal.returns-then-t-a
+returns-then-t-a c = sym (before-all _ _ c.requires c.if-t-a.true)
+
+pub loop-i-init : goal.loop-i-init
+loop-i-init c = passed_first _ _ c.requires c.if-t-a.false
+
+pub interpolate-requires : goal.interpolate-requires
+interpolate-requires c =
+    let in-loop = c.before.before.before in
+    let l = in-loop.before in
+    let after-a = l.before.before.before in
+    passed-between _ _ after-a.requires _ _ l.loop-i.invariant (search rules) c.if-t-b.true
+
+pub returns-then-t-b : goal.returns-then-t-b
+returns-then-t-b c =
+    let after-b = c.before.before.before in
+    let l = after-b.before.before in
+    let after-a = l.before.before.before in
+    c.interpolate.ensures
+    ∙ sym (passed-interpolated _ _ after-a.requires _ _ l.loop-i.invariant (search rules) c.if-t-b.true)
+
+pub loop-i-preserved : goal.loop-i-preserved
+loop-i-preserved c =
+    let in-loop = c.before.before.before in
+    let l = in-loop.before in
+    let after-a = l.before.before.before in
+    passed-next _ _ after-a.requires _ _ l.loop-i.invariant (search rules) c.if-t-b.false
+
+pub returns : goal.returns
+returns c =
+    let l = c.before in
+    let after-a = l.before.before.before in
+    sym (passed-all _ _ after-a.requires _ _ l.loop-i.invariant (search rules))

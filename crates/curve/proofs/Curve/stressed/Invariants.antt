@@ -1,0 +1,11 @@
+-- `curve::Curve::stressed` meets its contract.
+use borrow.Author.Rules.{rules}
+use Prim.Native.Nat.{◌-◌}
+use Rattle.curve.proofs.Stress.{Partly, partly_none, partly-limits, partly-next, partly-all}
+use Rattle.curve.proofs.Curve.stressed.Given as goal
+
+abbrev pub invariant-loop-i : goal.invariant-loop-i
+invariant-loop-i l = Partly l.s l.initial.r l.r l.i
+
+abbrev pub decreases-loop-i : goal.decreases-loop-i
+decreases-loop-i l = l.n - l.i

@@ -1,0 +1,55 @@
+-- `curve_block::rules::breaks_node` meets its contract.
+use mathlib.Core.Path.{◌≡◌, refl, sym, ◌∙◌}
+use mathlib.Core.Bool.{Bool, not}
+use mathlib.Core.List.{List}
+use Prim.Native.Nat.{ℕ, ◌+◌, ◌≤◌, ◌-◌}
+use native.Mathlib.Nat.{sub-zero}
+use native.Mathlib.Numerals.{add-one}
+use borrow.Author.Rules.{rules}
+use borrow.Author.Tests.{not-true, not-false}
+use Rattle.laws.specs.Every.{every}
+use Rattle.laws.proofs.Every.{every-passed, every-failed, every-end}
+use Rattle.curve.specs.declared.Node.{Node}
+use Rattle.curve_block.specs.Parts.{node_at}
+use Rattle.curve_block.specs.Rules.{node_sound, day_before, sound_at, breaks_node}
+use Rattle.curve_block.proofs.rules.breaks_node.Goals as goal
+
+-- a turn's test is that of the node
+sound-is : (b : List ℕ) (i before : ℕ) (n : Node) (r : Bool) → before ≡ day_before b i → n ≡ node_at b i → r ≡ node_sound i before n → r ≡ sound_at b i
+sound-is b i before n r day node is = is ∙ rw (day, node)
+
+-- and its day the one before the next
+day-next : (b : List ℕ) (i : ℕ) (n : Node) → n ≡ node_at b i → n.day ≡ day_before b (i + 1)
+unfolding day_before
+day-next b i n node = rw (add-one, node)
+
+pub loop-i-init : goal.loop-i-init
+unfolding breaks_node day_before
+loop-i-init c = (search rules, search rules, refl, rw (sub-zero, c.node_count-n.ensures))
+
+pub returns-then-not-node_sound : goal.returns-then-not-node_sound
+returns-then-not-node_sound c =
+    let in-loop = c.before.before.before in
+    let at-loop = in-loop.before in
+    let b = at-loop.args.b.now in
+    let sound = sound-is b at-loop.loop-i.i _ _ c.node_sound.result at-loop.loop-i.invariant.2 c.Node-at.ensures c.node_sound.ensures in
+    sym (at-loop.loop-i.invariant.3
+    ∙ rw (every-failed (sound_at b) at-loop.loop-i.i _ c.loop-i-test.true (sym sound ∙ not-true c.node_sound.result c.if-not-node_sound.true)))
+
+pub loop-i-preserved : goal.loop-i-preserved
+loop-i-preserved c =
+    let in-loop = c.before.before.before in
+    let at-loop = in-loop.before in
+    let b = at-loop.args.b.now in
+    let sound = sound-is b at-loop.loop-i.i _ _ c.node_sound.result at-loop.loop-i.invariant.2 c.Node-at.ensures c.node_sound.ensures in (
+      search rules,
+      search rules,
+      day-next b at-loop.loop-i.i c.Node-at.result c.Node-at.ensures,
+      at-loop.loop-i.invariant.3
+          ∙ rw (every-passed (sound_at b) at-loop.loop-i.i _ c.loop-i-test.true (sym sound ∙ not-false c.node_sound.result c.if-not-node_sound.false)),
+    )
+
+pub returns : goal.returns
+returns c =
+    let after-shared-slice-known = c.before.before.before in
+    sym (c.loop-i.invariant.3 ∙ rw (every-end (sound_at after-shared-slice-known.args.b.now) _ _ c.loop-i-test.false))

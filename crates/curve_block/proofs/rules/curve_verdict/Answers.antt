@@ -1,0 +1,54 @@
+-- `curve_block::rules::curve_verdict` meets its contract.
+use mathlib.Core.Path.{◌≡◌, refl, sym, ◌∙◌}
+use borrow.Author.Rules.{rules}
+use borrow.Author.Tests.{not-true, not-false}
+use lib.ListN.{take, drop}
+use Rattle.ground.specs.declared.Verdict.TheVariants.{Accepted}
+use Rattle.ground.specs.declared.Ground.TheVariants.{Check, Place, Curve, Node}
+use Rattle.ground.proofs.Verdicts.{in_turn, in-turn, also, stopped, passed}
+use Rattle.curve_block.specs.Verdict.{curve_rules, curve_verdict}
+use Rattle.curve_block.proofs.Accepted.{numbers-kept, count_most}
+use Rattle.curve_block.proofs.rules.curve_verdict.Goals as goal
+use Rattle.curve_block.proofs.rules.curve_verdict.Goals.{After-or_if-v, Start}
+
+module _ (c : After-or_if-v) where
+  abbrev start : Start
+  start = let place = c.before.before.before in let after-shared-slice-known = place.before.before.before in after-shared-slice-known.before
+
+  -- grounds 2, 3 and 5
+  so_far : c.or_if-v.result ≡ in_turn Accepted start.args.k (take 3 (curve_rules start.args.b.now start.args.k))
+  so_far =
+      let curve = c.before in
+      let place = curve.before.before in
+      let check = place.before.before in
+      let k = start.args.k in
+      also Curve k
+      (also Place k
+      (also {v = Accepted} Check k refl check.breaks_check.ensures place.or_if.ensures)
+      place.breaks_place.ensures curve.or_if-2.ensures)
+      curve.breaks_curve.ensures c.or_if-v.ensures
+
+pub returns-then-not-is_accepted : goal.returns-then-not-is_accepted
+unfolding curve_verdict
+returns-then-not-is_accepted c =
+    let v = c.before.before in
+    let a = (start v).args in
+    let rules = curve_rules a.b.now a.k in
+    stopped a.k (drop 3 rules) (so_far v) (sym c.is_accepted.ensures ∙ not-true _ c.if-not-is_accepted.true) ∙ in-turn Accepted a.k rules
+
+pub breaks_node-requires : goal.breaks_node-requires
+breaks_node-requires c =
+    let v = c.before.before in
+    let s = start v in
+    let b = s.args.b.now in
+    let k = s.args.k in
+    let kept = passed k (take 3 (curve_rules b k)) (so_far v) (sym c.is_accepted.ensures ∙ not-false _ c.if-not-is_accepted.false) in
+    (s.requires, count_most b k (numbers-kept b k (kept 2)))
+
+pub returns : goal.returns
+unfolding curve_verdict
+returns c =
+    let node = c.before in
+    let v = node.before.before.before in
+    let a = (start v).args in
+    also Node a.k (so_far v) node.breaks_node.ensures c.or_if-3.ensures ∙ in-turn Accepted a.k (curve_rules a.b.now a.k)

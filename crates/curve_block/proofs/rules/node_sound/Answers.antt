@@ -1,0 +1,31 @@
+-- `curve_block::rules::node_sound` meets its contract.
+use mathlib.Core.Path.{◌≡◌}
+use borrow.Author.Rules.{rules}
+use mir.Syntax.{w64}
+use mir.Val.{SFits}
+use mir.Facts.{to_z-of_z}
+use Rattle.laws.proofs.Signed.{read}
+use Rattle.curve_block.specs.Rules.{node_sound}
+use Rattle.curve_block.proofs.rules.node_sound.Goals as goal
+use Rattle.curve_block.proofs.rules.node_sound.Goals.{Start}
+
+-- the components fit
+fits-first : (s : Start) → SFits w64 s.args.n.first
+fits-first s = search rules
+
+fits-second : (s : Start) → SFits w64 s.args.n.second
+fits-second s = search rules
+
+fits-third : (s : Start) → SFits w64 s.args.n.third
+fits-third s = search rules
+
+pub returns : goal.returns
+unfolding node_sound
+returns c =
+    let after-struct-told2 = c.before.before.before in
+    let after-struct-known3 = after-struct-told2.before.before.before in
+    let s = after-struct-known3.before.before.before in
+    let first : read s.args.n.first ≡ s.args.n.first = to_z-of_z (fits-first s) in
+    let second : read s.args.n.second ≡ s.args.n.second = to_z-of_z (fits-second s) in
+    let third : read s.args.n.third ≡ s.args.n.third = to_z-of_z (fits-third s) in
+    cc

@@ -1,0 +1,25 @@
+-- `edit::refusals::append_verdict` meets its contract.
+use mathlib.Core.Path.{sym, ◌∙◌}
+use borrow.Author.Rules.{rules}
+use borrow.Author.Tests.{not-true, not-false}
+use Rattle.ground.proofs.Verdicts.{is-accepted, stops}
+use Rattle.acceptance.proofs.Laws.{book-accepted}
+use Rattle.edit.specs.Refusals.{append_verdict}
+use Rattle.edit.proofs.refusals.append_verdict.Goals as goal
+
+pub returns-then-not-is_accepted : goal.returns-then-not-is_accepted
+unfolding append_verdict
+returns-then-not-is_accepted c =
+    let e = c.check-v.ensures in
+    e ∙ sym (stops _ _ (rw e at (sym c.is_accepted.ensures ∙ not-true _ c.if-not-is_accepted.true)))
+
+pub new_record_verdict-requires : goal.new_record_verdict-requires
+new_record_verdict-requires c =
+    (book-accepted _ _ _ (sym c.check-v.ensures ∙ is-accepted _ (sym c.is_accepted.ensures ∙ not-false _ c.if-not-is_accepted.false))).blocks
+
+pub returns : goal.returns
+unfolding append_verdict
+returns c =
+    let told = c.before.before in
+    let accepted = sym told.check-v.ensures ∙ is-accepted _ (sym told.is_accepted.ensures ∙ not-false _ c.if-not-is_accepted.false) in
+    c.new_record_verdict.ensures ∙ rw accepted

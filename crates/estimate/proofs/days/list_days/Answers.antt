@@ -1,0 +1,40 @@
+-- `estimate::days::list_days` meets its contract: what is listed and what is left are together all.
+use borrow.Author.Rules.{rules}
+use mathlib.Core.Logic.{⊎_elim}
+use Prim.Native.Nat.{◌-◌}
+use native.Mathlib.Omega.{arith}
+use lib.IntN.{pos}
+use lib.ListN.{get_or}
+use Rattle.estimate.proofs.Listing.{none-tested, some-tested, Listing, listing_none, listing-more, listing-kept, listing-past, listing-all}
+use Rattle.estimate.proofs.days.list_days.Goals as goal
+
+pub loop-day-smaller : goal.loop-day-smaller
+loop-day-smaller c =
+    let turn = c.before.before.before in
+    omega (arith, turn.loop-day-test.true, c.pass_empty-day-in-loop-day.ensures.order)
+
+pub loop-day-preserved : goal.loop-day-preserved
+loop-day-preserved c =
+    let joined = c.before in
+    let turn = joined.before.before in
+    let l = turn.before in
+    let s = l.before.before.before in
+    let x = get_or s.args.nets.now l.loop-day.day (pos 0) in
+    let k = turn.loop-day-test.true in
+    let more = listing-more _ _ _ _ _ l.loop-day.invariant k s.requires.0 in
+    let kept = listing-kept _ _ _ _ _ l.loop-day.invariant k s.requires.0 in
+    ⊎_elim
+    (λ w. rw w.1 (listing-past _ _ _ _ _ (more (some-tested x w.0.taken)) _ c.pass_empty-day-in-loop-day.ensures))
+    (λ w. rw w.1 (listing-past _ _ _ _ _ (kept (none-tested x joined.t11-1.given w.0.left)) _ c.pass_empty-day-in-loop-day.ensures))
+    joined.if-nets-day-ne0.branch
+
+pub returns : goal.returns
+returns c =
+    let h = c.loop-day.invariant in
+    record { kept = h.places; list = (omega (arith, h.most, h.within), listing-all _ _ _ _ _ h c.loop-day-test.false) }
+
+pub loop-day-init : goal.loop-day-init
+loop-day-init c = listing-past _ _ _ _ _ (listing_none _ _) _ c.pass_empty-day.ensures
+
+pub shape_of-days : goal.shape_of-days
+shape_of-days c = c.loop-day.invariant.places

@@ -1,0 +1,46 @@
+-- `estimate::lines::line_from` meets its contract.
+use borrow.Author.Rules.{rules}
+use Prim.Native.Nat.{ℕ, ◌+◌, ◌*◌, ◌≤◌}
+use native.Mathlib.Omega.{arith}
+use Rattle.laws.proofs.Signed.{fits, read_is, back}
+use Rattle.estimate.specs.Lines.{line_scale}
+use Rattle.estimate.proofs.LineCode.{moved-size, code-moved, code-start, start-size}
+use Rattle.estimate.proofs.lines.line_from.Goals as goal
+use Rattle.estimate.proofs.lines.line_from.Goals.{Start}
+
+-- where the line stands on node a's day
+module _ (s : Start) where
+  abbrev high : ℕ
+  high = s.args.a.rate * 134217728 + s.args.above
+
+  high-most : high ≤ 140000000000000
+  unfolding line_scale
+  high-most = omega (arith, s.requires.0.rate, s.requires.1)
+
+pub overflow_mul-result-2 : goal.overflow_mul-result-2
+overflow_mul-result-2 c =
+    let s = c.before.before in
+    let a = s.args in
+    rw (code-moved a.slope a.a.day s.requires.2 s.requires.0.day)
+    (fits _ (omega (arith, moved-size a.slope a.a.day s.requires.2 s.requires.0.day)))
+
+pub overflow_sub-result : goal.overflow_sub-result
+overflow_sub-result c =
+    let s = c.before.before in
+    let a = s.args in
+    rw (code-start a.slope a.a.day s.requires.2 s.requires.0.day (high s) (high-most s))
+    (fits _ (start-size a.slope a.a.day s.requires.2 s.requires.0.day (high s) (high-most s)))
+
+pub returns : goal.returns
+unfolding line_scale
+returns c =
+    let s = c.before.before in
+    let a = s.args in
+    let size = start-size a.slope a.a.day s.requires.2 s.requires.0.day (high s) (high-most s) in
+    rw (code-start a.slope a.a.day s.requires.2 s.requires.0.day (high s) (high-most s), read_is _ size, back a.slope s.ranges.slope.sfits)
+
+pub overflow_add-result : goal.overflow_add-result
+overflow_add-result c = omega (arith, high-most c.before)
+
+pub overflow_cast-result : goal.overflow_cast-result
+overflow_cast-result c = fits _ (omega (arith, high-most c.before))

@@ -1,0 +1,75 @@
+-- `estimate::values::fill_values` meets its contract: the scenarios passed have their values.
+use borrow.Author.Rules.{rules}
+use Prim.Native.Nat.{ℕ, ◌-◌, ◌<◌}
+use native.Mathlib.Omega.{arith}
+use lib.ListN.{length-replicate}
+use Rattle.curve.specs.Scenarios.{scenario_count}
+use Rattle.curve.proofs.Scenarios.{scenarios-most, scenario-limits}
+use Rattle.estimate.proofs.ListedDays.{rising-listed}
+use Rattle.estimate.proofs.ScenarioValues.{scenario-read, Filled, filled_none, filled_next, filled-all}
+use Rattle.estimate.proofs.values.fill_values.Goals as goal
+use Rattle.estimate.proofs.values.fill_values.Goals.{After-ends-1, At-loop-s, In-loop-s, Start}
+
+-- the entry's record, and that a turn's scenario is one of the components'
+abbrev start : After-ends-1 → Start
+start c = c.before.before.before
+
+abbrev entry : At-loop-s → Start
+entry l = let filled = l.before.before.before in start filled.before
+
+within : (c : In-loop-s) → c.loop-s.s < scenario_count (entry c.before).args.components
+within c = omega (arith, c.loop-s-test.true, c.scenario_count-n.ensures)
+
+pub fill_ends-requires : goal.fill_ends-requires
+fill_ends-requires c =
+    let p = (start c).requires in
+    (p.0, rising-listed _ _ p.2, omega (arith, p.0.most, length-replicate {A = ℕ} 24 0))
+
+pub scenario-scenario-requires : goal.scenario-scenario-requires
+scenario-scenario-requires c = ((entry c.before).requires.1, within c)
+
+pub value_in-requires : goal.value_in-requires
+value_in-requires c =
+    let turn = c.before.before in
+    let l = turn.before in
+    let p = (entry l).requires in
+    let filled = l.before.before.before in
+    (p.0, rw c.scenario-scenario.ensures (scenario-limits _ _ (within turn) p.1), filled.fill_ends.ensures, p.2, p.3)
+
+pub offset_bounds-values-at : goal.offset_bounds-values-at
+offset_bounds-values-at c =
+    let turn = c.before.before.before in
+    omega (arith, within turn, scenarios-most _ (entry turn.before).requires.1)
+
+pub bounds-values-at : goal.bounds-values-at
+bounds-values-at c =
+    let turn = c.before.before.before in
+    omega (arith, within turn, (entry turn.before).requires.4, turn.loop-s.invariant.places)
+
+pub overflow_add-s : goal.overflow_add-s
+overflow_add-s c =
+    let turn = c.before.before.before in
+    omega (arith, within turn, scenarios-most _ (entry turn.before).requires.1)
+
+pub loop-s-smaller : goal.loop-s-smaller
+loop-s-smaller c = omega (arith, c.loop-s-test.true)
+
+pub loop-s-preserved : goal.loop-s-preserved
+loop-s-preserved c =
+    let scenario = c.before.before in
+    let turn = scenario.before in
+    let l = turn.before in
+    let p = (entry l).requires in
+    let v = scenario-read (entry l).args.curve _ _ _ _ p.2 _ _ scenario.scenario-scenario.ensures c.value_in.ensures in
+    filled_next _ _ _ _ _ _ l.loop-s.invariant (within turn) p.4 _ v
+
+pub returns : goal.returns
+returns c =
+    let l = c.before in
+    record { kept = l.loop-s.invariant.places; each = filled-all _ _ _ _ _ _ l.loop-s.invariant (omega (arith, c.loop-s-test.false, l.scenario_count-n.ensures)) }
+
+pub loop-s-init : goal.loop-s-init
+loop-s-init c = filled_none _ _ _ _
+
+pub shape_of-values : goal.shape_of-values
+shape_of-values c = c.loop-s.invariant.places

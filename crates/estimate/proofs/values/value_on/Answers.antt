@@ -1,0 +1,105 @@
+-- `estimate::values::value_on` meets its contract: from node to node, what is valued and what is left are together all.
+use borrow.Author.Rules.{rules}
+use mathlib.Core.Path.{◌≡◌}
+use Prim.Native.Nat.{◌-◌}
+use native.Mathlib.Omega.{arith}
+use Rattle.estimate.proofs.CurveLines.{ahead}
+use Rattle.estimate.proofs.CurveValues.{Held, ready-first, held_first, ready-next, held_next, ready-last, held_all, value_read}
+use Rattle.estimate.proofs.values.value_on.Goals as goal
+use Rattle.estimate.proofs.values.value_on.Goals.{After-level, After-loop-i, At-loop-i, In-loop-i, Start}
+
+-- the entry's record
+abbrev start : After-level → Start
+start c = let known = c.before in known.before.before.before
+
+abbrev entry : At-loop-i → Start
+entry l = start l.before.before.before
+
+pub level-requires : goal.level-requires
+level-requires c =
+    let s = c.before.before.before in
+    (s.requires.0.each 0 (omega (arith, s.requires.0.least))).rate
+
+pub bounds-ends-0 : goal.bounds-ends-0
+bounds-ends-0 c =
+    let p = (start c.before).requires in
+    omega (arith, p.0.least, p.1.places)
+
+pub along-p-requires : goal.along-p-requires
+along-p-requires c =
+    let p = (start c.before).requires in
+    (ready-first _ p.0 _ _ _ p.2 p.1 _ c.level.ensures, p.3)
+
+pub loop-i-init : goal.loop-i-init
+loop-i-init c =
+    let l = c.before.before in
+    let p = (start l).requires in
+    held_first _ p.0 _ _ _ p.2 p.1 _ l.level.ensures _ c.along-p.ensures
+
+-- a turn
+module _ (c : In-loop-i) where
+  abbrev at : At-loop-i
+  at = c.before
+
+  abbrev begin : Start
+  begin = entry at
+
+pub between-p-requires : goal.between-p-requires
+between-p-requires c =
+    let turn = c.before.before.before in
+    let h = (at turn).loop-i.invariant in
+    let k = turn.loop-i-test.true in
+    let p = (begin turn).requires in
+    (ahead _ p.0 _ h.some k, ready-next _ p.0 _ _ _ p.2 p.1 _ _ h k, p.3)
+
+pub bounds-ends-i : goal.bounds-ends-i
+bounds-ends-i c =
+    let turn = c.before.before.before in
+    omega (arith, turn.loop-i-test.true, (begin turn).requires.1.places)
+
+pub overflow_add-i : goal.overflow_add-i
+overflow_add-i c =
+    let turn = c.before.before.before.before in
+    omega (arith, turn.loop-i-test.true, (begin turn).requires.0.most)
+
+pub loop-i-smaller : goal.loop-i-smaller
+loop-i-smaller c = let turn = c.before.before.before.before in omega (arith, turn.loop-i-test.true)
+
+pub loop-i-preserved : goal.loop-i-preserved
+loop-i-preserved c =
+    let turn = c.before.before.before.before in
+    let p = (begin turn).requires in
+    held_next _ p.0 _ _ _ p.2 p.1 _ _ (at turn).loop-i.invariant turn.loop-i-test.true _ c.between-p.ensures
+
+-- behind the loop
+module _ (c : After-loop-i) where
+  abbrev end : Start
+  end = entry c.before
+
+  all : Held end.args.t1 end.args.nets.now end.args.days.now end.args.ends.now end.args.t1.count c.loop-i.p
+  all =
+      let h = c.loop-i.invariant in
+      let e : c.loop-i.i ≡ end.args.t1.count = omega (arith, c.loop-i-test.false, h.most) in
+      rw e at h
+
+pub level-requires-2 : goal.level-requires-2
+level-requires-2 c =
+    let s = end c.before in
+    (s.requires.0.each (s.args.t1.count - 1) (omega (arith, s.requires.0.least))).rate
+
+pub along-p-requires-2 : goal.along-p-requires-2
+along-p-requires-2 c =
+    let l = c.before.before in
+    let p = (end l).requires in
+    (ready-last _ p.0 _ _ _ p.2 p.1 _ (all l) _ c.level-2.ensures, p.3)
+
+pub returns : goal.returns
+returns c =
+    let level = c.before.before in
+    let l = level.before.before in
+    let p = (end l).requires in
+    let v = held_all _ p.0 _ _ _ p.2 p.1 _ (all l) _ level.level-2.ensures _ c.along-p-2.ensures in
+    value_read _ _ _ p.2 _ v
+
+pub overflow_sub-a : goal.overflow_sub-a
+overflow_sub-a c = omega (arith, c.loop-i.invariant.some)

@@ -1,0 +1,34 @@
+-- `exposure::push_leg` meets its contract.
+use borrow.Author.Rules.{rules}
+use native.Mathlib.Omega.{arith}
+use lib.ListN.{length-set}
+use mathlib.Core.Path.{sym, ◌∙◌}
+use borrow.Author.Tests.{not-true, not-false}
+use Rattle.exposure.proofs.Pushing.{push-none, push-one}
+use Rattle.exposure.proofs.push_leg.Goals as goal
+
+pub returns-then-not-stands_on : goal.returns-then-not-stands_on
+returns-then-not-stands_on c =
+    let a = c.args in
+    push-none a.curve a.leg a.ladder.now a.schedules (sym c.Stands-on.ensures ∙ not-true _ c.if-not-stands_on.true)
+
+pub returns : goal.returns
+returns c =
+    let after-slice-known = c.before.before.before in
+    let a = after-slice-known.args in
+    push-one a.curve a.leg a.ladder.now a.schedules (sym c.Stands-on.ensures ∙ not-false _ c.if-not-stands_on.false)
+
+pub bounds-ladder-at-2 : goal.bounds-ladder-at-2
+bounds-ladder-at-2 c = simp length-set (omega arith)
+
+pub bounds-ladder-at-3 : goal.bounds-ladder-at-3
+bounds-ladder-at-3 c = simp length-set (omega arith)
+
+pub bounds-ladder-at-4 : goal.bounds-ladder-at-4
+bounds-ladder-at-4 c = simp length-set (omega arith)
+
+pub bounds-ladder-at-5 : goal.bounds-ladder-at-5
+bounds-ladder-at-5 c = simp length-set (omega arith)
+
+pub bounds-ladder-at-6 : goal.bounds-ladder-at-6
+bounds-ladder-at-6 c = simp length-set (omega arith)

@@ -1,0 +1,33 @@
+-- `figures::worked::indexed` meets its contract: a coupon is at most its nominal.
+use mathlib.Core.Path.{◌≡◌, sym, ap, ◌∙◌}
+use native.Mathlib.Omega.{arith}
+use borrow.Author.Rules.{rules}
+use Rattle.flows.proofs.Bounds.{millionths-bound}
+use Rattle.decimal.specs.HalfUp.{millionths_of, indexed_by, scaled_to}
+use Rattle.figures.specs.Worked.{amount_in, rate_in, index_in, scaled_amount, indexed_for}
+use Rattle.figures.proofs.worked.indexed.Goals as goal
+use Rattle.figures.proofs.worked.indexed.Goals.{After-indexed_by-scaled}
+
+pub indexed_by-scaled-requires : goal.indexed_by-scaled-requires
+indexed_by-scaled-requires c =
+    let paid = c.before.before in
+    let n = paid.amount in
+    let r = paid.rate in
+    omega (arith, paid.millionths_of-payment.ensures, millionths-bound n.result r.result 1 n.ensures.1 r.ensures.2)
+
+told : (c : After-indexed_by-scaled) →
+    let paid = c.before.before.before in
+    let a = paid.args in
+    c.indexed_by-scaled.result ≡ scaled_to (indexed_by (index_in a.settlement) (index_in a.issue) (millionths_of (amount_in a.nominal) (rate_in a.coupon)))
+told c =
+    let paid = c.before.before.before in
+    c.indexed_by-scaled.ensures
+    ∙ rw (c.within-2.ensures.0, c.within.ensures.0, paid.millionths_of-payment.ensures, paid.rate.ensures.0, paid.amount.ensures.0)
+
+pub returns-in-Within : goal.returns-in-Within
+unfolding indexed_for
+returns-in-Within c = ap scaled_amount (sym c.in-Within.is ∙ told c.before.before.before)
+
+pub returns-in-Over : goal.returns-in-Over
+unfolding indexed_for
+returns-in-Over c = ap scaled_amount (sym c.in-Over.is ∙ told c.before.before)

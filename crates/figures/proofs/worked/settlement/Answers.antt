@@ -1,0 +1,16 @@
+-- `figures::worked::settlement` meets its contract.
+use mathlib.Core.Path.{◌∙◌}
+use native.Mathlib.Omega.{arith}
+use borrow.Author.Rules.{rules}
+use Rattle.figures.specs.Worked.{cash_for}
+use Rattle.figures.proofs.worked.settlement.Goals as goal
+
+pub settlement_cash-requires : goal.settlement_cash-requires
+settlement_cash-requires c = (c.amount.ensures.1, rw c.dirty-dirty.ensures (omega arith))
+
+pub returns : goal.returns
+unfolding cash_for
+returns c =
+    let priced = c.before.before in
+    c.settlement_cash.ensures
+    ∙ rw (c.amount.ensures.0, priced.dirty-dirty.ensures, priced.rate.ensures.0, priced.within.ensures.0)

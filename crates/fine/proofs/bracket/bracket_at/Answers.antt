@@ -1,0 +1,16 @@
+-- `fine::bracket::bracket_at` meets its contract: document 01's factor lies there (`Bound.antt`).
+use mathlib.Core.Path.{◌≡◌, ◌∙◌, ap}
+use borrow.Author.Rules.{rules}
+use Rattle.fine.specs.Fine.{bracket_of, bracket_at}
+use Rattle.fine.proofs.Bound.{fine-between}
+use Rattle.fine.proofs.bracket.bracket_at.Goals as goal
+use Rattle.fine.proofs.bracket.bracket_at.Goals.{After-bracket_of}
+
+same : (c : After-bracket_of) → c.bracket_of.result ≡ bracket_at c.args.rate c.args.day
+unfolding bracket_at
+same c = let a = c.args in c.bracket_of.ensures.same ∙ ap (bracket_of a.rate a.day) c.factor.ensures.0
+
+pub returns : goal.returns
+returns c =
+    let start = c.before.before.before in
+    (same c, (c.bracket_of.ensures.limits, rw (same c) (fine-between start.args.rate start.args.day start.requires.1 start.requires.2)))

@@ -1,0 +1,12 @@
+-- `fine::value::fine_value_at` meets its contract.
+use borrow.Author.Rules.{rules}
+use mathlib.Core.Path.{◌∙◌, ap}
+use Rattle.fine.specs.FineValue.{fine_value_in, fine_value_at}
+use Rattle.fine.proofs.value.fine_value_at.Goals as goal
+
+pub returns : goal.returns
+unfolding fine_value_at
+returns c =
+    let at = c.before in
+    let a = at.args in
+    record { same = c.fine_value_in.ensures.same ∙ ap (fine_value_in a.amount) at.bracket_at.ensures.same; worth = c.fine_value_in.ensures.worth a.rate a.day at.bracket_at.ensures.between }

@@ -1,0 +1,62 @@
+-- `flows::verdict::record_verdict` meets its contract.
+use mathlib.Core.Path.{◌≡◌, refl, sym, ap, ◌∙◌}
+use borrow.Author.Rules.{rules}
+use borrow.Author.Tests.{not-true, not-false}
+use lib.ListN.{take, drop}
+use Rattle.ground.specs.declared.Ground.TheVariants.{Form, Days, Amounts, Currency, FlowLimit}
+use Rattle.ground.specs.declared.Verdict.TheVariants.{Accepted}
+use Rattle.ground.proofs.Verdicts.{in_turn, in-turn, also, stopped, passed}
+use Rattle.flows.specs.Legs.{breaks_flow_limit}
+use Rattle.flows.specs.Verdict.{record_rules, record_verdict}
+use Rattle.flows.proofs.Accepted.{sound-record, trade-limits}
+use Rattle.flows.proofs.verdict.record_verdict.Goals as goal
+use Rattle.flows.proofs.verdict.record_verdict.Goals.{After-breaks_form, After-or_if-v, Start}
+
+module _ (c : After-or_if-v) where
+  abbrev form : After-breaks_form
+  form = let amounts = c.before.before.before in let after-or-if = amounts.before.before.before in after-or-if.before
+
+  abbrev start : Start
+  start = form.before.before.before.before
+
+  -- the rules 8 to 11
+  so_far : c.or_if-v.result ≡ in_turn Accepted start.args.block (take 4 (record_rules start.args.curves start.args.f))
+  so_far =
+      let currency = c.before in
+      let amounts = currency.before.before in
+      let days = amounts.before.before in
+      let k = start.args.block in
+      also Currency k
+      (also Amounts k
+      (also Days k
+      (also {v = Accepted} Form k refl form.breaks_form.ensures days.or_if.ensures)
+      days.breaks_days.ensures amounts.or_if-2.ensures)
+      amounts.breaks_amounts.ensures currency.or_if-3.ensures)
+      currency.breaks_currency.ensures c.or_if-v.ensures
+
+pub returns-then-not-is_accepted : goal.returns-then-not-is_accepted
+unfolding record_verdict
+returns-then-not-is_accepted c =
+    let v = c.before.before in
+    let a = (start v).args in
+    let rules = record_rules a.curves a.f in
+    stopped a.block (drop 4 rules) (so_far v) (sym c.is_accepted.ensures ∙ not-true _ c.if-not-is_accepted.true) ∙ in-turn Accepted a.block rules
+
+-- the rules 8, 9 and 10 were tested before, so that no amount overflows
+pub breaks_flow_limit-requires : goal.breaks_flow_limit-requires
+breaks_flow_limit-requires c =
+    let told = c.before.before in
+    let v = told.before in
+    let a = (start v).args in
+    let kept = passed a.block (take 4 (record_rules a.curves a.f)) (so_far v) (sym told.is_accepted.ensures ∙ not-false _ c.if-not-is_accepted.false) in
+    rw c.trade_of.ensures (trade-limits a.f (sound-record a.curves a.f (kept 0) (kept 1) (kept 2)))
+
+pub returns : goal.returns
+unfolding record_verdict
+returns c =
+    let limit = c.before in
+    let told = limit.before.before.before in
+    let v = told.before in
+    let a = (start v).args in
+    also FlowLimit a.block (so_far v) (limit.breaks_flow_limit.ensures ∙ ap breaks_flow_limit limit.trade_of.ensures) c.or_if-4.ensures
+    ∙ in-turn Accepted a.block (record_rules a.curves a.f)

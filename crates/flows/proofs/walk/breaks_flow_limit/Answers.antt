@@ -1,0 +1,27 @@
+-- `flows::walk::breaks_flow_limit` meets its contract.
+use Rattle.flows.specs.Legs.{breaks_flow_limit}
+use Rattle.flows.specs.Counted.{counted_legs}
+use Rattle.flows.proofs.Above.{any-capped, any-legs}
+use Rattle.flows.proofs.Counted.{flows-counted}
+use borrow.Author.Rules.{rules}
+use Rattle.flows.proofs.walk.breaks_flow_limit.Goals as goal
+
+pub returns : goal.returns
+unfolding breaks_flow_limit
+returns c =
+    let after-payments = c.before.before.before in
+    let after-capped-legs = after-payments.before.before.before in
+    let legs = after-payments.capped_legs-l.ensures in
+    let t = after-capped-legs.args.t in
+    let l = counted_legs t in
+    rw (
+      ← flows-counted t,
+      any-legs l,
+      c.leg_above.ensures,
+      c.leg_above-2.ensures,
+      c.leg_above-3.ensures,
+      legs,
+      any-capped l.first-1,
+      any-capped l.second-1,
+      any-capped l.payments-1,
+    )

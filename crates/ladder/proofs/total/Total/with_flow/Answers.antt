@@ -1,0 +1,39 @@
+-- `ladder::total::Total::with_flow` meets its contract.
+use borrow.Author.Rules.{rules}
+use Rattle.ladder.specs.Totals.{plus_flow}
+use Rattle.ladder.proofs.Totals.{off-fits, cast_fits, fits_more, read_more, fits-less, read-less}
+use Rattle.ladder.proofs.total.Total.with_flow.Goals as goal
+
+pub overflow_cast-worth : goal.overflow_cast-worth
+overflow_cast-worth c = cast_fits c.args.self.sum _ c.requires.0.value c.requires.2
+
+pub overflow_add-off : goal.overflow_add-off
+overflow_add-off c =
+    let s = c.before.before in
+    rw c.tolerance.ensures (off-fits _ _ _ s.requires.0.off s.requires.1.amount (search rules))
+
+pub overflow_add-result : goal.overflow_add-result
+overflow_add-result c =
+    let off = c.before.before.before in
+    let s = off.before.before in
+    fits_more s.args.self.sum _ s.requires.0.value s.requires.2
+
+pub returns-then-f : goal.returns-then-f
+unfolding plus_flow
+returns-then-f c =
+    let off = c.before.before.before in
+    let s = off.before.before in
+    rw (read_more s.args.self.sum _ s.requires.0.value s.requires.2, off.tolerance.ensures, c.if-f.true)
+
+pub overflow_sub-result : goal.overflow_sub-result
+overflow_sub-result c =
+    let off = c.before.before.before in
+    let s = off.before.before in
+    fits-less s.args.self.sum _ s.requires.0.value s.requires.2
+
+pub returns : goal.returns
+unfolding plus_flow
+returns c =
+    let off = c.before.before.before in
+    let s = off.before.before in
+    rw (read-less s.args.self.sum _ s.requires.0.value s.requires.2, off.tolerance.ensures, c.if-f.false)

@@ -1,0 +1,12 @@
+-- `ladder::valuing::value_of` meets its contract.
+use borrow.Author.Rules.{rules}
+use Rattle.ladder.proofs.KeptFactors.{kept-none}
+use Rattle.ladder.proofs.valuing.value_of.Goals as goal
+
+pub total_of-requires : goal.total_of-requires
+total_of-requires c =
+    let p = c.requires in
+    (p.0, p.1, p.2, kept-none _)
+
+pub returns : goal.returns
+returns c = c.total_of.ensures

@@ -1,0 +1,89 @@
+-- `ladder::valuing::with_two` meets its contract.
+use borrow.Author.Rules.{rules}
+use mathlib.Core.Path.{◌≡◌, ◌∙◌, ap}
+use mathlib.Core.List.{List}
+use Prim.Native.Nat.{ℕ}
+use native.Mathlib.Omega.{arith}
+use lib.ListN.{length-set}
+use Rattle.decimal.specs.Product.{unit}
+use Rattle.curve.specs.declared.Node.{Node}
+use Rattle.curve.specs.Rates.{nodes_of, rate_at}
+use Rattle.curve.proofs.Rates.{curve-rate-limit}
+use Rattle.discount.specs.Discount.{million, factor}
+use Rattle.discount.specs.declared.Flow.{Flow}
+use Rattle.discount.specs.Flows.{flow_value}
+use Rattle.ladder.specs.declared.total.Total.{Total}
+use Rattle.ladder.specs.Totals.{plus_flow}
+use Rattle.ladder.proofs.KeptFactors.{factor-kept, kept-with}
+use Rattle.ladder.proofs.Held.{at-factor, value-most}
+use Rattle.ladder.proofs.Totals.{total-less, total-next}
+use Rattle.ladder.proofs.valuing.with_two.Goals as goal
+use Rattle.ladder.proofs.valuing.with_two.Goals.{After-discounted, After-discounted-2, After-factors-both, After-struct_known-2-1, Start}
+
+pub factors-both-requires : goal.factors-both-requires
+unfolding million
+factors-both-requires c =
+    let proper = c.requires.1 in
+    (rw c.rate_at.ensures (curve-rate-limit _ proper _), rw c.rate_at-2.ensures (curve-rate-limit _ proper _))
+
+-- the factors of both days
+module _ (c : After-factors-both) where
+  abbrev start : Start
+  start = let after-rate-at = c.before.before in after-rate-at.before.before
+
+  abbrev nodes : List Node
+  nodes = nodes_of start.args.curve
+
+  first : c.factors-both.result.first-1.0 ≡ factor (rate_at nodes start.args.f.day) start.args.f.day
+  first = c.factors-both.ensures.0 ∙ ap (λ (r : ℕ). factor r start.args.f.day) c.rate_at.ensures
+
+  second : c.factors-both.result.second-1.0 ≡ factor (rate_at nodes start.args.g.day) start.args.g.day
+  second = c.factors-both.ensures.2 ∙ ap (λ (r : ℕ). factor r start.args.g.day) c.rate_at-2.ensures
+
+-- where they are kept
+abbrev found : After-struct_known-2-1 → After-factors-both
+found c = let after-second = c.before.before in after-second.before.before
+
+pub overflow_mul-factors : goal.overflow_mul-factors
+unfolding unit
+overflow_mul-factors c = let at = c.before.before.before in omega (arith, at.factors-both.ensures.1)
+
+pub overflow_mul-factors-2 : goal.overflow_mul-factors-2
+unfolding unit
+overflow_mul-factors-2 c = omega (arith, (found c).factors-both.ensures.3)
+
+pub bounds-factors-other : goal.bounds-factors-other
+bounds-factors-other c = let s = start (found c) in simp length-set (omega (arith, s.requires.3.day, s.requires.4.places))
+
+-- the values added are those of the flows
+one : (c : After-discounted) → let s = start (found c.before) in c.discounted.result ≡ flow_value (rate_at (nodes_of s.args.curve)) s.args.f
+one c = let known = found c.before in c.discounted.ensures ∙ at-factor _ (start known).args.f (first known)
+
+other : (c : After-discounted-2) → let s = start (found c.before.before.before) in c.discounted-2.result ≡ flow_value (rate_at (nodes_of s.args.curve)) s.args.g
+other c =
+    let known = found c.before.before.before in
+    c.discounted-2.ensures ∙ at-factor _ (start known).args.g (second known)
+
+pub with_flow-one-requires : goal.with_flow-one-requires
+with_flow-one-requires c =
+    let s = start (found c.before) in
+    (total-less (omega arith) s.requires.0, s.requires.2, rw (one c) (value-most _ s.args.f s.requires.2))
+
+pub with_flow-requires : goal.with_flow-requires
+with_flow-requires c =
+    let at = c.before.before in
+    let s = start (found at.before) in (
+      rw c.with_flow-one.ensures (total-next (rw (one at) (value-most _ s.args.f s.requires.2)) s.requires.2 s.requires.0),
+      s.requires.3,
+      rw (other c) (value-most _ s.args.g s.requires.3),
+    )
+
+-- a total with two values, as they are known
+added : (t : Total) (f g : Flow) {u r : Total} {a b x y : ℕ} → a ≡ x → b ≡ y → u ≡ plus_flow t f a → r ≡ plus_flow u g b → r ≡ plus_flow (plus_flow t f x) g y
+added t f g d e p q = rw (q, p, d, e)
+
+pub returns : goal.returns
+returns c =
+    let at = c.before.before.before in
+    let known = found at.before in
+    let a = (start known).args in record { value = added a.total a.f a.g (one at) (other c.before) c.with_flow-one.ensures c.with_flow.ensures; kept_factors = kept-with _ _ (kept-with _ _ (start known).requires.4 (factor-kept _ _ (first known))) (factor-kept _ _ (second known)) }

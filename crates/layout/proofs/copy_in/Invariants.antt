@@ -1,0 +1,13 @@
+-- `layout::copy_in` meets its contract: what is copied and what is left to copy are together all.
+use Rattle.std.proofs.Common.{◌≡◌, suc, ◌+◌, ◌-◌, ◌<◌, ◌≤◌, length, drop, sym, refl, ◌∙◌, add-zero, add-one, arith, length-set, drop-cons}
+use lib.Seq.{drop-length}
+use Rattle.layout.specs.Bytes.{put}
+use Rattle.layout.proofs.Bytes.{put-none, put-cons}
+use Rattle.layout.proofs.copy_in.Given as goal
+
+abbrev pub invariant-loop-j : goal.invariant-loop-j
+invariant-loop-j l =
+    (l.j ≤ length l.src) × (length l.dst ≡ length l.initial.dst) × (put l.initial.dst l.at l.src ≡ put l.dst (l.at + l.j) (drop l.j l.src))
+
+abbrev pub decreases-loop-j : goal.decreases-loop-j
+decreases-loop-j l = length l.src - l.j

@@ -1,0 +1,7 @@
+-- `layout::u32_at` meets its contract: a field is its two halves.
+use Rattle.std.proofs.Common.{arith, rules}
+use Rattle.layout.proofs.Field.{field-add}
+use Rattle.layout.proofs.u32_at.Goals as goal
+
+pub returns : goal.returns
+returns c = omega record { value = arith; upper_bound = field-add 2 2 c.args.s.now c.args.at }

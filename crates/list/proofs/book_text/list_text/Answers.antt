@@ -1,0 +1,60 @@
+-- `list::book_text::list_text` meets its contract: the text stands in a space of its own first.
+use mathlib.Core.Path.{◌≡◌, sym, ◌∙◌}
+use mathlib.Core.Bool.{false}
+use mathlib.Core.List.{List}
+use Prim.Native.Nat.{ℕ}
+use native.Mathlib.Omega.{arith}
+use borrow.Author.Rules.{rules}
+use lib.ListN.{length, drop, replicate, length-take}
+use lib.Seq.{length-take-le}
+use Rattle.ground.specs.Space.{breaks_space}
+use Rattle.text.proofs.Fitting.{text-too-long, text-fits, text_in-front, text-copied}
+use Rattle.list.specs.Text.{list_text, list_answer, list_bytes}
+use Rattle.list.proofs.book_text.list_text.Goals as goal
+use Rattle.list.proofs.book_text.list_text.Goals.{Else-breaks_space, Start}
+
+pub returns-then-breaks_space : goal.returns-then-breaks_space
+unfolding list_answer list_bytes
+returns-then-breaks_space c =
+    let asked = c.before in
+    let wrote = asked.before.before in
+    let text = wrote.before.before in
+    let start = text.before.before in
+    let a = start.args in
+    let e : wrote.put_listing-n.result ≡ length (list_text a.book.now a.used) = wrote.put_listing-n.ensures.value in
+    let p = text-too-long (list_text a.book.now a.used) a.out-1.now (rw e at (sym asked.breaks_space.ensures ∙ c.if-breaks_space.true)) in
+    (p.answer, (p.bytes, omega (arith, e, wrote.put_listing-n.ensures.upper_bound)))
+
+pub slice_bounds-copy_in-end : goal.slice_bounds-copy_in-end
+slice_bounds-copy_in-end c = sym (length-take-le _ _ (search rules))
+
+-- the text fits
+module _ (c : Else-breaks_space) where
+  abbrev start : Start
+  start = let wrote = c.before.before.before in let text = wrote.before in text.before.before.before
+
+  abbrev whole : List ℕ
+  whole = list_text start.args.book.now start.args.used
+
+  length-is : c.put_listing-n.result ≡ length whole
+  length-is = c.put_listing-n.ensures.value
+
+  spacious : breaks_space (length whole) (length start.args.out-1.now) ≡ false
+  spacious = rw length-is at (sym c.breaks_space.ensures ∙ c.if-breaks_space.false)
+
+pub copy_in-requires : goal.copy_in-requires
+copy_in-requires c =
+    let free = c.before.before in
+    simp length-take (omega (arith, length-is free, text-fits (whole free) (start free).args.out-1.now (spacious free)))
+
+pub returns : goal.returns
+unfolding list_answer list_bytes
+returns c =
+    let written = c.before.before in
+    let free = written.before.before.before in
+    let wrote = free.before.before.before in
+    let out = (start free).args.out-1.now in
+    let rest : List ℕ = drop wrote.put_listing-n.result (replicate 1481 0) in
+    let put = text-copied (whole free) out rest (length-is free) wrote.put_listing-n.ensures.out_after (text-fits (whole free) out (spacious free)) written.copy_in.ensures in
+    let p = text_in-front (whole free) out (spacious free) (length-is free) put in
+    (p.answer, (p.bytes, omega (arith, length-is free, wrote.put_listing-n.ensures.upper_bound)))

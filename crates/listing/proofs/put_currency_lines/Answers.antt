@@ -1,0 +1,39 @@
+-- `listing::put_currency_lines` meets its contract: what is written and what is left to write are together all.
+use mathlib.Core.Path.{◌≡◌}
+use Prim.Native.Nat.{◌+◌, ◌*◌, ◌-◌, ◌≤◌}
+use native.Mathlib.Omega.{arith}
+use borrow.Author.Rules.{rules}
+use lib.ListN.{length, take, drop}
+use Rattle.laws.proofs.Arrays.{length-mapped}
+use Rattle.margin.specs.Margins.{no_currency}
+use Rattle.text.specs.Text.{lines_of}
+use Rattle.text.proofs.Lines.{lines_next, lines_none}
+use Rattle.text.proofs.Writing.{TextLeft, text-all, text-next, text-none}
+use Rattle.listing.specs.Listing.{currency_listed_in}
+use Rattle.listing.proofs.put_currency_lines.Goals as goal
+
+pub loop-i-init : goal.loop-i-init
+loop-i-init c =
+    let long : length c.args.t5 ≡ 3 = search (rules, length-mapped) in
+    (search rules, long, search rules, text-all _ _ _)
+
+pub loop-i-preserved : goal.loop-i-preserved
+loop-i-preserved c =
+    let wrote = c.before.before in
+    let has = wrote.before.before.before in
+    let at-loop = has.before.before in
+    let a = at-loop.args in
+    let h = at-loop.loop-i.invariant in
+    let next = lines_next (currency_listed_in (take a.count a.curves)) a.t5 at-loop.loop-i.i (at-loop.loop-i.i + 1) no_currency (omega arith) in
+    let line = rw has.has_currency-has.ensures at wrote.put_currency_line-next.ensures.text_written in
+    (search rules, h.1, omega (arith, wrote.put_currency_line-next.ensures.upper_bound), text-next (rw next at h.3) line)
+
+pub returns : goal.returns
+returns c =
+    let at-loop = c.before in
+    let a = at-loop.args in
+    let i = at-loop.loop-i.i in
+    record { text_written = text-none (rw (lines_none (currency_listed_in (take a.count a.curves)) a.t5 i (i + 1) (omega arith)) at at-loop.loop-i.invariant.3); upper_bound = omega arith }
+
+pub shape_of-out : goal.shape_of-out
+shape_of-out c = c.loop-i.invariant.3.lent

@@ -1,0 +1,23 @@
+-- `logarithm::tables::powers` meets its contract. The invariant: x is the power that is next, each place passed holds its row, with its short one behind,
+-- the others are as they were, and the slice keeps its length.
+use mathlib.Core.Path.{◌≡◌, refl, sym, ap, ◌∙◌}
+use Prim.Native.Nat.{ℕ, ◌+◌, ◌-◌, ◌*◌, ◌/◌, ◌≤◌, ◌<◌}
+use native.Mathlib.Omega.{arith}
+use borrow.Author.Count.{below_more}
+use borrow.Author.Rules.{rules}
+use lib.ListN.{length, get_or, set, length-set}
+use lib.Seq.{get_or-set_same, get_or-set_other}
+use Rattle.logarithm.specs.Logarithms.{power_whole, chain, power_row, short_row}
+use Rattle.logarithm.proofs.Rows.{power-is, chain-none, chain_more, chain-le, power-row-is, short-row-is}
+use Rattle.logarithm.proofs.tables.powers.Given as goal
+
+abbrev pub invariant-loop-i : goal.invariant-loop-i
+invariant-loop-i l =
+    (l.from ≤ l.i) × (l.i ≤ l.to) × (length l.tables ≡ length l.initial.tables) × (l.x ≡ chain l.base (l.i - l.from))
+    × ((k : ℕ) → k < l.i → l.from ≤ k → get_or l.tables k 0 ≡ power_row l.base (k - l.from))
+    × ((k : ℕ) → k < l.i → l.from ≤ k → get_or l.tables (1358 + k) 0 ≡ short_row l.base (k - l.from))
+    × ((k : ℕ) → k < l.from → get_or l.tables k 0 ≡ get_or l.initial.tables k 0)
+    × ((k : ℕ) → l.to ≤ k → k < 1358 + l.from → get_or l.tables k 0 ≡ get_or l.initial.tables k 0)
+
+abbrev pub decreases-loop-i : goal.decreases-loop-i
+decreases-loop-i l = l.to - l.i

@@ -1,0 +1,20 @@
+-- `mapping::grid::add_flow` meets its contract.
+use borrow.Author.Rules.{rules}
+use native.Mathlib.Omega.{arith}
+use Rattle.laws.proofs.Signed.{back}
+use Rattle.netting.specs.Netting.{net_on, net_with}
+use Rattle.netting.proofs.NetAmounts.{net-read}
+use Rattle.mapping.proofs.grid.add_flow.Goals as goal
+
+pub net_with-requires : goal.net_with-requires
+net_with-requires c =
+    let s = c.before in
+    (rw (back (net_on s.args.nets.now s.args.f.day) c.net_with-arg-1.given) (omega (arith, s.requires.2)), omega (arith, s.requires.1.amount))
+
+pub returns : goal.returns
+unfolding net_with
+returns c =
+    let s = c.before.before in
+    let net = net_on s.args.nets.now s.args.f.day in
+    let fit = back net c.net_with-arg-1.given in
+    rw (net-read net s.args.f (omega (arith, s.requires.2)) (omega (arith, s.requires.1.amount)) _ (rw fit at c.net_with.ensures))

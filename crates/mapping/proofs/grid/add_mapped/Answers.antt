@@ -1,0 +1,48 @@
+-- `mapping::grid::add_mapped` meets its contract.
+use borrow.Author.Rules.{rules}
+use native.Mathlib.Omega.{arith}
+use Rattle.mapping.proofs.NetParts.{first-limits, last-limits, excess-limits, one-length, two-length, one-moved, two-moved}
+use Rattle.mapping.proofs.grid.add_mapped.Goals as goal
+use Rattle.mapping.proofs.grid.add_mapped.Goals.{After-add_flow, Start}
+
+pub add_flow-requires : goal.add_flow-requires
+add_flow-requires c =
+    let s = c.before.before in
+    rw c.first_flow.ensures
+    (s.requires.0.places, first-limits s.args.f s.args.k s.requires.1 s.requires.2, omega (arith, s.requires.0.each s.args.k.first))
+
+-- what the nets are after the first flow, and after the second
+module _ (c : After-add_flow) where
+  abbrev start : Start
+  start = c.before.before.before
+
+pub add_flow-requires-2 : goal.add_flow-requires-2
+add_flow-requires-2 c =
+    let after-add = c.before.before.before in
+    let s = start after-add in
+    let f = s.args.f in
+    let k = s.args.k in
+    let nets = s.args.nets-1.now in
+    rw (after-add.add_flow.ensures, after-add.first_flow.ensures, c.last_flow.ensures)
+    (one-length f k s.requires.1 s.requires.2 nets s.requires.0.places, last-limits f k s.requires.1 s.requires.2, omega (arith, one-moved f k s.requires.1 s.requires.2 nets s.requires.0.places k.last, s.requires.0.each k.last, s.requires.1.amount))
+
+pub add_flow-requires-3 : goal.add_flow-requires-3
+add_flow-requires-3 c =
+    let after-add2 = c.before.before.before in
+    let after_last = after-add2.before in
+    let after-add = after_last.before.before.before in
+    let s = start after-add in
+    let f = s.args.f in
+    let k = s.args.k in
+    let nets = s.args.nets-1.now in
+    rw (after-add2.add_flow-2.ensures, after_last.last_flow.ensures, after-add.add_flow.ensures, after-add.first_flow.ensures, c.excess_flow.ensures)
+    (two-length f k s.requires.1 s.requires.2 nets s.requires.0.places, excess-limits f k s.requires.1 s.requires.2, omega (arith, two-moved f k s.requires.1 s.requires.2 nets s.requires.0.places k.first, s.requires.0.each k.first, s.requires.1.amount))
+
+pub returns : goal.returns
+returns c =
+    let after-add3 = c.before in
+    let after-excess = after-add3.before in
+    let after-add2 = after-excess.before.before.before in
+    let after_last = after-add2.before in
+    let after-add = after_last.before.before.before in
+    rw (after-add3.add_flow-3.ensures, after-excess.excess_flow.ensures, after-add2.add_flow-2.ensures, after_last.last_flow.ensures, after-add.add_flow.ensures, after-add.first_flow.ensures)

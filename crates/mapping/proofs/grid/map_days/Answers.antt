@@ -1,0 +1,84 @@
+-- `mapping::grid::map_days` meets its contract: what is held, with the days left, is all.
+use borrow.Author.Rules.{rules}
+use mathlib.Core.Path.{◌≡◌, sym, ◌∙◌}
+use mathlib.Core.List.{List}
+use Prim.Native.Nat.{ℕ, ◌-◌, ◌<◌}
+use native.Mathlib.Omega.{arith}
+use lib.IntN.{ℤ, pos}
+use lib.ListN.{length, get_or, length-replicate}
+use Rattle.laws.proofs.Signed.{back}
+use Rattle.netting.specs.Netting.{net_on, no_nets}
+use Rattle.mapping.proofs.MappedDays.{Mapping, mapping-first, mapping-day, flow-limits, mapping-room, bucket-limits, mapping-next, mapping-all}
+use Rattle.mapping.proofs.grid.map_days.Goals as goal
+use Rattle.mapping.proofs.grid.map_days.Goals.{After-shared_slice_known-in-loop-i-1, At-loop-i, In-loop-i, Start}
+
+none-length : (held : List ℤ) → held ≡ no_nets → length held ≡ 10951
+none-length held e = rw e (length-replicate 10951 (pos 0))
+
+pub loop-i-init : goal.loop-i-init
+loop-i-init c =
+    let s = c.before.before in
+    mapping-first _ _ _ _ s.requires.1 _ s.requires.2 (none-length _ s.requires.2)
+
+-- a turn
+module _ (c : After-shared_slice_known-in-loop-i-1) where
+  abbrev turn : In-loop-i
+  turn = c.before
+
+  abbrev at-loop : At-loop-i
+  at-loop = turn.before
+
+  abbrev start : Start
+  start = at-loop.before.before.before
+
+  abbrev day : ℕ
+  day = get_or start.args.days.now at-loop.loop-i.i 0
+
+  within : day < 10951
+  within = mapping-day _ _ _ _ _ _ at-loop.loop-i.inv turn.loop-i-test.taken
+
+  abbrev net : ℤ
+  net = net_on start.args.nets.now day
+
+pub bucket_in-k-requires : goal.bucket_in-k-requires
+bucket_in-k-requires c = let g = (start c).requires.0 in (g.limits, g.places, g.few)
+
+pub bounds-nets-at : goal.bounds-nets-at
+bounds-nets-at c = let k = c.before.before in omega (arith, within k, (start k).requires.1.places)
+
+pub net_flow-requires : goal.net_flow-requires
+net_flow-requires c =
+    let k = c.before.before.before in
+    rw (back (net k) c.net_flow-arg-1.given) (omega (arith, (flow-limits _ _ _ _ _ _ (at-loop k).loop-i.invariant (turn k).loop-i-test.true).amount))
+
+pub add_mapped-requires : goal.add_mapped-requires
+add_mapped-requires c =
+    let after-bucket = c.before.before.before in
+    let k = after-bucket.before in
+    let inv = (at-loop k).loop-i.invariant in
+    let h = (turn k).loop-i-test.true in
+    rw (c.net_flow.ensures, back (net k) c.net_flow-arg-1.given, after-bucket.bucket_in-k.ensures)
+    (mapping-room _ _ _ _ _ _ inv h, flow-limits _ _ _ _ _ _ inv h, bucket-limits _ _ _ _ _ _ inv h (start k).requires.0)
+
+pub loop-i-preserved : goal.loop-i-preserved
+loop-i-preserved c =
+    let after-add = c.before in
+    let after-flow = after-add.before in
+    let after-bucket = after-flow.before.before.before in
+    let k = after-bucket.before in
+    rw (after-add.add_mapped.ensures, after-flow.net_flow.ensures, back (net k) after-flow.net_flow-arg-1.given, after-bucket.bucket_in-k.ensures)
+    (mapping-next _ _ _ _ _ _ (at-loop k).loop-i.invariant (turn k).loop-i-test.true (start k).requires.0)
+
+pub shape_of-mapped : goal.shape_of-mapped
+shape_of-mapped c =
+    let l = c.before in
+    l.loop-i.invariant.places ∙ sym (none-length _ l.requires.2)
+
+pub returns : goal.returns
+returns c = mapping-all _ _ _ _ _ _ c.loop-i.invariant c.loop-i-test.false
+
+pub overflow_cast-day : goal.overflow_cast-day
+overflow_cast-day c = omega (arith, within c)
+
+pub offset_bounds-nets-at : goal.offset_bounds-nets-at
+offset_bounds-nets-at c = omega (arith, within c.before.before)

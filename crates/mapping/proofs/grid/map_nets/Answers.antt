@@ -1,0 +1,35 @@
+-- `mapping::grid::map_nets` meets its contract.
+use borrow.Author.Rules.{rules}
+use mathlib.Core.Path.{◌≡◌, ◌∙◌}
+use Prim.Native.Nat.{ℕ}
+use lib.ListN.{length, length-replicate}
+use Rattle.mapping.proofs.MappedLow.{grid, mapped-low}
+use Rattle.mapping.proofs.grid.map_nets.Goals as goal
+use Rattle.mapping.proofs.grid.map_nets.Goals.{After-list_segments, Start}
+
+pub list_segments-requires : goal.list_segments-requires
+list_segments-requires c =
+    let s = c.before.before in
+    (s.requires.0, s.requires.1, length-replicate {A = ℕ} 100 0)
+
+-- the segments listed
+module _ (c : After-list_segments) where
+  abbrev start : Start
+  start = c.before.before.before
+
+  places : length c.list_segments.new.1.1.0 ≡ 100
+  places = c.list_segments.ensures.kept ∙ length-replicate {A = ℕ} 100 0
+
+pub map_days-requires : goal.map_days-requires
+map_days-requires c =
+    let after_List = c.before.before.before.before in
+    let s = start after_List in
+    (grid s.args.curve s.requires.0 s.args.components _ (places after_List) after_List.list_segments.ensures.each, s.requires.2, s.requires.3)
+
+pub returns : goal.returns
+returns c =
+    let After-map = c.before in
+    let after_List = After-map.before.before.before.before.before in
+    let s = start after_List in
+    rw After-map.map_days.ensures
+    (mapped-low s.args.curve s.requires.0 s.args.components _ (places after_List) after_List.list_segments.ensures.each _ _ s.requires.2)

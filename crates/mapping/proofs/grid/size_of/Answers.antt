@@ -1,0 +1,63 @@
+-- `mapping::grid::size_of` meets its contract: what is added up, with the days left, is all.
+use borrow.Author.Rules.{rules}
+use Prim.Native.Nat.{ℕ, ◌+◌, ◌-◌, ◌≤◌, ◌<◌}
+use native.Mathlib.Omega.{arith}
+use lib.IntN.{ℤ, nat_abs}
+use lib.ListN.{get_or}
+use Rattle.laws.proofs.Signed.{back}
+use Rattle.netting.specs.Netting.{net_on}
+use Rattle.mapping.proofs.MappedDays.{Adding, adding-first, adding-day, adding-most, adding-next, adding-all, size-most}
+use Rattle.mapping.proofs.grid.size_of.Goals as goal
+use Rattle.mapping.proofs.grid.size_of.Goals.{After-shared_slice_known-in-loop-i-1, At-loop-i, In-loop-i, Start}
+
+pub loop-i-init : goal.loop-i-init
+loop-i-init c = let p = c.requires in adding-first _ _ p.list p.places
+
+-- a turn
+module _ (c : After-shared_slice_known-in-loop-i-1) where
+  abbrev turn : In-loop-i
+  turn = c.before
+
+  abbrev at-loop : At-loop-i
+  at-loop = turn.before
+
+  abbrev start : Start
+  start = at-loop.before.before
+
+  abbrev day : ℕ
+  day = get_or start.args.days.now at-loop.loop-i.i 0
+
+  within : day < 10951
+  within = adding-day _ _ _ _ at-loop.loop-i.inv turn.loop-i-test.taken
+
+  abbrev net : ℤ
+  net = net_on start.args.nets.now day
+
+  most : at-loop.loop-i.sum + nat_abs net ≤ 140000000000000000
+  most = omega (arith, adding-most _ _ _ _ at-loop.loop-i.inv turn.loop-i-test.taken, size-most _ _ start.requires)
+
+pub size-sum-requires : goal.size-sum-requires
+size-sum-requires c = let k = c.before in rw (back (net k) c.size-arg-1.given) (omega (arith, most k))
+
+pub overflow_add-sum : goal.overflow_add-sum
+overflow_add-sum c =
+    let k = c.before.before in
+    rw (c.size-sum.ensures, back (net k) c.size-arg-1.given) (omega (arith, most k))
+
+pub loop-i-preserved : goal.loop-i-preserved
+loop-i-preserved c =
+    let k = c.before.before in
+    rw (c.size-sum.ensures, back (net k) c.size-arg-1.given)
+    (adding-next _ _ _ _ (at-loop k).loop-i.invariant (turn k).loop-i-test.true)
+
+pub returns : goal.returns
+returns c = adding-all _ _ _ _ c.loop-i.invariant c.loop-i-test.false
+
+pub overflow_cast-at : goal.overflow_cast-at
+overflow_cast-at c = omega (arith, within c)
+
+pub offset_bounds-nets-at : goal.offset_bounds-nets-at
+offset_bounds-nets-at c = omega (arith, within c)
+
+pub bounds-nets-at : goal.bounds-nets-at
+bounds-nets-at c = omega (arith, within c, (start c).requires.places)

@@ -1,0 +1,14 @@
+-- `mapping::segments::bucket_in` meets its contract.
+use borrow.Author.Rules.{rules}
+use mathlib.Core.Path.{◌≡◌, sym, ◌∙◌}
+use Prim.Native.Nat.{◌-◌, ◌≤◌}
+use native.Mathlib.Omega.{arith}
+use Rattle.mapping.specs.Segments.{bucket_in}
+use Rattle.mapping.proofs.SegmentBuckets.{bucket_from, bucket-first, bucket-found, bucket-passed, bucket-none}
+use Rattle.mapping.proofs.segments.bucket_in.Given as goal
+
+abbrev pub invariant-loop-i : goal.invariant-loop-i
+invariant-loop-i l = (l.i ≤ l.count) × (bucket_in l.segments l.count l.day ≡ bucket_from l.segments l.day l.i l.count)
+
+abbrev pub decreases-loop-i : goal.decreases-loop-i
+decreases-loop-i l = l.count - l.i

@@ -1,0 +1,78 @@
+-- `margin::choice::worst_estimated` meets its contract.
+use Prim.Native.Nat.{◌+◌, ◌*◌, ◌≤◌, ◌<◌}
+use native.Mathlib.Omega.{arith}
+use mathlib.Core.Path.{◌≡◌}
+use lib.IntN.{ℤ, pos, nat_abs, ◌+ℤ◌, ◌*ℤ◌}
+use lib.ListN.{length, get_or}
+use Rattle.laws.proofs.Signed.{cast, read}
+use Rattle.decimal.specs.Product.{unit}
+use Rattle.curve.specs.Scenarios.{scenario_count}
+use Rattle.curve.proofs.Scenarios.{scenarios-some, scenarios-most}
+use Rattle.ladder.specs.Totals.{most_flows}
+use Rattle.screening.specs.Screening.{Least}
+use Rattle.margin.specs.Choice.{limit_of}
+use Rattle.margin.proofs.Discarding.{not-above}
+use Rattle.margin.proofs.Choosing.{twice-fits, limit-fits, limit-read, estimate-size, worst-is}
+use borrow.Author.Rules.{rules}
+use Rattle.margin.proofs.choice.worst_estimated.Goals as goal
+use Rattle.margin.proofs.choice.worst_estimated.Goals.{After-least_of-least, After-scenario_count, Start}
+
+-- the entry's record
+abbrev start : After-scenario_count → Start
+start c = let given = c.before.before in given.before.before.before
+
+pub scenario_count-requires : goal.scenario_count-requires
+scenario_count-requires c = let given = c.before in given.requires.0.limits.stress
+
+pub least_of-least-requires : goal.least_of-least-requires
+least_of-least-requires c =
+    let s = start c in
+    let x = s.args.valued.position-1.components-1 in
+    rw c.scenario_count.ensures (scenarios-some x, omega (arith, s.requires.1.places, scenarios-most x s.requires.0.limits.stress))
+
+module _ (c : After-least_of-least) where
+  abbrev entry : Start
+  entry = start c.before
+
+  abbrev lowest : ℤ
+  lowest = get_or entry.args.values.now c.least_of-least.result (pos 0)
+
+  -- the least estimate's place, and its size
+  least : Least entry.args.values.now (scenario_count entry.args.valued.position-1.components-1) c.least_of-least.result
+  least = rw c.scenario_count.ensures at c.least_of-least.ensures
+
+  index : c.least_of-least.result < length entry.args.values.now
+  index =
+      omega (arith, least.within, entry.requires.1.places, scenarios-most entry.args.valued.position-1.components-1 entry.requires.0.limits.stress)
+
+  size : nat_abs lowest ≤ most_flows * unit + entry.args.deviation
+  size = estimate-size _ _ entry.requires.0.limits _ _ entry.requires.1 _ least.within
+
+  -- the limit, as the code has it
+  limit : read (read lowest +ℤ read (pos 2 *ℤ cast entry.args.deviation)) ≡ limit_of lowest entry.args.deviation
+  limit = limit-read entry.args.deviation entry.requires.1.small lowest size
+
+pub overflow_mul-limit : goal.overflow_mul-limit
+overflow_mul-limit c = let s = entry c.before in twice-fits s.args.deviation s.requires.1.small
+
+pub overflow_add-limit : goal.overflow_add-limit
+overflow_add-limit c =
+    let l = c.before in
+    limit-fits (entry l).args.deviation (entry l).requires.1.small (lowest l) (size l)
+
+pub worst_kept-requires : goal.worst_kept-requires
+worst_kept-requires c =
+    let l = c.before in
+    rw (limit l)
+    ((entry l).requires.0, (entry l).requires.1.places, record { place = l.least_of-least.result; within = (least l).within; kept = not-above _ _ })
+
+pub returns : goal.returns
+returns c =
+    let l = c.before.before in
+    worst-is _ _ _ _ (entry l).requires.1 (least l) _ (rw (limit l) at c.worst_kept.ensures)
+
+pub offset_bounds-values-least : goal.offset_bounds-values-least
+offset_bounds-values-least c = omega (arith, index c)
+
+pub bounds-values-least : goal.bounds-values-least
+bounds-values-least c = index c

@@ -1,0 +1,27 @@
+-- `margin::margins::cleared` meets its contract.
+use borrow.Author.Rules.{rules}
+use mathlib.Core.Path.{◌≡◌}
+use Prim.Native.Nat.{◌-◌}
+use native.Mathlib.Omega.{arith}
+use lib.ListN.{length}
+use Rattle.margin.specs.Margins.{no_curve}
+use Rattle.margin.proofs.Places.{Filling, filling-none, filling-next, filling-all}
+use Rattle.margin.proofs.margins.cleared.Goals as goal
+use Rattle.margin.proofs.margins.cleared.Goals.{Start}
+
+places : (s : Start) → length s.args.curves ≡ 8
+places s = search rules
+
+pub loop-i-init : goal.loop-i-init
+loop-i-init c = filling-none _ _ _ (omega (arith, places c.before, c.requires))
+
+pub loop-i-preserved : goal.loop-i-preserved
+loop-i-preserved c =
+    let l = c.before in
+    let none = l.before in
+    rw none.no_curve-none.ensures (filling-next _ _ _ _ _ l.loop-i.invariant (omega (arith, places none.before)))
+
+pub returns : goal.returns
+returns c =
+    let l = c.before in
+    filling-all _ _ _ _ _ l.loop-i.invariant 8 (places l.before.before) (search rules)

@@ -1,0 +1,46 @@
+-- `margin::margins::currency_margin` meets its contract: what is summed and what is left are together all.
+use borrow.Author.Rules.{rules}
+use mathlib.Core.Path.{◌≡◌, ◌∙◌}
+use Prim.Native.Nat.{◌-◌, ◌<◌}
+use lib.ListN.{length}
+use Rattle.laws.proofs.Signed.{fits}
+use Rattle.margin.specs.Margins.{SumsLimits}
+use Rattle.margin.proofs.Currencies.{total_size, code-total, code-figures, Summed, summed-none, summed-room, summed-next, summed-limits, summed-all}
+use Rattle.margin.proofs.margins.currency_margin.Goals as goal
+use Rattle.margin.proofs.margins.currency_margin.Goals.{After-loop-i, Start}
+
+places : (s : Start) → length s.args.t2 ≡ 8
+places s = search rules
+
+pub with_curve-t-requires : goal.with_curve-t-requires
+with_curve-t-requires c =
+    let s = c.before.before.before in
+    let l = c.loop-i in
+    let k : l.i < s.args.count = search rules in
+    (summed-room _ _ _ s.requires (places s) _ _ l.invariant k, s.requires.each l.i k)
+
+pub loop-i-preserved : goal.loop-i-preserved
+loop-i-preserved c =
+    let l = c.before.before.before in
+    let s = l.before in
+    rw c.with_curve-t.ensures (summed-next _ _ _ s.requires (places s) _ _ l.loop-i.invariant (search rules))
+
+-- what the loop leaves
+limits : (c : After-loop-i) → SumsLimits 8 c.loop-i.t
+limits c =
+    let s = c.before.before in
+    summed-limits _ _ _ s.requires (places s) _ _ c.loop-i.invariant (search rules)
+
+pub overflow_sub-result : goal.overflow_sub-result
+overflow_sub-result c =
+    let h = limits c.before.before in
+    rw (code-total _ h) (fits _ (total_size _ h))
+
+pub returns : goal.returns
+returns c =
+    let e = c.before.before.before in
+    let s = e.before.before in
+    code-figures _ (limits e) ∙ summed-all _ _ _ s.requires (places s) _ _ e.loop-i.invariant (search rules)
+
+pub loop-i-init : goal.loop-i-init
+loop-i-init c = summed-none _ _ _

@@ -1,0 +1,17 @@
+-- `page::line::line_day` meets its contract.
+use mathlib.Core.Path.{sym, ◌∙◌}
+use borrow.Author.Rules.{rules}
+use Rattle.page.specs.Line.{line_day}
+use Rattle.page.proofs.line.line_day.Goals as goal
+
+pub returns-then-has_security : goal.returns-then-has_security
+unfolding line_day
+returns-then-has_security c =
+    let asked = c.before in
+    rw (sym asked.has_security.ensures ∙ c.if-has_security.true) asked.last_payment_day-last.ensures
+
+pub returns : goal.returns
+unfolding line_day
+returns c =
+    let asked = c.before in
+    rw (sym asked.has_security.ensures ∙ c.if-has_security.false)

@@ -1,0 +1,6 @@
+-- `page::page_length` meets its contract.
+use borrow.Author.Rules.{rules}
+use Rattle.page.proofs.page_length.Goals as goal
+
+pub returns : goal.returns
+returns c = rw c.currency_count.ensures.value

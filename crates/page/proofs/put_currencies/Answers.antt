@@ -1,0 +1,72 @@
+-- `page::put_currencies` meets its contract: what is written and what is left to write are together all.
+use mathlib.Core.Path.{◌≡◌}
+use mathlib.Core.List.{List, ◌++◌}
+use Prim.Native.Nat.{ℕ, ◌+◌, ◌-◌, ◌≤◌, ◌<◌}
+use native.Mathlib.Omega.{arith}
+use borrow.Author.Rules.{rules}
+use lib.ListN.{length, get_or, take, drop}
+use Rattle.laws.proofs.Arrays.{length-mapped}
+use Rattle.margin.specs.declared.CurveMargin.{CurveMargin}
+use Rattle.margin.specs.declared.CurrencyMargin.{CurrencyMargin}
+use Rattle.margin.specs.Margins.{no_currency, has_currency}
+use Rattle.text.specs.Text.{lines_of}
+use Rattle.text.proofs.Lines.{lines_next, lines_none}
+use Rattle.text.proofs.Writing.{TextLeft, text-all, text-room, text-next, text-none}
+use Rattle.page.specs.Page.{currency_part_of}
+use Rattle.page.proofs.Lengths.{length_part}
+use Rattle.page.proofs.put_currencies.Goals as goal
+use Rattle.page.proofs.put_currencies.Goals.{In-loop-i, Start}
+
+pub loop-i-init : goal.loop-i-init
+loop-i-init c =
+    let long : length c.args.t5 ≡ 3 = search (rules, length-mapped) in
+    (search rules, long, text-all _ _ _)
+
+-- in the loop: the next currency's part is left
+module _ (c : In-loop-i) where
+  abbrev start : Start
+  start = c.before.before.before
+
+  abbrev i : ℕ
+  i = c.loop-i.i
+
+  abbrev curves : List CurveMargin
+  curves = take start.args.count start.args.curves
+
+  abbrev this : CurrencyMargin
+  this = get_or start.args.t5 i no_currency
+
+  below : i < 3
+  below = search rules
+
+  next : lines_of (currency_part_of curves) (i + 1) (drop i start.args.t5) ≡ currency_part_of curves (i + 1) this ++ lines_of (currency_part_of curves) (i + 1 + 1) (drop (i + 1) start.args.t5)
+  next = lines_next (currency_part_of curves) start.args.t5 i (i + 1) no_currency (omega (arith, c.loop-i.invariant.1, below))
+
+pub put_currency_part-next-requires : goal.put_currency_part-next-requires
+put_currency_part-next-requires c =
+    let has = c.before.before in
+    let turn = has.before in
+    let s = start turn in
+    let long = length_part (i turn + 1) (this turn) (s.requires.count_bound.1.each (i turn) (below turn)) (has_currency (i turn + 1) (curves turn)) in
+    let room =
+    text-room (currency_part_of (curves turn) (i turn + 1) (this turn)) (lines_of (currency_part_of (curves turn)) (i turn + 1 + 1) (drop (i turn + 1) s.args.t5))
+    (rw (next turn) at turn.loop-i.invariant.2) s.requires.currencies_in_bounds in
+    rw has.has_currency-has.ensures (omega (arith, long, room))
+
+pub loop-i-preserved : goal.loop-i-preserved
+loop-i-preserved c =
+    let wrote = c.before.before in
+    let has = wrote.before.before.before in
+    let turn = has.before in
+    let part = rw has.has_currency-has.ensures at wrote.put_currency_part-next.ensures in
+    (search rules, turn.loop-i.invariant.1, text-next (rw (next turn) at turn.loop-i.invariant.2) part)
+
+pub returns : goal.returns
+returns c =
+    let at-loop = c.before in
+    let a = at-loop.args in
+    let k = at-loop.loop-i.i in
+    text-none (rw (lines_none (currency_part_of (take a.count a.curves)) a.t5 k (k + 1) (omega (arith, at-loop.loop-i.invariant.1))) at at-loop.loop-i.invariant.2)
+
+pub shape_of-out : goal.shape_of-out
+shape_of-out c = c.loop-i.invariant.2.lent

@@ -1,0 +1,22 @@
+-- `page::put_currency_part` meets its contract: the line, or nothing.
+use borrow.Author.Rules.{rules}
+use Rattle.text.proofs.Writing.{written_none}
+use Rattle.page.specs.Page.{currency_part}
+use Rattle.page.proofs.put_currency_part.Goals as goal
+
+pub put_currency_line-requires : goal.put_currency_line-requires
+put_currency_line-requires c =
+    let has = c.before in
+    let s = has.before.before in
+    rw has.if-has.true at s.requires
+
+pub returns-then-has : goal.returns-then-has
+unfolding currency_part
+returns-then-has c =
+    let line = c.before.before in
+    let has = line.before.before in
+    rw has.if-has.true line.put_currency_line.ensures
+
+pub returns : goal.returns
+unfolding currency_part
+returns c = rw c.if-has.false (written_none _ _)

@@ -1,0 +1,23 @@
+-- `page::put_curves` meets its contract: what is written and what is left to write are together all.
+use mathlib.Core.Path.{◌≡◌}
+use mathlib.Core.List.{◌++◌}
+use Prim.Native.Nat.{ℕ, ◌+◌, ◌-◌, ◌≤◌, ◌<◌}
+use native.Mathlib.Omega.{arith}
+use borrow.Author.Rules.{rules}
+use lib.ListN.{length, get_or, take, drop}
+use Rattle.laws.proofs.Arrays.{length-mapped}
+use Rattle.margin.specs.Margins.{no_curve}
+use Rattle.text.specs.Text.{lines_of}
+use Rattle.text.proofs.Lines.{first-lines-next, first-lines-none}
+use Rattle.text.proofs.Writing.{TextLeft, text-all, text-room, text-next, text-none}
+use Rattle.page.specs.Page.{curve_line}
+use Rattle.page.proofs.Lengths.{length-curve-line}
+use Rattle.page.proofs.put_curves.Given as goal
+
+abbrev pub invariant-loop-i : goal.invariant-loop-i
+invariant-loop-i l =
+    (l.i ≤ l.count) × (length l.curves ≡ 8)
+    × TextLeft l.initial.out l.at (lines_of curve_line 1 (take l.count l.curves)) l.out l.next (lines_of curve_line (l.i + 1) (drop l.i (take l.count l.curves)))
+
+abbrev pub decreases-loop-i : goal.decreases-loop-i
+decreases-loop-i l = l.count - l.i

@@ -1,0 +1,103 @@
+-- `preview::preview` meets its contract: where append takes the record the copy takes it too, and its report is the preview.
+use mathlib.Core.Path.{◌≡◌, sym, ap, ◌∙◌}
+use mathlib.Core.List.{List}
+use Prim.Native.Nat.{ℕ, ◌-◌}
+use native.Mathlib.Omega.{arith}
+use borrow.Author.Rules.{rules}
+use lib.ListN.{length, take, replicate, length-replicate}
+use Rattle.ground.specs.declared.Verdict.TheVariants.{Accepted}
+use Rattle.layout.specs.Bytes.{put, AreBytes}
+use Rattle.book.proofs.Accepted.{sound}
+use Rattle.edit.specs.Refusals.{append_verdict}
+use Rattle.edit.proofs.Given.{Admitted, record-taken, admitted}
+use Rattle.preview.proofs.Theorems.{refused-by-append, preview-bounded}
+use Rattle.preview.proofs.Copy.{copy-fits, copy-admits-record, copy-accepted-with-record, copy-shown}
+use Rattle.preview.proofs.preview.Goals as goal
+use Rattle.preview.proofs.preview.Goals.{After-append_verdict-v, After-copy_in, In-Accepted, Start}
+
+abbrev zeros : List ℕ
+zeros = replicate 65536 0
+
+zeros-room : length zeros ≡ 65536
+zeros-room = length-replicate {A = ℕ} 65536 0
+
+record-long : (c : Start) → length c.args.r ≡ 56
+record-long c = search rules
+
+-- refused by append
+pub returns-in-Refused : goal.returns-in-Refused
+returns-in-Refused c =
+    let told = c.before in
+    let asked = told.before.before in
+    let a = asked.args in
+    let p = refused-by-append a.book.now a.used a.day a.r a.out-1.now _ _ (sym asked.append_verdict-v.ensures ∙ told.in-Refused.is) in
+    (sym p.0, (sym p.1, preview-bounded a.book.now a.used a.day a.r a.out-1.now (sym p.0) (sym p.1)))
+
+-- taken by it
+module _ (c : In-Accepted) where
+  abbrev asked : After-append_verdict-v
+  asked = c.before.before
+
+  abbrev start : Start
+  start = asked.before.before.before
+
+  abbrev s : List ℕ
+  s = start.args.book.now
+
+  bytes : AreBytes s
+  bytes k = omega (arith, asked.shared_slice_known-1.given k)
+
+  ok : append_verdict s start.args.used start.args.day start.args.r ≡ Accepted
+  ok = sym asked.append_verdict-v.ensures ∙ c.in-Accepted.is
+
+  given : Admitted s start.args.used start.args.r
+  given = admitted s start.args.used start.args.r start.args.day ok
+
+pub slice_bounds-copy_in-end-in-Accepted : goal.slice_bounds-copy_in-end-in-Accepted
+slice_bounds-copy_in-end-in-Accepted c = let b = sound _ _ (given c.before).accepted in omega (arith, b.lent)
+
+pub copy_in-requires : goal.copy_in-requires
+copy_in-requires c =
+    let passed = c.before.before in
+    let a = (start passed).args in
+    copy-fits zeros zeros-room a.book.now a.used a.r (given passed) (a.used - 0) (omega arith)
+
+-- from the copy on
+module _ (c : After-copy_in) where
+  abbrev passed : In-Accepted
+  passed = c.before.before.before
+
+  abbrev used : ℕ
+  used = (start passed).args.used
+
+  is-copy : c.copy_in.new.0 ≡ put zeros 0 (take used (s passed))
+  is-copy =
+      let whole : used - 0 ≡ used = omega arith in
+      c.copy_in.ensures ∙ ap (λ (n : ℕ). put zeros 0 (take n (s passed))) whole
+
+  admits-record : Admitted c.copy_in.new.0 used (start passed).args.r
+  admits-record = copy-admits-record zeros zeros-room (s passed) used (start passed).args.r (given passed) c.copy_in.new.0 is-copy (bytes passed)
+
+pub add-requires : goal.add-requires
+add-requires c = let w = admits-record c.before.before in (w.accepted, record-taken _ _ _ w)
+
+pub fill_report-requires : goal.fill_report-requires
+fill_report-requires c =
+    let with-record = c.before.before.before in
+    let copy = with-record.before.before.before in
+    let a = (start (passed copy)).args in
+    record {
+      used = _;
+      accepted = copy-accepted-with-record zeros zeros-room a.book.now a.used a.r (given (passed copy)) _ (is-copy copy) (bytes (passed copy)) (record-long (start (passed copy))) _ _
+          with-record.add.ensures.value with-record.add.ensures.book_after;
+    }
+
+pub returns-in-Accepted : goal.returns-in-Accepted
+returns-in-Accepted c =
+    let filled = c.before.before in
+    let with-record = let arg = filled.before in arg.before.before.before in
+    let copy = with-record.before.before.before in
+    let a = (start (passed copy)).args in
+    let p = copy-shown zeros zeros-room a.book.now a.used a.r (given (passed copy)) _ (is-copy copy) (bytes (passed copy)) (record-long (start (passed copy))) _ _
+    with-record.add.ensures.value with-record.add.ensures.book_after a.day (ok (passed copy)) a.out-1.now filled.fill_report.ensures.value filled.fill_report.ensures.out_after in
+    (p.0, (p.1, preview-bounded a.book.now a.used a.day a.r a.out-1.now p.0 p.1))

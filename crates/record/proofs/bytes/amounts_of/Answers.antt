@@ -1,0 +1,10 @@
+-- `record::bytes::amounts_of` meets its contract.
+use Rattle.record.specs.Bytes.{amounts_of}
+use borrow.Author.Rules.{rules}
+use Rattle.record.proofs.bytes.amounts_of.Goals as goal
+
+pub returns : goal.returns
+unfolding amounts_of
+returns c =
+    let u = c.before.before.before in
+    rw (u.u32_at.ensures.value, u.u64_at.ensures, u.u64_at-2.ensures, u.u32_at-2.ensures.value, c.u32_at-3.ensures.value, c.u32_at-4.ensures.value, c.u32_at-5.ensures.value)

@@ -1,0 +1,10 @@
+-- `record::bytes::days_of` meets its contract.
+use Rattle.record.specs.Bytes.{days_of}
+use borrow.Author.Rules.{rules}
+use Rattle.record.proofs.bytes.days_of.Goals as goal
+
+pub returns : goal.returns
+unfolding days_of
+returns c =
+    let u = c.before.before.before in
+    rw (u.u16_at.ensures.value, u.u16_at-2.ensures.value, u.u16_at-3.ensures.value, c.u16_at-4.ensures.value, c.u16_at-5.ensures.value, c.u16_at-6.ensures.value)

@@ -1,0 +1,10 @@
+-- `record::rules::breaks_amounts` meets its contract.
+use Rattle.record.specs.Rules.{breaks_amounts}
+use borrow.Author.Rules.{rules}
+use Rattle.record.proofs.rules.breaks_amounts.Goals as goal
+
+pub returns : goal.returns
+unfolding breaks_amounts
+returns c =
+    let principals = c.before.before.before in
+    rw (c.indices_fit.ensures, c.coupons_fit.ensures, c.price_fits.ensures, principals.principals_fit.ensures, principals.unused_days_fit.ensures)

@@ -1,0 +1,10 @@
+-- `record::rules::breaks_days` meets its contract.
+use Rattle.record.specs.Rules.{breaks_days}
+use borrow.Author.Rules.{rules}
+use Rattle.record.proofs.rules.breaks_days.Goals as goal
+
+pub returns : goal.returns
+unfolding breaks_days
+returns c =
+    let asked = c.before.before.before in
+    rw (c.asked-2.ensures, c.coupon_days_fit.ensures, c.has_coupons.ensures, asked.asked.ensures, asked.first_payment_fits.ensures, asked.has_security.ensures, asked.value_days_fit.ensures)

@@ -1,0 +1,8 @@
+-- `record::rules::first_payment_fits` meets its contract.
+use borrow.Author.Rules.{rules}
+use Rattle.record.proofs.rules.first_payment_fits.Goals as goal
+
+pub returns : goal.returns
+returns c =
+    let pick = c.before in
+    rw (c.in_reach.ensures, pick.pick.ensures, pick.has_settled.ensures)

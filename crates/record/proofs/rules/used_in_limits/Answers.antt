@@ -1,0 +1,6 @@
+-- `record::rules::used_in_limits` meets its contract.
+use borrow.Author.Rules.{rules}
+use Rattle.record.proofs.rules.used_in_limits.Goals as goal
+
+pub returns : goal.returns
+returns c = rw (c.pick.ensures, c.in_limits.ensures)

@@ -1,0 +1,29 @@
+-- `report::margin` meets its contract, by those of `check` and `fill_report`.
+use mathlib.Core.Path.{sym, ◌∙◌}
+use borrow.Author.Rules.{rules}
+use Rattle.acceptance.proofs.Laws.{book-accepted}
+use Rattle.report.proofs.Answers.{refused-book, accepted-book-reported}
+use Rattle.report.proofs.Demand.{demand-met}
+use Rattle.report.proofs.margin.Goals as goal
+
+pub fill_report-requires : goal.fill_report-requires
+fill_report-requires c = record { used = _; accepted = (book-accepted _ _ _ (sym c.check-v.ensures ∙ c.in-Accepted.is)).blocks }
+
+pub returns-in-Refused : goal.returns-in-Refused
+returns-in-Refused c =
+    let checked = c.before.before.before in
+    let a = checked.args in
+    let p = refused-book a.book.now a.used a.day a.out-1.now _ _ (sym checked.check-v.ensures ∙ c.in-Refused.is) in
+    (p.0, (p.1, demand-met a.book.now a.used a.day a.out-1.now p.0 p.1))
+
+pub returns-in-Accepted : goal.returns-in-Accepted
+returns-in-Accepted c =
+    let filled = c.before.before in
+    let told = filled.before.before in
+    let checked = told.before.before in
+    let a = checked.args in
+    let p = filled.fill_report.ensures in
+    let then = accepted-book-reported a.book.now a.used a.day a.out-1.now (sym checked.check-v.ensures ∙ told.in-Accepted.is) in
+    let answer = p.0 ∙ sym then.0 in
+    let written = p.1 ∙ sym then.1 in
+    (answer, (written, demand-met a.book.now a.used a.day a.out-1.now answer written))

@@ -1,0 +1,94 @@
+-- `report::margin_with` meets its contract. The invariant: the first k places hold the figures of the first k curves.
+use mathlib.Core.Path.{◌≡◌, refl, ap, ◌∙◌}
+use mathlib.Core.List.{map}
+use Prim.Native.Nat.{ℕ, ◌-◌, ◌≤◌, ◌<◌}
+use native.Mathlib.Omega.{arith}
+use borrow.Author.Rules.{rules}
+use lib.ListN.{length, take}
+use Rattle.book.specs.Parts.{curve_count}
+use Rattle.book.proofs.Accepted.{Sound, sound}
+use Rattle.margin.specs.Margins.{curve_margin, margin_of, PlacesLimits}
+use Rattle.margin.proofs.Accounts.{margin-of}
+use Rattle.exposure.specs.Exposures.{exposures}
+use Rattle.report.specs.Entry.{margin_in}
+use Rattle.report.proofs.Placed.{CurvesPlaced, placed-as, placed-next, placed-all, placed-limits}
+use Rattle.report.proofs.margin_with.Goals as goal
+use Rattle.report.proofs.margin_with.Goals.{After-curve_count-count, After-loop-k, After-slice_known-in-loop-k-1, In-loop-k, Start}
+
+-- at the entry: the book is sound
+here : (s : Start) → Sound s.args.book.now s.requires.0.used
+here s = sound s.args.book.now s.requires.0.used s.requires.0.accepted
+
+pub curve_count-count-requires : goal.curve_count-count-requires
+curve_count-count-requires c = let b = here c.before.before in omega (arith, b.blocks, b.lent)
+
+pub loop-k-init : goal.loop-k-init
+loop-k-init c = (omega arith, refl, record { places = refl; each = λ i l. absurd (omega arith) })
+
+-- the entry's record
+abbrev entry : After-curve_count-count → Start
+entry c = c.before.before.before
+
+pub curve_figures-m-requires : goal.curve_figures-m-requires
+curve_figures-m-requires c =
+    let l = c.before.before in
+    let counted = l.before.before in
+    let p = (entry counted).requires in
+    (p.0, omega arith, omega (arith, counted.curve_count-count.ensures.value), omega (arith, l.loop-k.invariant.1, p.1))
+
+-- in the loop: a place is free
+below : (c : In-loop-k) → c.loop-k.k < 8
+below c =
+    let counted = c.before.before.before in
+    let b = here (entry counted) in
+    omega (arith, counted.curve_count-count.ensures.value, b.most)
+
+-- a turn, behind its call
+abbrev turn : After-slice_known-in-loop-k-1 → In-loop-k
+turn c = let called = c.before.before in called.before.before
+
+pub loop-k-preserved : goal.loop-k-preserved
+loop-k-preserved c =
+    let t = turn c in
+    let called = c.before.before in
+    (omega arith, search rules, placed-next _ _ _ t.loop-k.inv.2 called.curve_figures-m.result (below t) called.curve_figures-m.ensures)
+
+-- behind the loop: every curve has its place
+module _ (c : After-loop-k) where
+  abbrev start : Start
+  start = entry c.before.before.before
+
+  count-is : c.curve_count-count.result ≡ curve_count start.args.book.now
+  count-is = c.curve_count-count.ensures.value
+
+  all : take c.curve_count-count.result c.loop-k.curves ≡ map curve_margin (exposures start.args.book.now)
+  all =
+      let e : c.loop-k.k ≡ c.curve_count-count.result = omega arith in
+      let placed : CurvesPlaced start.args.book.now c.loop-k.curves c.curve_count-count.result = placed-as _ _ e c.loop-k.invariant.2 in
+      placed-all _ _ _ placed count-is (omega (arith, count-is, (here start).most))
+
+  limits : PlacesLimits c.loop-k.curves c.curve_count-count.result
+  limits = placed-limits start.args.book.now _ (here start) _ _ count-is all
+
+pub account-requires : goal.account-requires
+account-requires c = let b = here (start c) in omega (arith, b.blocks, b.lent)
+
+pub margin_of-requires : goal.margin_of-requires
+margin_of-requires c = limits c.before
+
+pub returns : goal.returns
+unfolding margin_in
+returns c =
+    let end = c.before.before in
+    c.margin_of.ensures
+    ∙ margin-of end.loop-k.curves end.curve_count-count.result (exposures (start end).args.book.now) (all end) c.account.result
+    ∙ ap (λ (a : ℕ). margin_of a (exposures (start end).args.book.now)) c.account.ensures.value
+
+pub no_curve-curves-requires : goal.no_curve-curves-requires
+no_curve-curves-requires c = tt
+
+pub offset_bounds-curves-k : goal.offset_bounds-curves-k
+offset_bounds-curves-k c = omega (arith, below (turn c))
+
+pub bounds-curves-k : goal.bounds-curves-k
+bounds-curves-k c = below (turn c)

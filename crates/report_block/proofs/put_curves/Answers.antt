@@ -1,0 +1,24 @@
+-- `report_block::put_curves` meets its contract: what is written and what is left to write are together all.
+use Prim.Native.Nat.{◌-◌}
+use borrow.Author.Rules.{rules}
+use Rattle.laws.proofs.Arrays.{length-mapped}
+use Rattle.margin.specs.Margins.{no_curve}
+use Rattle.report_block.specs.Report.{curve_bytes}
+use Rattle.report_block.proofs.Records.{RecordsLeft, records-all, records-next, records-none}
+use Rattle.report_block.proofs.Report.{length-curve}
+use Rattle.report_block.proofs.put_curves.Goals as goal
+
+pub loop-i-init : goal.loop-i-init
+loop-i-init c = records-all curve_bytes 32 length-curve _ 8 c.args.t2 8 (search (rules, length-mapped))
+
+pub loop-i-preserved : goal.loop-i-preserved
+loop-i-preserved c =
+    let wrote = c.before.before in
+    let turn = wrote.before.before.before in
+    records-next curve_bytes 32 length-curve _ 8 _ 8 no_curve turn.loop-i.invariant turn.loop-i-test.true wrote.put_curve.ensures
+
+pub returns : goal.returns
+returns c = records-none curve_bytes 32 length-curve _ 8 _ 8 c.loop-i.invariant (search rules)
+
+pub shape_of-out : goal.shape_of-out
+shape_of-out c = c.loop-i.invariant.lent

@@ -1,0 +1,79 @@
+-- `screening::low::low_values` meets its contract.
+use borrow.Author.Rules.{rules}
+use mathlib.Core.Path.{◌≡◌, refl, sym, ◌∙◌}
+use mathlib.Core.Bool.{false≢true}
+use mathlib.Core.List.{List}
+use Prim.Native.Nat.{ℕ, ◌≤◌, ◌<◌}
+use native.Mathlib.Omega.{arith}
+use lib.IntN.{ℤ}
+use lib.ListN.{length, take, length-replicate}
+use lib.Seq.{length-take-le}
+use Rattle.curve.proofs.Scenarios.{scenarios-most}
+use Rattle.estimate.specs.Values.{most_size, Listed}
+use Rattle.screening.proofs.Lowering.{filled-small, low-none-above, low_small, spare-most}
+use Rattle.screening.proofs.low.low_values.Goals as goal
+use Rattle.screening.proofs.low.low_values.Goals.{After-fill_values, After-list_days-count, After-map_nets, Start}
+
+pub returns-then-days-count : goal.returns-then-days-count
+returns-then-days-count c = record { kept = refl; low = λ e. absurd (false≢true e) }
+
+-- the grid's days as they are listed
+module _ (c : After-list_days-count) where
+  abbrev mapping : After-map_nets
+  mapping = let after-mapped = c.before.before in after-mapped.before.before
+
+  abbrev start : Start
+  start = let after-mapped = mapping.before in after-mapped.before.before.before
+
+  abbrev mapped : List ℤ
+  mapped = mapping.map_nets.last.1.1.1.1.0
+
+  room : c.list_days-count.result ≤ length c.list_days-count.new.1.0
+  room =
+      let e = c.list_days-count.ensures in
+      omega (arith, e.0, e.1.0, mapping.map_nets.ensures.places, length-replicate {A = ℕ} 10951 0)
+
+  grid-listed : Listed mapped (take c.list_days-count.result c.list_days-count.new.1.0)
+  unfolding most_size
+  grid-listed =
+      let low = mapping.map_nets.ensures in
+      record { places = low.places; list = c.list_days-count.ensures.list.1; size = low.size }
+
+-- the values filled in
+module _ (c : After-fill_values) where
+  abbrev listing : After-list_days-count
+  listing = let after-grid = c.before.before.before in after-grid.before.before.before
+
+  abbrev entry : Start
+  entry = start listing
+
+pub fill_values-requires : goal.fill_values-requires
+fill_values-requires c =
+    let l = let after-grid = c.before.before in after-grid.before.before.before in
+    let p = (start l).requires in
+    (p.0, p.1, grid-listed l, p.3, omega (arith, scenarios-most _ p.1, p.5))
+
+pub lower-requires : goal.lower-requires
+lower-requires c =
+    let f = c.before.before.before in
+    let s = entry f in
+    let n = c.scenario_count.ensures in
+    let most = scenarios-most s.args.components s.requires.1 in
+    let low = (mapping (listing f)).map_nets.ensures in
+    (omega (arith, n, most, f.fill_values.ensures.kept, s.requires.5), counted _ _ n (filled-small s.args.curve s.args.components _ low.size _ f.fill_values.ensures.each), rw s.requires.4 (omega (arith, spare-most _ _ s.requires.2)), omega (arith, n, most))
+  where
+    counted : (n m : ℕ) {P : ℕ → Type 0} → n ≡ m → ((s : ℕ) → s < m → P s) → (s : ℕ) → s < n → P s
+    counted n m e h s k = h s (omega arith)
+
+pub returns : goal.returns
+returns c =
+    let after_lower = c.before in
+    let counted = after_lower.before in
+    let f = counted.before.before.before in
+    let s = entry f in
+    let low = (mapping (listing f)).map_nets.ensures in
+    let lowered = rw (counted.scenario_count.ensures, s.requires.4) at after_lower.lower.ensures.each in
+    record { kept = after_lower.lower.ensures.kept ∙ f.fill_values.ensures.kept; low = λ e. (low-none-above s.args.curve s.args.components _ _ _ low _ _ f.fill_values.ensures.each lowered, low_small s.args.curve s.args.components _ _ _ low _ _ f.fill_values.ensures.each lowered (spare-most _ _ s.requires.2)) }
+
+pub slice_bounds-fill_values-end : goal.slice_bounds-fill_values-end
+slice_bounds-fill_values-end c = let l = let else = c.before in else.before.before in sym (length-take-le _ _ (room l))

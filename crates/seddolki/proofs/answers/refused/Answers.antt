@@ -1,0 +1,6 @@
+-- `seddolki::answers::refused` meets its contract.
+use borrow.Author.Rules.{rules}
+use Rattle.seddolki.proofs.answers.refused.Goals as goal
+
+pub returns : goal.returns
+returns c = rw c.number.ensures

@@ -1,0 +1,19 @@
+-- `seddolki::seddolki_bootstrap` meets its contract: the answer and what is written are those of the entry.
+use mathlib.Core.Path.{◌≡◌, ap, ◌∙◌}
+use borrow.Author.Rules.{rules}
+use mir.Facts.{to_z-of_z}
+use Rattle.bootstrap.specs.declared.Quote.{Quote}
+use Rattle.bootstrap.specs.Bought.{quote_of}
+use Rattle.bootstrap.specs.Refusals.{bootstrap_verdict}
+use Rattle.bootstrap.specs.Bootstrap.{bootstrapped}
+use Rattle.seddolki.specs.Answers.{verdict_answer}
+use Rattle.seddolki.proofs.seddolki_bootstrap.Goals as goal
+
+pub returns : goal.returns
+returns c =
+    let done = c.before.before.before in
+    let quoted = done.before.before in
+    let start = quoted.before.before.before in
+    let a = start.args in
+    let quote : quoted.quote_of-quote.result ≡ quote_of a.curve a.bond.now a.cash a.first a.second a.third =
+    quoted.quote_of-quote.ensures ∙ rw (to_z-of_z start.ranges.first, to_z-of_z start.ranges.second, to_z-of_z start.ranges.third) in record { value = c.verdict_answer.ensures ∙ rw done.bootstrap.ensures.value (ap (λ (q : Quote). verdict_answer (bootstrap_verdict a.book-1.now a.used a.day q)) quote); book_after = done.bootstrap.ensures.book_after ∙ ap (bootstrapped a.book-1.now a.used a.day) quote }

@@ -1,0 +1,12 @@
+-- `seddolki::seddolki_preview` meets its contract: the answer and what is written are those of the entry, and number 0 is its `Accepted`.
+use mathlib.Core.Path.{sym, ap, ◌∙◌}
+use borrow.Author.Rules.{rules}
+use Rattle.seddolki.specs.declared.Answer.{Answer}
+use Rattle.seddolki.proofs.Theorems.{done-accepted}
+use Rattle.seddolki.proofs.seddolki_preview.Goals as goal
+
+pub returns : goal.returns
+returns c =
+    let p = c.preview.ensures in
+    let answer = c.verdict_answer.ensures in
+    (rw (answer, p.0), (p.1.0, λ done. p.1.1 (done-accepted _ (ap (λ (a : Answer). a.number) (sym answer) ∙ done))))

@@ -1,0 +1,104 @@
+-- `statement::put_trades` meets its contract: what is written and what is left to write are together all.
+use mathlib.Core.Path.{◌≡◌, ap, ◌∙◌}
+use mathlib.Core.List.{List, [], ◌++◌}
+use Prim.Native.Nat.{ℕ, ◌+◌, ◌-◌, ◌≤◌, ◌<◌}
+use native.Mathlib.Omega.{arith}
+use borrow.Author.Rules.{rules}
+use lib.ListN.{length, drop}
+use Rattle.record.specs.Bytes.{fields_of}
+use Rattle.book.specs.Parts.{trade_count, record_at, records}
+use Rattle.book.proofs.Accepted.{Sound, sound, place-held, length-record_at}
+use Rattle.book.proofs.Places.{length-records, record_of}
+use Rattle.text.specs.Text.{lines_of}
+use Rattle.text.proofs.Lines.{lines_next, lines_none}
+use Rattle.text.proofs.Writing.{TextLeft, text-all, text-room, text-next, text-none}
+use Rattle.page.specs.Line.{record_line}
+use Rattle.page.proofs.LineLengths.{length-trade-line}
+use Rattle.statement.proofs.Limits.{record-limits}
+use Rattle.statement.proofs.put_trades.Goals as goal
+use Rattle.statement.proofs.put_trades.Goals.{After-fields_of, In-loop-i, Start}
+
+-- at the entry: the book is sound
+here : (s : Start) → Sound s.args.book.now s.requires.starts_with_book.used
+here s = sound s.args.book.now s.requires.starts_with_book.used s.requires.starts_with_book.accepted
+
+pub trade_count-count-requires : goal.trade_count-count-requires
+trade_count-count-requires c = let b = here c.before.before in omega (arith, b.blocks, b.lent)
+
+pub loop-i-init : goal.loop-i-init
+loop-i-init c = (omega arith, text-all _ _ _)
+
+-- in the loop: the next trade's line is left
+module _ (c : In-loop-i) where
+  abbrev start : Start
+  start = let counted = c.before.before in counted.before.before.before
+
+  abbrev book : List ℕ
+  book = start.args.book.now
+
+  abbrev i : ℕ
+  i = c.loop-i.i
+
+  below : i < trade_count book
+  below = omega (arith, c.trade_count-count.ensures)
+
+  abbrev rest : List ℕ
+  rest = lines_of record_line (i + 1) (drop (i + 1) (records book))
+
+  next : lines_of record_line i (drop i (records book)) ≡ record_line i (record_at book i) ++ rest
+  next =
+      lines_next record_line (records book) i i [] (omega (arith, length-records book, below))
+      ∙ ap (λ (r : List ℕ). record_line i r ++ rest) (record_of book i below)
+
+pub record_at-r-requires : goal.record_at-r-requires
+record_at-r-requires c =
+    let s = start c in
+    let b = here s in
+    omega (arith, (place-held (book c) _ b (i c) (below c)).0, b.blocks, b.lent)
+
+pub fields_of-requires : goal.fields_of-requires
+fields_of-requires c =
+    let read = c.before.before in
+    let turn = read.before in
+    ap length read.record_at-r.ensures ∙ length-record_at (book turn) _ (here (start turn)) (i turn) (below turn)
+
+-- after the record is read: it is the one at the position
+fields-is : (c : After-fields_of) → let read = c.before.before.before in c.fields_of.result ≡ fields_of (record_at (book read.before) (i read.before))
+fields-is c = let read = c.before.before.before in c.fields_of.ensures ∙ ap fields_of read.record_at-r.ensures
+
+pub put_trade-next-requires : goal.put_trade-next-requires
+put_trade-next-requires c =
+    let read = c.before.before.before in
+    let turn = read.before in
+    let s = start turn in
+    let limits = record-limits (book turn) _ (here s) (i turn) (below turn) in
+    let long = length-trade-line (i turn) (fields_of (record_at (book turn) (i turn))) limits in
+    let room = text-room (record_line (i turn) (record_at (book turn) (i turn))) (rest turn) (rw (next turn) at turn.loop-i.invariant.1) s.requires.book_in_bounds in
+    (omega (arith, long, room), rw (fields-is c) limits)
+
+pub loop-i-preserved : goal.loop-i-preserved
+loop-i-preserved c =
+    let wrote = c.before.before in
+    let made = wrote.before in
+    let read = made.before.before.before in
+    let turn = read.before in
+    let line = rw (fields-is made) at wrote.put_trade-next.ensures in
+    (omega arith, text-next (rw (next turn) at turn.loop-i.invariant.1) line)
+
+pub returns : goal.returns
+returns c =
+    let at-loop = c.before in
+    let counted = at-loop.before in
+    let s = counted.before.before.before in
+    let k = at-loop.loop-i.i in
+    let e : k ≡ length (records s.args.book.now) = omega (arith, length-records s.args.book.now, counted.trade_count-count.ensures) in
+    text-none (rw (lines_none record_line (records s.args.book.now) k k e) at at-loop.loop-i.invariant.1)
+
+pub overflow_add-i : goal.overflow_add-i
+overflow_add-i c = omega arith
+
+pub loop-i-smaller : goal.loop-i-smaller
+loop-i-smaller c = omega arith
+
+pub shape_of-out : goal.shape_of-out
+shape_of-out c = c.loop-i.invariant.1.lent

@@ -1,0 +1,105 @@
+-- `statement::write_page` meets its contract: the lines, one behind the other.
+use mathlib.Core.Path.{◌≡◌, sym, ap, subst}
+use mathlib.Core.List.{List}
+use Prim.Native.Nat.{ℕ, ◌+◌, ◌≤◌}
+use native.Mathlib.Omega.{arith}
+use borrow.Author.Rules.{rules}
+use lib.ListN.{length, take}
+use Rattle.margin.specs.declared.Margin.{Margin}
+use Rattle.book.specs.Parts.{curve_count, records}
+use Rattle.book.proofs.Accepted.{Sound, sound}
+use Rattle.text.specs.Text.{lines_of}
+use Rattle.text.proofs.Writing.{and_then, written_as}
+use Rattle.page.specs.Line.{title_line, record_line}
+use Rattle.page.proofs.LineLengths.{length-title-line}
+use Rattle.page.specs.Page.{curve_line, currency_part_of, page}
+use Rattle.page.specs.Limits.{PageLimits}
+use Rattle.page.proofs.Lengths.{length-parts-of}
+use Rattle.statement.specs.Entry.{page_of}
+use Rattle.statement.proofs.Limits.{page-limits}
+use Rattle.statement.proofs.write_page.Goals as goal
+use Rattle.statement.proofs.write_page.Goals.{Start}
+
+module _ (s : Start) where
+  abbrev book : List ℕ
+  book = s.args.book.now
+
+  abbrev m : Margin
+  m = s.args.m
+
+  here : Sound book s.requires.starts_with_book.0.used
+  here = sound book s.requires.starts_with_book.0.used s.requires.starts_with_book.0.accepted
+
+  limits : PageLimits (curve_count book) m (records book)
+  limits = subst (λ (x : Margin). PageLimits (curve_count book) x (records book)) (sym s.requires.starts_with_book.1) (page-limits book _ here)
+
+  whole : page (curve_count book) m (records book) ≡ page_of book
+  unfolding page_of
+  whole = ap (λ (x : Margin). page (curve_count book) x (records book)) s.requires.starts_with_book.1
+
+  -- the parts have room
+  room : length (title_line m.account) + length (lines_of record_line 0 (records book)) + length (lines_of curve_line 1 (take (curve_count book) m.curves-1)) + length (lines_of (currency_part_of (take (curve_count book) m.curves-1)) 1 m.currencies-1) ≤ length s.args.out-1.now
+  room = omega (arith, ap length whole, length-parts-of (curve_count book) m (records book), s.requires.book_in_bounds)
+
+pub curve_count-count-requires : goal.curve_count-count-requires
+curve_count-count-requires c = let b = here c.before.before in omega (arith, b.blocks, b.lent)
+
+pub put_title-first-requires : goal.put_title-first-requires
+put_title-first-requires c =
+    let counted = c.before.before.before in
+    let s = counted.before.before.before in
+    omega (arith, room s, length-title-line (m s).account)
+
+pub put_trades-second-requires : goal.put_trades-second-requires
+put_trades-second-requires c =
+    let after-out = c.before.before in
+    let title = after-out.before in
+    let after-currencies = title.before.before in
+    let counted = after-currencies.before.before in
+    let s = counted.before.before.before in
+    record { starts_with_book = s.requires.starts_with_book.0; book_in_bounds = omega (arith, room s, title.put_title-first.ensures.place) }
+
+pub put_curves-third-requires : goal.put_curves-third-requires
+put_curves-third-requires c =
+    let after-out2 = c.before.before in
+    let trades = after-out2.before in
+    let after-out = trades.before.before.before in
+    let title = after-out.before in
+    let after-currencies = title.before.before in
+    let counted = after-currencies.before.before in
+    let s = counted.before.before.before in
+    let e = counted.curve_count-count.ensures.value in
+    rw e ((limits s).curves-1, omega (arith, room s, title.put_title-first.ensures.place, trades.put_trades-second.ensures.place))
+
+pub put_currencies-requires : goal.put_currencies-requires
+put_currencies-requires c =
+    let after-out3 = c.before.before in
+    let curves = after-out3.before in
+    let after-out2 = curves.before.before.before in
+    let trades = after-out2.before in
+    let after-out = trades.before.before.before in
+    let title = after-out.before in
+    let after-currencies = title.before.before in
+    let counted = after-currencies.before.before in
+    let s = counted.before.before.before in
+    let e = counted.curve_count-count.ensures.value in
+    let third = rw e at curves.put_curves-third.ensures in
+    rw e record { count_bound = ((limits s).curves-1.most, (limits s).currencies-1); currencies_in_bounds = omega (arith, room s, title.put_title-first.ensures.place, trades.put_trades-second.ensures.place, third.place) }
+
+pub returns : goal.returns
+unfolding page
+returns c =
+    let currencies = c.before.before in
+    let after-out3 = currencies.before.before.before in
+    let curves = after-out3.before in
+    let after-out2 = curves.before.before.before in
+    let trades = after-out2.before in
+    let after-out = trades.before.before.before in
+    let title = after-out.before in
+    let after-currencies = title.before.before in
+    let counted = after-currencies.before.before in
+    let s = counted.before.before.before in
+    let e = counted.curve_count-count.ensures.value in
+    let first = and_then (and_then title.put_title-first.ensures trades.put_trades-second.ensures) (rw e at curves.put_curves-third.ensures) in
+    let parts = and_then first (rw e at currencies.put_currencies.ensures) in
+    written_as (page_of (book s)) parts (whole s) s.requires.book_in_bounds

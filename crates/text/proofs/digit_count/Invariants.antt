@@ -1,0 +1,15 @@
+-- `text::digit_count` meets its contract: each turn takes the last digit off.
+use mathlib.Core.Path.{◌≡◌, ap}
+use Prim.Native.Nat.{◌+◌, ◌≤◌}
+use native.Mathlib.Omega.{arith}
+use borrow.Author.Rules.{rules}
+use lib.ListN.{length}
+use Rattle.text.specs.Text.{decimal_of}
+use Rattle.text.proofs.Digits.{decimal-one, decimal-longer, length-decimal}
+use Rattle.text.proofs.digit_count.Given as goal
+
+abbrev pub invariant-loop-rest : goal.invariant-loop-rest
+invariant-loop-rest l = (l.count + length (decimal_of l.rest) ≡ 1 + length (decimal_of l.n)) × (l.rest ≤ l.n)
+
+abbrev pub decreases-loop-rest : goal.decreases-loop-rest
+decreases-loop-rest l = l.rest

@@ -1,0 +1,6 @@
+-- `trade::read::indexed_bond_of` meets its contract.
+use borrow.Author.Rules.{rules}
+use Rattle.trade.proofs.read.indexed_bond_of.Goals as goal
+
+pub returns : goal.returns
+returns c = rw c.coupon_bond_of.ensures

@@ -1,0 +1,11 @@
+-- `trade_edit::blocks::put_trade_blocks` meets its contract.
+use Rattle.trade_edit.specs.Blocks.{with_trade_blocks}
+use borrow.Author.Rules.{rules}
+use Rattle.trade_edit.proofs.blocks.put_trade_blocks.Goals as goal
+
+pub returns : goal.returns
+unfolding with_trade_blocks
+returns c =
+    let after-seal-arg = c.before.before.before in
+    let put = after-seal-arg.before.before.before in
+    rw (c.seal.ensures, put.put_le.ensures)

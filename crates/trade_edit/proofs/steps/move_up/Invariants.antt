@@ -1,0 +1,17 @@
+-- `trade_edit::steps::move_up` meets its contract.
+use mathlib.Core.Path.{◌≡◌, refl, sym, ◌∙◌}
+use Prim.Native.Nat.{◌-◌, ◌≤◌, ◌<◌}
+use native.Mathlib.Omega.{arith}
+use lib.ListN.{length}
+use Rattle.laws.specs.Walk.{run}
+use Rattle.laws.proofs.Walk.{run_step, run_end}
+use Rattle.trade_edit.specs.Blocks.{record_moved}
+use borrow.Author.Rules.{rules}
+use Rattle.trade_edit.proofs.steps.move_up.Given as goal
+
+abbrev pub invariant-loop-i : goal.invariant-loop-i
+invariant-loop-i l =
+    (l.i ≤ l.left) × ((length l.book ≡ length l.initial.book) × (run (record_moved l.curves) l.position (l.left - l.position) l.initial.book ≡ run (record_moved l.curves) l.i (l.left - l.i) l.book))
+
+abbrev pub decreases-loop-i : goal.decreases-loop-i
+decreases-loop-i l = l.left - l.i
