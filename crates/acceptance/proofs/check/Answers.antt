@@ -13,11 +13,11 @@ pub returns-then-not-is_accepted : goal.returns-then-not-is_accepted
 unfolding book_verdict
 returns-then-not-is_accepted c =
     let e = c.blocks_verdict-v.ensures in
-    e ∙ sym (stops _ _ (rw e at (sym c.is_accepted.ensures ∙ not-true _ c.if-not-is_accepted.true)))
+    e ∙ sym (stops _ _ (rw e at (sym c.is_accepted.ensures ∙ c.if-not-is_accepted.true)))
 
 pub valuation_day-requires : goal.valuation_day-requires
 valuation_day-requires c =
-    let accepted = is-accepted _ (sym c.is_accepted.ensures ∙ not-false _ c.if-not-is_accepted.false) in
+    let accepted = is-accepted _ (sym c.is_accepted.ensures ∙ c.if-not-is_accepted.false) in
     let b = sound _ _ (sym c.blocks_verdict-v.ensures ∙ accepted) in
     omega (arith, b.blocks, b.lent)
 

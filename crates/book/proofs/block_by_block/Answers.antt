@@ -16,14 +16,14 @@ returns-then-not-is_accepted c =
     let turn = c.before.before.before in
     let l = turn.loop-k in
     let e = c.block_verdict-v.ensures in
-    let stop = rw e at (sym c.is_accepted.ensures ∙ not-true _ c.if-not-is_accepted.true) in
+    let stop = rw e at (sym c.is_accepted.ensures ∙ c.if-not-is_accepted.true) in
     e ∙ sym (l.invariant.1 ∙ first-stopped _ l.k _ turn.loop-k-test.true stop)
 
 pub loop-k-preserved : goal.loop-k-preserved
 loop-k-preserved c =
     let turn = c.before.before.before in
     let l = turn.loop-k in
-    let pass = rw c.block_verdict-v.ensures at (sym c.is_accepted.ensures ∙ not-false _ c.if-not-is_accepted.false) in
+    let pass = rw c.block_verdict-v.ensures at (sym c.is_accepted.ensures ∙ c.if-not-is_accepted.false) in
     (omega arith, l.invariant.1 ∙ first-passed _ l.k _ turn.loop-k-test.true pass)
 
 pub returns : goal.returns

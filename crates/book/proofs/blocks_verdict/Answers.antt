@@ -48,7 +48,7 @@ returns-then-not-is_accepted c =
     let header = c.before.before in
     let l = fits (whole header) in
     let e = judged header in
-    let stop = rw e at (sym c.is_accepted.ensures ∙ not-true _ c.if-not-is_accepted.true) in
+    let stop = rw e at (sym c.is_accepted.ensures ∙ c.if-not-is_accepted.true) in
     e ∙ sym (verdict-blocks _ _ (kept (whole header)) ∙ header-stops _ _ (omega arith) stop)
 
 -- past the second
@@ -57,7 +57,7 @@ module _ (c : Else-not-is_accepted) where
   header = c.before.before
 
   told : is_accepted header.header_verdict-first.result ≡ true
-  told = sym c.is_accepted.ensures ∙ not-false _ c.if-not-is_accepted.false
+  told = sym c.is_accepted.ensures ∙ c.if-not-is_accepted.false
 
   heads : Headed (block_at (start (whole header)).args.book.now 0) ((start (whole header)).args.used / 512)
   heads = (header-accepted _ _ (sym (judged header) ∙ is-accepted _ told)).counts

@@ -38,15 +38,14 @@ move_up-requires c =
     let b = sound _ _ start.requires.0 in
     let t = blocks-for _ _ b in
     let m = trade-count-most _ _ b in
-    omega record { position_le_left = arith; left_in_bounds = start.requires.1 }
-
+    omega (arith, start.requires.1)
 pub cut_back-requires : goal.cut_back-requires
 cut_back-requires c =
     let moving = c.before.before.before in
     let curves = moving.before.before in
     let counted = curves.before.before in
     let start = counted.before.before.before in
-    let s = start.args.book-1.now in
+    let s = start.args.book.now in
     let used = start.args.used in
     let b = sound s used start.requires.0 in
     let m = trade-count-most s used b in
@@ -89,7 +88,7 @@ returns c =
     let curves = moving.before.before in
     let counted = curves.before.before in
     let start = counted.before.before.before in
-    let s = start.args.book-1.now in
+    let s = start.args.book.now in
     let bytes : AreBytes s = λ k. omega (arith, counted.slice_known-1.given k) in
     let count = counted.trade_count-left.ensures in
     let first = curves.curve_count-first.ensures.value in

@@ -95,5 +95,5 @@ returns c =
     let s = start.args.book.now in
     let inv = c.loop-i.invariant in
     let e : c.loop-i.i ≡ trade_count s = omega (arith, c.trade_count-count.ensures) in
-    let all : Collected s start.args.curve c.loop-i.ladder-1 c.loop-i.schedules (trade_count s) = rw (sym e) inv.2 in
-    record { flows = all.flows; limits = collected-all s start.requires.0.used (here start) start.args.curve c.loop-i.ladder-1 c.loop-i.schedules (omega (arith, inv.1, start.requires.1)) all }
+    let all : Collected s start.args.curve c.loop-i.ladder c.loop-i.schedules (trade_count s) = rw (sym e) inv.2 in
+    record { flows = all.flows; limits = collected-all s start.requires.0.used (here start) start.args.curve c.loop-i.ladder c.loop-i.schedules (omega (arith, inv.1, start.requires.1)) all }

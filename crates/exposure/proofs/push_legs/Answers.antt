@@ -9,7 +9,7 @@ push_leg-two-requires c =
     let first = c.before.before.before in
     let after-second = first.before.before.before in
     let a = after-second.args in
-    room-left a.curve a.legs.first-1 a.ladder-1.now a.schedules 6 first.push_leg-one.ensures.value first.push_leg-one.ensures.ladder_after (omega arith)
+    room-left a.curve a.legs.first a.ladder-1.now a.schedules 6 first.push_leg-one.ensures.value first.push_leg-one.ensures.ladder_after (omega arith)
 
 pub push_leg-requires : goal.push_leg-requires
 push_leg-requires c =
@@ -18,8 +18,8 @@ push_leg-requires c =
     let first = after-ladder.before in
     let after-second = first.before.before.before in
     let a = after-second.args in
-    let left = room-left a.curve a.legs.first-1 a.ladder-1.now a.schedules 12 first.push_leg-one.ensures.value first.push_leg-one.ensures.ladder_after (omega arith) in
-    room-left a.curve a.legs.second-1 first.push_leg-one.new.0 first.push_leg-one.result 6 second.push_leg-two.ensures.value second.push_leg-two.ensures.ladder_after (omega (arith, left))
+    let left = room-left a.curve a.legs.first a.ladder-1.now a.schedules 12 first.push_leg-one.ensures.value first.push_leg-one.ensures.ladder_after (omega arith) in
+    room-left a.curve a.legs.second first.push_leg-one.new.0 first.push_leg-one.result 6 second.push_leg-two.ensures.value second.push_leg-two.ensures.ladder_after (omega (arith, left))
 
 pub returns : goal.returns
 returns c =

@@ -4,4 +4,4 @@ use Rattle.layout.proofs.Field.{field-add}
 use Rattle.layout.proofs.u32_at.Goals as goal
 
 pub returns : goal.returns
-returns c = omega record { value = arith; upper_bound = field-add 2 2 c.args.s.now c.args.at }
+returns c = omega (arith, field-add 2 2 c.args.s.now c.args.at)

@@ -21,4 +21,4 @@ returns c =
     let at = second.before.before in
     let both = at.factors-both.ensures in
     let a = at.args in
-    total a.days a.other-days at.rate_of.ensures.0 at.rate_of-2.ensures.0 both.0 both.2
+    total a.days a.other_days at.rate_of.ensures.0 at.rate_of-2.ensures.0 both.0 both.2

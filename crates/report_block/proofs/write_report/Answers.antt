@@ -14,4 +14,4 @@ returns c =
     let after-out = sealed.before.before.before in
     let fields = after-out.before in
     let s = fields.before.before.before in
-    rw sealed.seal.ensures (report-put s.args.out-1.now _ s.args.m (places s) s.requires fields.put_fields.ensures)
+    rw sealed.seal.ensures (report-put s.args.out.now _ s.args.m (places s) s.requires fields.put_fields.ensures)

@@ -68,7 +68,7 @@ write_page-requires c =
     let after-trade-count = measured.before.before in
     let made = after-trade-count.before.before in
     let s = start measured in
-    record { starts_with_book = (s.requires, made.margin_of_book-m.ensures); book_in_bounds = text-fits (page_of s.args.book.now) s.args.out-1.now (spacious free) }
+    record { starts_with_book = (s.requires, made.margin_of_book-m.ensures); book_in_bounds = text-fits (page_of s.args.book.now) s.args.out.now (spacious free) }
 
 pub returns : goal.returns
 returns c =

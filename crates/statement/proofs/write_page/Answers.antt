@@ -38,7 +38,7 @@ module _ (s : Start) where
   whole = ap (λ (x : Margin). page (curve_count book) x (records book)) s.requires.starts_with_book.1
 
   -- the parts have room
-  room : length (title_line m.account) + length (lines_of record_line 0 (records book)) + length (lines_of curve_line 1 (take (curve_count book) m.curves-1)) + length (lines_of (currency_part_of (take (curve_count book) m.curves-1)) 1 m.currencies-1) ≤ length s.args.out-1.now
+  room : length (title_line m.account) + length (lines_of record_line 0 (records book)) + length (lines_of curve_line 1 (take (curve_count book) m.curves-1)) + length (lines_of (currency_part_of (take (curve_count book) m.curves-1)) 1 m.currencies-1) ≤ length s.args.out.now
   room = omega (arith, ap length whole, length-parts-of (curve_count book) m (records book), s.requires.book_in_bounds)
 
 pub curve_count-count-requires : goal.curve_count-count-requires

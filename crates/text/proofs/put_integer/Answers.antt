@@ -39,7 +39,7 @@ returns-then-v-lt0 c =
     let sized = negative.before in
     let s = start sized in
     let digits = rw (size_is sized) at wrote.put_digits.ensures in
-    let all = and_then (written_byte s.args.out-1.now s.args.at 45) digits in
+    let all = and_then (written_byte s.args.out.now s.args.at 45) digits in
     record { text_written = rw (sign-negative decimal_of _ (rw (code_read _ s.ranges.v) at negative.if-v-lt0.true)) all; upper_bound = omega (arith, digits.place, short sized) }
 
 pub put_digits-requires-2 : goal.put_digits-requires-2

@@ -32,14 +32,14 @@ returns-then-not-is_accepted c =
     let turn = inside c.before in
     let l = turn.loop-i in
     let e = judged c.before in
-    let stop = rw e at (sym c.is_accepted.ensures ∙ not-true _ c.if-not-is_accepted.true) in
+    let stop = rw e at (sym c.is_accepted.ensures ∙ c.if-not-is_accepted.true) in
     e ∙ sym (l.inv.1 ∙ first-stopped _ l.i _ turn.loop-i-test.taken stop)
 
 pub loop-i-preserved : goal.loop-i-preserved
 loop-i-preserved c =
     let turn = inside c.before in
     let l = turn.loop-i in
-    let pass = rw (judged c.before) at (sym c.is_accepted.ensures ∙ not-false _ c.if-not-is_accepted.false) in
+    let pass = rw (judged c.before) at (sym c.is_accepted.ensures ∙ c.if-not-is_accepted.false) in
     (omega arith, l.inv.1 ∙ first-passed _ l.i _ turn.loop-i-test.taken pass)
 
 pub returns : goal.returns

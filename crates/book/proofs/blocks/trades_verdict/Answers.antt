@@ -34,18 +34,18 @@ unfolding trades_verdict
 returns-then-not-is_accepted c =
     let v = c.before.before in
     let e = so_far v in
-    e ∙ sym (stops _ _ (rw e at (sym c.is_accepted.ensures ∙ not-true _ c.if-not-is_accepted.true)))
+    e ∙ sym (stops _ _ (rw e at (sym c.is_accepted.ensures ∙ c.if-not-is_accepted.true)))
 
 pub records_verdict-requires : goal.records_verdict-requires
 records_verdict-requires c =
     let v = c.before.before in
     let a = (start v).args in
-    let accepted = sym (so_far v) ∙ is-accepted _ (sym c.is_accepted.ensures ∙ not-false _ c.if-not-is_accepted.false) in
+    let accepted = sym (so_far v) ∙ is-accepted _ (sym c.is_accepted.ensures ∙ c.if-not-is_accepted.false) in
     (search rules, (traded _ _ (unbroken a.k (trades_rules a.b.now a.k a.last) accepted 2)).count.most)
 
 pub returns : goal.returns
 unfolding trades_verdict
 returns c =
     let told = c.before.before in
-    let accepted = sym (so_far told.before) ∙ is-accepted _ (sym told.is_accepted.ensures ∙ not-false _ c.if-not-is_accepted.false) in
+    let accepted = sym (so_far told.before) ∙ is-accepted _ (sym told.is_accepted.ensures ∙ c.if-not-is_accepted.false) in
     c.records_verdict.ensures ∙ rw accepted

@@ -11,11 +11,11 @@ use Rattle.book.proofs.rules.breaks_trade_block.Goals.{Else-not-count_fits}
 pub returns-then-not-count_fits : goal.returns-then-not-count_fits
 unfolding breaks_trade_block
 returns-then-not-count_fits c =
-    rw (← c.record_count-n.ensures.value, ← c.count_fits.ensures, not-true c.count_fits.result c.if-not-count_fits.true)
+    rw (← c.record_count-n.ensures.value, ← c.count_fits.ensures, c.if-not-count_fits.true)
 
 -- past the first test the count is at most 9
 few : (c : Else-not-count_fits) → let count = c.before.before in Counted count.record_count-n.result count.args.last
-few c = counted _ _ (sym c.count_fits.ensures ∙ not-false _ c.if-not-count_fits.false)
+few c = counted _ _ (sym c.count_fits.ensures ∙ c.if-not-count_fits.false)
 
 pub record_place-requires : goal.record_place-requires
 record_place-requires c = (few c).most
@@ -30,7 +30,7 @@ returns c =
     rw (
       ← fits.record_count-n.ensures.value,
       ← fits.count_fits.ensures,
-      not-false fits.count_fits.result c.if-not-count_fits.false,
+      c.if-not-count_fits.false,
       c.zeros.ensures,
       c.record_place.ensures,
     )

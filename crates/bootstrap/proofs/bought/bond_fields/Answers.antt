@@ -9,7 +9,7 @@ use Rattle.bootstrap.proofs.bought.bond_fields.Goals as goal
 
 pub copy_in-requires : goal.copy_in-requires
 copy_in-requires c =
-    let long : length c.args.q.bond-1 ≡ 20 = search rules in
+    let long : length c.args.q.bond ≡ 20 = search rules in
     omega arith
 
 pub returns : goal.returns

@@ -8,14 +8,14 @@ use Rattle.curve_block.proofs.rules.breaks_curve.Goals as goal
 
 pub returns-then-not-numbers_sound : goal.returns-then-not-numbers_sound
 unfolding breaks_curve
-returns-then-not-numbers_sound c = rw (← c.numbers_sound.ensures, not-true c.numbers_sound.result c.if-not-numbers_sound.true)
+returns-then-not-numbers_sound c = rw (← c.numbers_sound.ensures, c.if-not-numbers_sound.true)
 
 pub unnamed_zero-requires : goal.unnamed_zero-requires
 unnamed_zero-requires c =
     let s = c.before.before.before in
-    let kept = sym c.numbers_sound.ensures ∙ not-false c.numbers_sound.result c.if-not-numbers_sound.false in
+    let kept = sym c.numbers_sound.ensures ∙ c.if-not-numbers_sound.false in
     (s.requires, count_most s.args.b.now s.args.k kept)
 
 pub returns : goal.returns
 unfolding breaks_curve
-returns c = rw (← c.numbers_sound.ensures, not-false c.numbers_sound.result c.if-not-numbers_sound.false, ← c.unnamed_zero.ensures)
+returns c = rw (← c.numbers_sound.ensures, c.if-not-numbers_sound.false, ← c.unnamed_zero.ensures)

@@ -34,7 +34,7 @@ returns-then-not-node_sound c =
     let b = at-loop.args.b.now in
     let sound = sound-is b at-loop.loop-i.i _ _ c.node_sound.result at-loop.loop-i.invariant.2 c.Node-at.ensures c.node_sound.ensures in
     sym (at-loop.loop-i.invariant.3
-    ∙ rw (every-failed (sound_at b) at-loop.loop-i.i _ c.loop-i-test.true (sym sound ∙ not-true c.node_sound.result c.if-not-node_sound.true)))
+    ∙ rw (every-failed (sound_at b) at-loop.loop-i.i _ c.loop-i-test.true (sym sound ∙ c.if-not-node_sound.true)))
 
 pub loop-i-preserved : goal.loop-i-preserved
 loop-i-preserved c =
@@ -46,7 +46,7 @@ loop-i-preserved c =
       search rules,
       day-next b at-loop.loop-i.i c.Node-at.result c.Node-at.ensures,
       at-loop.loop-i.invariant.3
-          ∙ rw (every-passed (sound_at b) at-loop.loop-i.i _ c.loop-i-test.true (sym sound ∙ not-false c.node_sound.result c.if-not-node_sound.false)),
+          ∙ rw (every-passed (sound_at b) at-loop.loop-i.i _ c.loop-i-test.true (sym sound ∙ c.if-not-node_sound.false)),
     )
 
 pub returns : goal.returns

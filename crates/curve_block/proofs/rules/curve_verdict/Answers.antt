@@ -34,7 +34,7 @@ returns-then-not-is_accepted c =
     let v = c.before.before in
     let a = (start v).args in
     let rules = curve_rules a.b.now a.k in
-    stopped a.k (drop 3 rules) (so_far v) (sym c.is_accepted.ensures ∙ not-true _ c.if-not-is_accepted.true) ∙ in-turn Accepted a.k rules
+    stopped a.k (drop 3 rules) (so_far v) (sym c.is_accepted.ensures ∙ c.if-not-is_accepted.true) ∙ in-turn Accepted a.k rules
 
 pub breaks_node-requires : goal.breaks_node-requires
 breaks_node-requires c =
@@ -42,7 +42,7 @@ breaks_node-requires c =
     let s = start v in
     let b = s.args.b.now in
     let k = s.args.k in
-    let kept = passed k (take 3 (curve_rules b k)) (so_far v) (sym c.is_accepted.ensures ∙ not-false _ c.if-not-is_accepted.false) in
+    let kept = passed k (take 3 (curve_rules b k)) (so_far v) (sym c.is_accepted.ensures ∙ c.if-not-is_accepted.false) in
     (s.requires, count_most b k (numbers-kept b k (kept 2)))
 
 pub returns : goal.returns

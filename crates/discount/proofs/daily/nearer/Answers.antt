@@ -16,13 +16,13 @@ module _ (s : Start) where
   abbrev q : ℕ
   q = s.args.q.0
 
-  too_large : y < s.args.ends.low-1.0 → root y < q
+  too_large : y < s.args.ends.low.0 → root y < q
   too_large h = root-lt y q (omega (arith, s.requires.2.low-is))
 
-  too_small : s.args.ends.high-1.0 ≤ y → (q + 1 ≤ root y) × (root y < unit)
+  too_small : s.args.ends.high.0 ≤ y → (q + 1 ≤ root y) × (root y < unit)
   too_small h = (root_ge y (q + 1) (omega arith) (omega (arith, s.requires.2.high_is)), root_below y s.requires.0)
 
-  right : s.args.ends.low-1.0 ≤ y → y < s.args.ends.high-1.0 → root y ≡ q
+  right : s.args.ends.low.0 ≤ y → y < s.args.ends.high.0 → root y ≡ q
   right l h = root_is y q (omega arith) (omega (arith, s.requires.2.low-is)) (omega (arith, s.requires.2.high_is))
 
 pub overflow_sub-less : goal.overflow_sub-less

@@ -11,7 +11,7 @@ pub day_powers-powers-requires : goal.day_powers-powers-requires
 unfolding unit year
 day_powers-powers-requires c =
     let z = c.yearly-z.result.0 in
-    omega (arith, eqb-false z 1000000000000 c.if-b-eq-UNIT.false)
+    omega (arith, c.if-b-eq-UNIT.false)
 
 pub compound-requires : goal.compound-requires
 compound-requires c =
@@ -32,6 +32,6 @@ returns c =
     let a = known.args in (
       factor-is a.rate a.days known.yearly-y.ensures.0 at.day_powers-powers.ensures.0 c.compound.ensures.0,
       c.compound.ensures.1,
-      factor-is a.other-rate a.other-days known.yearly-z.ensures.0 at.day_powers-powers.ensures.2 c.compound-2.ensures.0,
+      factor-is a.other_rate a.other_days known.yearly-z.ensures.0 at.day_powers-powers.ensures.2 c.compound-2.ensures.0,
       c.compound-2.ensures.1,
     )

@@ -11,15 +11,15 @@ pub returns-then-not-is_accepted : goal.returns-then-not-is_accepted
 unfolding append_verdict
 returns-then-not-is_accepted c =
     let e = c.check-v.ensures in
-    e ∙ sym (stops _ _ (rw e at (sym c.is_accepted.ensures ∙ not-true _ c.if-not-is_accepted.true)))
+    e ∙ sym (stops _ _ (rw e at (sym c.is_accepted.ensures ∙ c.if-not-is_accepted.true)))
 
 pub new_record_verdict-requires : goal.new_record_verdict-requires
 new_record_verdict-requires c =
-    (book-accepted _ _ _ (sym c.check-v.ensures ∙ is-accepted _ (sym c.is_accepted.ensures ∙ not-false _ c.if-not-is_accepted.false))).blocks
+    (book-accepted _ _ _ (sym c.check-v.ensures ∙ is-accepted _ (sym c.is_accepted.ensures ∙ c.if-not-is_accepted.false))).blocks
 
 pub returns : goal.returns
 unfolding append_verdict
 returns c =
     let told = c.before.before in
-    let accepted = sym told.check-v.ensures ∙ is-accepted _ (sym told.is_accepted.ensures ∙ not-false _ c.if-not-is_accepted.false) in
+    let accepted = sym told.check-v.ensures ∙ is-accepted _ (sym told.is_accepted.ensures ∙ c.if-not-is_accepted.false) in
     c.new_record_verdict.ensures ∙ rw accepted

@@ -14,11 +14,11 @@ pub returns-then-not-is_accepted : goal.returns-then-not-is_accepted
 unfolding position_verdict
 returns-then-not-is_accepted c =
     let e = c.check-v.ensures in
-    e ∙ sym (stops _ _ (rw e at (sym c.is_accepted.ensures ∙ not-true _ c.if-not-is_accepted.true)))
+    e ∙ sym (stops _ _ (rw e at (sym c.is_accepted.ensures ∙ c.if-not-is_accepted.true)))
 
 pub breaks_position-requires : goal.breaks_position-requires
 breaks_position-requires c =
-    let accepted = is-accepted _ (sym c.is_accepted.ensures ∙ not-false _ c.if-not-is_accepted.false) in
+    let accepted = is-accepted _ (sym c.is_accepted.ensures ∙ c.if-not-is_accepted.false) in
     let b = sound _ _ (book-accepted _ _ _ (sym c.check-v.ensures ∙ accepted)).blocks in
     omega arith
 

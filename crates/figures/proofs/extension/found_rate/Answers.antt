@@ -48,7 +48,7 @@ unfolding rate_found
 returns-then-not-is_accepted c =
     let called = c.before.before.before in
     let e : is_accepted (bootstrap_verdict known_book 1024 0 bond_quote) ≡ false =
-    ap is_accepted (sym (judged called)) ∙ sym c.is_accepted.ensures ∙ not-true _ c.if-not-is_accepted.true in
+    ap is_accepted (sym (judged called)) ∙ sym c.is_accepted.ensures ∙ c.if-not-is_accepted.true in
     rw e
 
 pub returns : goal.returns
@@ -57,5 +57,5 @@ returns c =
     let passed = c.before.before in
     let called = let told = passed.before in told.before.before in
     let e : is_accepted (bootstrap_verdict known_book 1024 0 bond_quote) ≡ true =
-    ap is_accepted (sym (judged called)) ∙ sym passed.is_accepted.ensures ∙ not-false _ passed.if-not-is_accepted.false in
+    ap is_accepted (sym (judged called)) ∙ sym passed.is_accepted.ensures ∙ passed.if-not-is_accepted.false in
     c.u32_at.ensures.value ∙ ap (λ (b : List ℕ). u32_at b 576) (written called) ∙ rw e

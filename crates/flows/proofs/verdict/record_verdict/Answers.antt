@@ -40,7 +40,7 @@ returns-then-not-is_accepted c =
     let v = c.before.before in
     let a = (start v).args in
     let rules = record_rules a.curves a.f in
-    stopped a.block (drop 4 rules) (so_far v) (sym c.is_accepted.ensures ∙ not-true _ c.if-not-is_accepted.true) ∙ in-turn Accepted a.block rules
+    stopped a.block (drop 4 rules) (so_far v) (sym c.is_accepted.ensures ∙ c.if-not-is_accepted.true) ∙ in-turn Accepted a.block rules
 
 -- the rules 8, 9 and 10 were tested before, so that no amount overflows
 pub breaks_flow_limit-requires : goal.breaks_flow_limit-requires
@@ -48,7 +48,7 @@ breaks_flow_limit-requires c =
     let told = c.before.before in
     let v = told.before in
     let a = (start v).args in
-    let kept = passed a.block (take 4 (record_rules a.curves a.f)) (so_far v) (sym told.is_accepted.ensures ∙ not-false _ c.if-not-is_accepted.false) in
+    let kept = passed a.block (take 4 (record_rules a.curves a.f)) (so_far v) (sym told.is_accepted.ensures ∙ c.if-not-is_accepted.false) in
     rw c.trade_of.ensures (trade-limits a.f (sound-record a.curves a.f (kept 0) (kept 1) (kept 2)))
 
 pub returns : goal.returns

@@ -34,10 +34,10 @@ module _ (c : After-factors-both) where
   abbrev nodes : List Node
   nodes = nodes_of start.args.curve
 
-  first : c.factors-both.result.first-1.0 ≡ factor (rate_at nodes start.args.f.day) start.args.f.day
+  first : c.factors-both.result.first.0 ≡ factor (rate_at nodes start.args.f.day) start.args.f.day
   first = c.factors-both.ensures.0 ∙ ap (λ (r : ℕ). factor r start.args.f.day) c.rate_at.ensures
 
-  second : c.factors-both.result.second-1.0 ≡ factor (rate_at nodes start.args.g.day) start.args.g.day
+  second : c.factors-both.result.second.0 ≡ factor (rate_at nodes start.args.g.day) start.args.g.day
   second = c.factors-both.ensures.2 ∙ ap (λ (r : ℕ). factor r start.args.g.day) c.rate_at-2.ensures
 
 -- where they are kept

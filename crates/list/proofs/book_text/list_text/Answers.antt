@@ -39,13 +39,13 @@ module _ (c : Else-breaks_space) where
   length-is : c.put_listing-n.result ≡ length whole
   length-is = c.put_listing-n.ensures.value
 
-  spacious : breaks_space (length whole) (length start.args.out-1.now) ≡ false
+  spacious : breaks_space (length whole) (length start.args.out.now) ≡ false
   spacious = rw length-is at (sym c.breaks_space.ensures ∙ c.if-breaks_space.false)
 
 pub copy_in-requires : goal.copy_in-requires
 copy_in-requires c =
     let free = c.before.before in
-    simp length-take (omega (arith, length-is free, text-fits (whole free) (start free).args.out-1.now (spacious free)))
+    simp length-take (omega (arith, length-is free, text-fits (whole free) (start free).args.out.now (spacious free)))
 
 pub returns : goal.returns
 unfolding list_answer list_bytes
@@ -53,7 +53,7 @@ returns c =
     let written = c.before.before in
     let free = written.before.before.before in
     let wrote = free.before.before.before in
-    let out = (start free).args.out-1.now in
+    let out = (start free).args.out.now in
     let rest : List ℕ = drop wrote.put_listing-n.result (replicate 1481 0) in
     let put = text-copied (whole free) out rest (length-is free) wrote.put_listing-n.ensures.out_after (text-fits (whole free) out (spacious free)) written.copy_in.ensures in
     let p = text_in-front (whole free) out (spacious free) (length-is free) put in

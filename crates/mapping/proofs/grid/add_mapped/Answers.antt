@@ -22,7 +22,7 @@ add_flow-requires-2 c =
     let s = start after-add in
     let f = s.args.f in
     let k = s.args.k in
-    let nets = s.args.nets-1.now in
+    let nets = s.args.nets.now in
     rw (after-add.add_flow.ensures, after-add.first_flow.ensures, c.last_flow.ensures)
     (one-length f k s.requires.1 s.requires.2 nets s.requires.0.places, last-limits f k s.requires.1 s.requires.2, omega (arith, one-moved f k s.requires.1 s.requires.2 nets s.requires.0.places k.last, s.requires.0.each k.last, s.requires.1.amount))
 
@@ -34,7 +34,7 @@ add_flow-requires-3 c =
     let s = start after-add in
     let f = s.args.f in
     let k = s.args.k in
-    let nets = s.args.nets-1.now in
+    let nets = s.args.nets.now in
     rw (after-add2.add_flow-2.ensures, after_last.last_flow.ensures, after-add.add_flow.ensures, after-add.first_flow.ensures, c.excess_flow.ensures)
     (two-length f k s.requires.1 s.requires.2 nets s.requires.0.places, excess-limits f k s.requires.1 s.requires.2, omega (arith, two-moved f k s.requires.1 s.requires.2 nets s.requires.0.places k.first, s.requires.0.each k.first, s.requires.1.amount))
 

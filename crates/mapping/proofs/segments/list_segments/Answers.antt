@@ -23,7 +23,7 @@ loop-i-init c =
     let after-put = c.before.before in
     let after-range = after-put.before in
     let start = after-range.before.before.before.before in
-    rw after-put.put_segment.ensures (listing-first _ start.requires.0 _ start.args.segments-1.now start.requires.2 _ (rw after-range.range_of.ensures (ranges _ _ _)))
+    rw after-put.put_segment.ensures (listing-first _ start.requires.0 _ start.args.segments.now start.requires.2 _ (rw after-range.range_of.ensures (ranges _ _ _)))
 
 -- a turn
 abbrev start : At-loop-i → Start

@@ -42,7 +42,7 @@ returns-then-same_rates c =
     let s = start here in
     let a = s.args in
     let e = rw (c.same_rates.ensures, here.curve_in.ensures, there.curve_in-2.ensures) at c.if-same_rates.true in
-    same-worse a.valued.position-1 a.ladder.now s.requires.0.limits a.worst s.requires.1 a.s e
+    same-worse a.valued.position a.ladder.now s.requires.0.limits a.worst s.requires.1 a.s e
 
 pub loss_of-requires : goal.loss_of-requires
 loss_of-requires c = let p = (start c.before.before.before).requires in (p.0, p.2)
@@ -52,7 +52,7 @@ module _ (c : After-loss_of) where
   entry = let tested = c.before.before in start tested.before.before
 
   -- the loss, read back from its bits
-  loss-is : read c.loss_of.result ≡ loss_at flow_value (exposure_of entry.args.valued.position-1 entry.args.ladder.now) entry.args.s
+  loss-is : read c.loss_of.result ≡ loss_at flow_value (exposure_of entry.args.valued.position entry.args.ladder.now) entry.args.s
   loss-is = loss-read _ _ entry.requires.0.limits _ _ c.loss_of.ensures
 
 pub worse-requires : goal.worse-requires

@@ -27,7 +27,7 @@ scenario_count-requires c = let given = c.before in given.requires.0.limits.stre
 pub least_of-least-requires : goal.least_of-least-requires
 least_of-least-requires c =
     let s = start c in
-    let x = s.args.valued.position-1.components-1 in
+    let x = s.args.valued.position.components-1 in
     rw c.scenario_count.ensures (scenarios-some x, omega (arith, s.requires.1.places, scenarios-most x s.requires.0.limits.stress))
 
 module _ (c : After-least_of-least) where
@@ -38,12 +38,12 @@ module _ (c : After-least_of-least) where
   lowest = get_or entry.args.values.now c.least_of-least.result (pos 0)
 
   -- the least estimate's place, and its size
-  least : Least entry.args.values.now (scenario_count entry.args.valued.position-1.components-1) c.least_of-least.result
+  least : Least entry.args.values.now (scenario_count entry.args.valued.position.components-1) c.least_of-least.result
   least = rw c.scenario_count.ensures at c.least_of-least.ensures
 
   index : c.least_of-least.result < length entry.args.values.now
   index =
-      omega (arith, least.within, entry.requires.1.places, scenarios-most entry.args.valued.position-1.components-1 entry.requires.0.limits.stress)
+      omega (arith, least.within, entry.requires.1.places, scenarios-most entry.args.valued.position.components-1 entry.requires.0.limits.stress)
 
   size : nat_abs lowest ≤ most_flows * unit + entry.args.deviation
   size = estimate-size _ _ entry.requires.0.limits _ _ entry.requires.1 _ least.within

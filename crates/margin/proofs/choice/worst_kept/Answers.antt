@@ -37,7 +37,7 @@ first c =
     rw (back s.args.limit s.ranges.limit.sfits) at c.first_kept-first.ensures.0
 
 -- in a turn, s is a scenario, and a place of the values
-within : (c : In-loop-s) → c.loop-s.s < scenario_count (start (counted c.before)).args.valued.position-1.components-1
+within : (c : In-loop-s) → c.loop-s.s < scenario_count (start (counted c.before)).args.valued.position.components-1
 within c = omega (arith, c.loop-s-test.true, (counted c.before).scenario_count-count.ensures)
 
 index : (c : In-loop-s) → c.loop-s.s < length (start (counted c.before)).args.values.now
@@ -107,7 +107,7 @@ pub returns : goal.returns
 returns c =
     let n = counted c.before in
     let s = start n in
-    let e : c.loop-s.s ≡ scenario_count s.args.valued.position-1.components-1 = omega (arith, c.loop-s.invariant.1, c.loop-s-test.false, n.scenario_count-count.ensures) in
+    let e : c.loop-s.s ≡ scenario_count s.args.valued.position.components-1 = omega (arith, c.loop-s.invariant.1, c.loop-s-test.false, n.scenario_count-count.ensures) in
     passed _ _ _ _ _ _ e (rw (back s.args.limit s.ranges.limit.sfits) at c.loop-s.invariant.0)
 
 pub offset_bounds-values-s : goal.offset_bounds-values-s

@@ -30,10 +30,10 @@ module _ (c : After-struct_told-2-1) where
   abbrev start : Start
   start = let given = stressed.before.before in given.before.before.before
 
-  loss-is : read start.args.valued.base -ℤ read stressed.value_of_lem.result.sum ≡ loss_at flow_value (exposure_of start.args.valued.position-1 start.args.ladder.now) start.args.s
+  loss-is : read start.args.valued.base -ℤ read stressed.value_of_lem.result.sum ≡ loss_at flow_value (exposure_of start.args.valued.position start.args.ladder.now) start.args.s
   loss-is = code-loss _ _ start.requires.0.limits _ _ _ _ start.requires.0.value stressed.curve_in-stressed.ensures stressed.value_of_lem.ensures
 
-  loss-fit : nat_abs (loss_at flow_value (exposure_of start.args.valued.position-1 start.args.ladder.now) start.args.s) < 2 ^ 63
+  loss-fit : nat_abs (loss_at flow_value (exposure_of start.args.valued.position start.args.ladder.now) start.args.s) < 2 ^ 63
   loss-fit = losses-fit _ _ start.requires.0.limits _
 
 pub overflow_sub-result : goal.overflow_sub-result

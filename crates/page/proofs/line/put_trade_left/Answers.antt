@@ -13,10 +13,10 @@ use Rattle.page.proofs.line.put_trade_left.Goals.{Start}
 
 -- of one digit each
 module _ (s : Start) where
-  short-kind : length (decimal_of s.args.f.form-1.kind) ≤ 1
+  short-kind : length (decimal_of s.args.f.form.kind) ≤ 1
   short-kind = length-kind s.args.position s.args.f s.requires.1
 
-  short-side : length (decimal_of s.args.f.form-1.side) ≤ 1
+  short-side : length (decimal_of s.args.f.form.side) ≤ 1
   short-side = length-side s.args.position s.args.f s.requires.1
 
   short-position : length (decimal_of s.args.position) ≤ 20

@@ -13,23 +13,23 @@ use Rattle.record.proofs.rules.coupon_days_fit.Goals as goal
 use Rattle.record.proofs.rules.coupon_days_fit.Goals.{Else-not-in_reach}
 
 pub returns-then-not-counts_fit : goal.returns-then-not-counts_fit
-returns-then-not-counts_fit c = rw (← c.counts_fit.ensures, not-true c.counts_fit.result c.if-not-counts_fit.true)
+returns-then-not-counts_fit c = rw (← c.counts_fit.ensures, c.if-not-counts_fit.true)
 
 -- a schedule that starts out of reach does not fit
 pub returns-then-not-in_reach : goal.returns-then-not-in_reach
 returns-then-not-in_reach c =
     let after-counts-fit = c.before.before.before in
     let a = after-counts-fit.args in
-    let e : leb a.first last_day ≡ false = sym c.in_reach.ensures ∙ not-true _ c.if-not-in_reach.true in
+    let e : leb a.first last_day ≡ false = sym c.in_reach.ensures ∙ c.if-not-in_reach.true in
     let l = leb-false a.first last_day e in
     rw (lt-leb (last_payment_day a.first a.period a.payments) last_day (omega arith), and-false)
 
 module _ (c : Else-not-in_reach) where
   counted : let count = c.before.before.before in counts_fit count.args.period count.args.payments ≡ true
-  counted = sym c.counts_fit.ensures ∙ not-false _ c.if-not-counts_fit.false
+  counted = sym c.counts_fit.ensures ∙ c.if-not-counts_fit.false
 
   near : let count = c.before.before.before in leb count.args.first last_day ≡ true
-  near = sym c.in_reach.ensures ∙ not-false _ c.if-not-in_reach.false
+  near = sym c.in_reach.ensures ∙ c.if-not-in_reach.false
 
 pub last_payment_day-requires : goal.last_payment_day-requires
 last_payment_day-requires c =

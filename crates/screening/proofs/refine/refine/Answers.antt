@@ -92,7 +92,7 @@ module _ (c : Joined-v-limit) where
   abbrev limit : ℤ
   limit = (at-loop turn).value_in-limit.result
 
-  written : to_z w64 c.if-v-limit.v-1 ≡ refined_value here.args.curve here.args.components here.args.nets.now (read limit) (at-loop turn).loop-s.s (value turn)
+  written : to_z w64 c.if-v-limit.v ≡ refined_value here.args.curve here.args.components here.args.nets.now (read limit) (at-loop turn).loop-s.s (value turn)
   written =
       let x = here.args.components in
       let nets = here.args.nets.now in

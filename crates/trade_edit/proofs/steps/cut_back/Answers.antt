@@ -55,4 +55,4 @@ shape_of-book c =
     let cleared = after-put-trade-blocks-arg.before.before.before in
     let counted = cleared.before.before.before in
     let start = counted.before.before.before in
-    ap length (returns c) ∙ length-cut_back start.args.book-1.now start.args.used start.args.n
+    ap length (returns c) ∙ length-cut_back start.args.book.now start.args.used start.args.n

@@ -12,7 +12,7 @@ returns c =
     let filled = after-b2.before in
     let after-trade-blocks = filled.before.before.before in
     let start = after-trade-blocks.before.before.before in
-    grow-left start.args.book-1.now start.args.used start.args.r (omega (arith, start.requires))
+    grow-left start.args.book.now start.args.used start.args.r (omega (arith, start.requires))
     filled.trade_blocks-blocks.ensures.value
     filled.bare_block-b.ensures
     filled.put_record.ensures

@@ -41,7 +41,7 @@ loop-i-preserved c =
       omega arith,
       (
         moved.move_record.auto.0 ∙ inv.1.0,
-        inv.1.1 ∙ run_step (record_moved _) at-loop.loop-i.i start.args.left at-loop.loop-i.book-1 l ∙ rw (moved.move_record.ensures, moved.place_of-in-loop-i.ensures, moved.place_of.ensures),
+        inv.1.1 ∙ run_step (record_moved _) at-loop.loop-i.i start.args.left at-loop.loop-i.book l ∙ rw (moved.move_record.ensures, moved.place_of-in-loop-i.ensures, moved.place_of.ensures),
       ),
     )
 

@@ -24,7 +24,7 @@ loop-k-preserved c =
     let start = at-loop.before.before in
     let inv = at-loop.loop-k.invariant in
     let k = at-loop.loop-k.k in
-    let book = at-loop.loop-k.book-1 in
+    let book = at-loop.loop-k.book in
     let l : k < start.args.to = in-loop.loop-k-test.true in
     let done = block-left sealed length-sealed book (k * 512) (omega (arith, inv.0, start.requires)) (rw add-sub_cancel_left at sealing.seal.ensures) in (
       rw add-sub_cancel_left (ap length done ∙ length-on_block sealed book (k * 512) ∙ inv.0),
