@@ -24,6 +24,4 @@ valuation_day-requires c =
 pub returns : goal.returns
 unfolding book_verdict
 returns c =
-    let day = c.before.before in
-    let checked = day.before.before.before in
-    also ValuationDay 0 checked.blocks_verdict-v.ensures (rw day.valuation_day.ensures at c.breaks_valuation_day.ensures) c.or_if.ensures
+    also ValuationDay 0 c.blocks_verdict-v.ensures (rw c.valuation_day.ensures at c.breaks_valuation_day.ensures) c.or_if.ensures

@@ -13,18 +13,16 @@ loop-k-init c = (omega arith, refl)
 
 pub returns-then-not-is_accepted : goal.returns-then-not-is_accepted
 returns-then-not-is_accepted c =
-    let turn = c.before.before.before in
-    let l = turn.loop-k in
+    let l = c.loop-k in
     let e = c.block_verdict-v.ensures in
     let stop = rw e at (sym c.is_accepted.ensures ∙ c.if-not-is_accepted.true) in
-    e ∙ sym (l.invariant.1 ∙ first-stopped _ l.k _ turn.loop-k-test.true stop)
+    e ∙ sym (l.invariant.1 ∙ first-stopped _ l.k _ c.loop-k-test.true stop)
 
 pub loop-k-preserved : goal.loop-k-preserved
 loop-k-preserved c =
-    let turn = c.before.before.before in
-    let l = turn.loop-k in
+    let l = c.loop-k in
     let pass = rw c.block_verdict-v.ensures at (sym c.is_accepted.ensures ∙ c.if-not-is_accepted.false) in
-    (omega arith, l.invariant.1 ∙ first-passed _ l.k _ turn.loop-k-test.true pass)
+    (omega arith, l.invariant.1 ∙ first-passed _ l.k _ c.loop-k-test.true pass)
 
 pub returns : goal.returns
 returns c = sym (c.loop-k.invariant.1 ∙ first-end _ _ _ c.loop-k-test.false)

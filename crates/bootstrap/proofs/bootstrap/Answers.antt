@@ -57,9 +57,7 @@ add_node-requires c =
 pub returns-in-Refused : goal.returns-in-Refused
 unfolding bootstrapped
 returns-in-Refused c =
-    let d = c.before in
-    let decided = d.before.before in
-    let e = decided-refused _ _ _ _ (sym decided.decided-d.ensures ∙ d.in-Refused.is) in
+    let e = decided-refused _ _ _ _ (sym c.decided-d.ensures ∙ c.in-Refused.is) in
     record { value = sym e; book_after = rw e }
 
 pub returns-in-Add : goal.returns-in-Add

@@ -13,36 +13,30 @@ overflow_sub-gone c = let h = c.requires in rw (code-gone _ _ _ h) (fits _ (omeg
 
 pub overflow_sub-run : goal.overflow_sub-run
 overflow_sub-run c =
-    let after-struct-known = c.before.before.before in
-    let h = after-struct-known.requires in
+    let h = c.requires in
     rw (code-run _ _ _ h) (fits _ (omega (arith, run-size _ _ _ h)))
 
 pub overflow_mul-result : goal.overflow_mul-result
 overflow_mul-result c =
-    let after-struct-known = c.before.before.before in
-    let h = after-struct-known.requires in
+    let h = c.requires in
     rw (code-product _ _ _ h) (fits _ (omega (arith, product-size _ _ _ h)))
 
 pub nonzero_div-result : goal.nonzero_div-result
 nonzero_div-result c =
-    let after-struct-known = c.before.before.before in
-    let h = after-struct-known.requires in
+    let h = c.requires in
     (rw (code-run _ _ _ h, run_is _ _ _ h.2) (omega arith), rw (code-quot _ _ _ h) (fits _ (omega (arith, quot-size _ _ _ h))))
 
 pub overflow_add-result : goal.overflow_add-result
 overflow_add-result c =
-    let after-struct-known = c.before.before.before in
-    let h = after-struct-known.requires in
+    let h = c.requires in
     rw (code-interpolated _ _ _ h) (fits _ (omega (arith, interpolated-size _ _ _ h)))
 
 pub overflow_cast-result : goal.overflow_cast-result
 overflow_cast-result c =
-    let after-struct-known = c.before.before.before in
-    let h = after-struct-known.requires in
+    let h = c.requires in
     rw (code-interpolated _ _ _ h) (to-u64 _ (interpolated-is _ _ _ h.2) (omega (arith, interpolated-size _ _ _ h)))
 
 pub returns : goal.returns
 returns c =
-    let after-struct-known = c.before.before.before in
-    let h = after-struct-known.requires in
+    let h = c.requires in
     rw (code-interpolated _ _ _ h, interpolated-read _ _ _ h)

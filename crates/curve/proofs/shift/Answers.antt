@@ -8,63 +8,40 @@ use Rattle.curve.proofs.shift.Goals as goal
 
 pub overflow_mul-sum : goal.overflow_mul-sum
 overflow_mul-sum c =
-    let after-struct-known = c.before.before.before in
-    let h = after-struct-known.requires in
+    let h = c.requires in
     rw (code-first _ _ h) (fits _ (omega (arith, first-size _ _ h)))
 
 pub overflow_mul-sum-2 : goal.overflow_mul-sum-2
 overflow_mul-sum-2 c =
-    let after-struct-known3 = c.before.before.before in
-    let after-struct-told = after-struct-known3.before.before.before in
-    let h = after-struct-told.requires in
+    let h = c.requires in
     rw (code-second _ _ h) (fits _ (omega (arith, second-size _ _ h)))
 
 pub overflow_add-sum : goal.overflow_add-sum
 overflow_add-sum c =
-    let after-struct-known3 = c.before.before.before in
-    let after-struct-told = after-struct-known3.before.before.before in
-    let h = after-struct-told.requires in
+    let h = c.requires in
     rw (code-two _ _ h) (fits _ (omega (arith, two_size _ _ h)))
 
 pub overflow_mul-sum-3 : goal.overflow_mul-sum-3
 overflow_mul-sum-3 c =
-    let after-struct-known5 = c.before.before.before in
-    let after-struct-told3 = after-struct-known5.before.before.before in
-    let after-struct-known2 = after-struct-told3.before.before.before in
-    let h = after-struct-known2.requires in
+    let h = c.requires in
     rw (code-third _ _ h) (fits _ (omega (arith, third-size _ _ h)))
 
 pub overflow_add-sum-2 : goal.overflow_add-sum-2
 overflow_add-sum-2 c =
-    let after-struct-known5 = c.before.before.before in
-    let after-struct-told3 = after-struct-known5.before.before.before in
-    let after-struct-known2 = after-struct-told3.before.before.before in
-    let h = after-struct-known2.requires in
+    let h = c.requires in
     rw (code-three _ _ h) (fits _ (omega (arith, three-size _ _ h)))
 
 pub nonzero_div-result : goal.nonzero_div-result
 nonzero_div-result c =
-    let after-struct-told5 = c.before.before.before in
-    let after-struct-known4 = after-struct-told5.before.before.before in
-    let after-struct-told2 = after-struct-known4.before.before.before in
-    let after-struct-known = after-struct-told2.before.before.before in
-    let h = after-struct-known.requires in
+    let h = c.requires in
     (lit< tt, rw (code-hundredth _ _ h) (fits _ (omega (arith, hundredth-size _ _ h))))
 
 pub overflow_add-result : goal.overflow_add-result
 overflow_add-result c =
-    let after-struct-told5 = c.before.before.before in
-    let after-struct-known4 = after-struct-told5.before.before.before in
-    let after-struct-told2 = after-struct-known4.before.before.before in
-    let after-struct-known = after-struct-told2.before.before.before in
-    let h = after-struct-known.requires in
+    let h = c.requires in
     rw (code-shifted _ _ h) (fits _ (omega (arith, shifted-size _ _ h)))
 
 pub returns : goal.returns
 returns c =
-    let after-struct-told5 = c.before.before.before in
-    let after-struct-known4 = after-struct-told5.before.before.before in
-    let after-struct-told2 = after-struct-known4.before.before.before in
-    let after-struct-known = after-struct-told2.before.before.before in
-    let h = after-struct-known.requires in
+    let h = c.requires in
     rw (code-shifted _ _ h) (read_is _ (omega (arith, shifted-size _ _ h)))

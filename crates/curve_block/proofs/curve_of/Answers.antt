@@ -17,21 +17,19 @@ loop-i-init c = (search rules, refl, λ k l. absurd (omega arith))
 
 pub loop-i-preserved : goal.loop-i-preserved
 loop-i-preserved c =
-    let at-loop = c.before.before in
-    let i = at-loop.loop-i.i in
-    let nodes = at-loop.loop-i.nodes in (
+    let i = c.loop-i.i in
+    let nodes = c.loop-i.nodes in (
       search rules,
-      simp length-set at-loop.loop-i.invariant.1,
+      simp length-set c.loop-i.invariant.1,
       below_more _ i
-          (λ k l. get_or-set_other nodes i k c.Node-at.result zero_node (λ e. omega arith) ∙ at-loop.loop-i.invariant.2 k l)
-          (get_or-set_same nodes i c.Node-at.result zero_node (omega arith) ∙ c.Node-at.ensures),
+          (λ k l. get_or-set_other nodes i k c.node_at-node.result zero_node (λ e. omega arith) ∙ c.loop-i.invariant.2 k l)
+          (get_or-set_same nodes i c.node_at-node.result zero_node (omega arith) ∙ c.node_at-node.ensures),
     )
 
 pub returns : goal.returns
 unfolding curve_of
 returns c =
-    let after-shared-slice-known = c.before.before.before in
-    let b = after-shared-slice-known.args.b.now in
+    let b = c.args.b.now in
     let inv = c.loop-i.invariant in
     let done : c.loop-i.i ≡ 24 = omega arith in
     rw (

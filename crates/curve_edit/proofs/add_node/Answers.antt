@@ -11,16 +11,9 @@ seal-requires c = simp length-set (omega arith)
 
 pub shape_of-b : goal.shape_of-b
 shape_of-b c =
-    let after-seal-arg = c.before.before.before in
-    let put = after-seal-arg.before.before.before in
-    c.seal.auto.0 ∙ rw length-set put.put_node.auto.0
+    c.seal.auto.0 ∙ rw length-set c.put_node.auto.0
 
 pub returns : goal.returns
 unfolding with_node
 returns c =
-    let sealed = c.before.before in
-    let after-slice-known2 = sealed.before.before in
-    let put = after-slice-known2.before.before in
-    let placed = put.before in
-    let counted = placed.before.before in
-    rw (sealed.seal.ensures, put.put_node.ensures, placed.node_place.ensures, counted.node_count-count.ensures)
+    rw (c.seal.ensures, c.put_node.ensures, c.node_place.ensures, c.node_count-count.ensures)

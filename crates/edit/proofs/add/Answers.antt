@@ -19,70 +19,52 @@ trade_count-place-requires c = let b = sound _ _ c.requires.0 in omega arith
 
 pub grow-requires : goal.grow-requires
 grow-requires c =
-    let counted = c.before.before in
-    let given = counted.requires in
+    let given = c.requires in
     let w = record-admitted _ _ _ given.0 given.1 in
     let b = sound _ _ w.accepted in
-    let r = room _ _ _ w.roomy (ap (λ (n : ℕ). n % 9) (sym counted.trade_count-place.ensures) ∙ c.if-place-eq0.true) in
+    let r = room _ _ _ w.roomy (ap (λ (n : ℕ). n % 9) (sym c.trade_count-place.ensures) ∙ c.if-place-eq0.true) in
     omega arith
 
 pub overflow_add-result : goal.overflow_add-result
 overflow_add-result c =
-    let after-grow-arg = c.before.before.before in
-    let after-trade-count-arg = after-grow-arg.before.before.before in
-    let start = after-trade-count-arg.before.before in
-    let b = sound _ _ start.requires.0 in omega arith
+    let b = sound _ _ c.requires.0 in omega arith
 
 pub returns-then-place-eq0 : goal.returns-then-place-eq0
 returns-then-place-eq0 c =
-    let after-grow-arg = c.before.before.before in
-    let tested = after-grow-arg.before in
-    let counted = tested.before in
-    let start = counted.before.before.before in
-    let s = start.args.book.now in
-    let used = start.args.used in
-    let r = start.args.r in
+    let s = c.args.book.now in
+    let used = c.args.used in
+    let r = c.args.r in
     let long : length r ≡ 56 = search rules in
-    let w = record-admitted s used r start.requires.0 start.requires.1 in
-    let bytes : AreBytes s = λ k. omega (arith, counted.slice_known-1.given k) in
-    let full = ap (λ (n : ℕ). n % 9) (sym counted.trade_count-place.ensures) ∙ tested.if-place-eq0.true in
+    let w = record-admitted s used r c.requires.0 c.requires.1 in
+    let bytes : AreBytes s = λ k. omega (arith, c.slice_known-1.given k) in
+    let full = ap (λ (n : ℕ). n % 9) (sym c.trade_count-place.ensures) ∙ c.if-place-eq0.true in
     let space = room (trade_count s) used (length s) w.roomy full in
     let a = new-block-lent s used bytes w.accepted r long full space.within in
     record { value = a.0; book_after = c.grow.ensures ∙ a.1 }
 
 pub overflow_sub-used : goal.overflow_sub-used
 overflow_sub-used c =
-    let after-slice-known = c.before.before.before in
-    let start = after-slice-known.before in
-    let b = sound _ _ start.requires.0 in omega arith
+    let b = sound _ _ c.requires.0 in omega arith
 
 pub slice_bounds-put_record-end : goal.slice_bounds-put_record-end
 slice_bounds-put_record-end c =
-    let after-slice-known = c.before.before.before in
-    let start = after-slice-known.before in
-    let b = sound _ _ start.requires.0 in omega arith
+    let b = sound _ _ c.requires.0 in omega arith
 
 pub put_record-requires : goal.put_record-requires
 put_record-requires c =
-    let after-trade-count-arg = c.before.before.before in
-    let start = after-trade-count-arg.before.before in
-    let b = sound _ _ start.requires.0 in omega arith
+    let b = sound _ _ c.requires.0 in omega arith
 
 pub returns : goal.returns
 returns c =
-    let after-put-record-arg = c.before.before.before in
-    let tested = after-put-record-arg.before in
-    let counted = tested.before in
-    let start = counted.before.before.before in
-    let s = start.args.book.now in
-    let used = start.args.used in
-    let r = start.args.r in
+    let s = c.args.book.now in
+    let used = c.args.used in
+    let r = c.args.r in
     let long : length r ≡ 56 = search rules in
-    let w = record-admitted s used r start.requires.0 start.requires.1 in
+    let w = record-admitted s used r c.requires.0 c.requires.1 in
     let b = sound s used w.accepted in
-    let bytes : AreBytes s = λ k. omega (arith, counted.slice_known-1.given k) in
-    let count = counted.trade_count-place.ensures in
-    let some : trade_count s % 9 ≡ 0 → ⊥ = rw count at tested.if-place-eq0.false in
+    let bytes : AreBytes s = λ k. omega (arith, c.slice_known-1.given k) in
+    let count = c.trade_count-place.ensures in
+    let some : trade_count s % 9 ≡ 0 → ⊥ = rw count at c.if-place-eq0.false in
     let a = filled-lent s used bytes w.accepted r long some in
     let span : used - (used - 512) ≡ 512 = omega arith in
     let put = rw (span, count) at c.put_record.ensures in

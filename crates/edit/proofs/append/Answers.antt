@@ -19,7 +19,5 @@ returns-in-Refused c =
 pub returns-in-Accepted : goal.returns-in-Accepted
 unfolding append_answer appended
 returns-in-Accepted c =
-    let after-add-arg = c.before.before.before in
-    let told = after-add-arg.before in
-    let e = sym told.append_verdict-v.ensures ∙ told.in-Accepted.is in
+    let e = sym c.append_verdict-v.ensures ∙ c.in-Accepted.is in
     record { value = rw (e, c.add.ensures.value); book_after = rw e c.add.ensures.book_after }

@@ -16,81 +16,49 @@ overflow_sub-left c = let p = c.requires in omega (arith, p.1)
 
 pub curve_count-first-requires : goal.curve_count-first-requires
 curve_count-first-requires c =
-    let counted = c.before in
-    let b = sound _ _ counted.requires.0 in omega arith
+    let b = sound _ _ c.requires.0 in omega arith
 
 pub overflow_add-end : goal.overflow_add-end
 overflow_add-end c =
-    let counted = c.before.before in
-    let start = counted.before.before.before in
-    let m = trade-count-most _ _ (sound _ _ start.requires.0) in omega arith
+    let m = trade-count-most _ _ (sound _ _ c.requires.0) in omega arith
 
 pub overflow_add-end-2 : goal.overflow_add-end-2
 overflow_add-end-2 c =
-    let counted = c.before.before in
-    let start = counted.before.before.before in
-    let m = trade-count-most _ _ (sound _ _ start.requires.0) in omega arith
+    let m = trade-count-most _ _ (sound _ _ c.requires.0) in omega arith
 
 pub move_up-requires : goal.move_up-requires
 move_up-requires c =
-    let counted = c.before.before.before in
-    let start = counted.before.before.before in
-    let b = sound _ _ start.requires.0 in
+    let b = sound _ _ c.requires.0 in
     let t = blocks-for _ _ b in
     let m = trade-count-most _ _ b in
-    omega (arith, start.requires.1)
+    omega (arith, c.requires.1)
 pub cut_back-requires : goal.cut_back-requires
 cut_back-requires c =
-    let moving = c.before.before.before in
-    let curves = moving.before.before in
-    let counted = curves.before.before in
-    let start = counted.before.before.before in
-    let s = start.args.book.now in
-    let used = start.args.used in
-    let b = sound s used start.requires.0 in
+    let s = c.args.book.now in
+    let used = c.args.used in
+    let b = sound s used c.requires.0 in
     let m = trade-count-most s used b in
-    let bytes : AreBytes s = λ k. omega (arith, counted.slice_known-1.given k) in
-    let count = counted.trade_count-left.ensures in
-    let same = ap curve_count (rw count at moving.move_up.ensures) ∙ curves-same s used bytes start.requires.0 start.args.position start.requires.1 in
-    let size = last_block s used bytes start.requires.0 start.args.position start.requires.1 in
-    omega (arith, moving.move_up.auto.0)
+    let bytes : AreBytes s = λ k. omega (arith, c.slice_known-1.given k) in
+    let count = c.trade_count-left.ensures in
+    let same = ap curve_count (rw count at c.move_up.ensures) ∙ curves-same s used bytes c.requires.0 c.args.position c.requires.1 in
+    let size = last_block s used bytes c.requires.0 c.args.position c.requires.1 in
+    omega (arith, c.move_up.auto.0)
 
 pub seal_blocks-requires : goal.seal_blocks-requires
 seal_blocks-requires c =
-    let cutting = c.before.before.before in
-    let after-slice-known2 = cutting.before.before in
-    let moving = after-slice-known2.before.before in
-    let curves = moving.before.before in
-    let counted = curves.before.before in
-    let start = counted.before.before.before in
-    let b = sound _ _ start.requires.0 in
+    let b = sound _ _ c.requires.0 in
     let t = blocks-for _ _ b in
-    omega (arith, curves.curve_count-first.ensures.value, counted.trade_count-left.ensures, cutting.cut_back.auto.0, moving.move_up.auto.0)
+    omega (arith, c.curve_count-first.ensures.value, c.trade_count-left.ensures, c.cut_back.auto.0, c.move_up.auto.0)
 
 pub overflow_mul-result : goal.overflow_mul-result
 overflow_mul-result c =
-    let after-seal-blocks-arg = c.before.before.before in
-    let cutting = after-seal-blocks-arg.before.before.before in
-    let after-slice-known2 = cutting.before.before in
-    let moving = after-slice-known2.before.before in
-    let curves = moving.before.before in
-    let counted = curves.before.before in
-    let start = counted.before.before.before in
-    let m = trade-count-most _ _ (sound _ _ start.requires.0) in omega (arith, curves.curve_count-first.ensures.upper_bound, counted.trade_count-left.ensures)
+    let m = trade-count-most _ _ (sound _ _ c.requires.0) in omega (arith, c.curve_count-first.ensures.upper_bound, c.trade_count-left.ensures)
 
 pub returns : goal.returns
 returns c =
-    let sealing = c.before.before in
-    let after-slice-known3 = sealing.before.before in
-    let cutting = after-slice-known3.before.before in
-    let after-slice-known2 = cutting.before.before in
-    let moving = after-slice-known2.before.before in
-    let curves = moving.before.before in
-    let counted = curves.before.before in
-    let start = counted.before.before.before in
-    let s = start.args.book.now in
-    let bytes : AreBytes s = λ k. omega (arith, counted.slice_known-1.given k) in
-    let count = counted.trade_count-left.ensures in
-    let first = curves.curve_count-first.ensures.value in
-    let struck = struck-lent s start.args.used bytes start.requires.0 start.args.position start.requires.1 in
-    record { value = rw (first, count) struck.0; book_after = sealing.seal_blocks.ensures ∙ rw (cutting.cut_back.ensures, moving.move_up.ensures, first, count) struck.1 }
+    let s = c.args.book.now in
+    let bytes : AreBytes s = λ k. omega (arith, c.slice_known-1.given k) in
+    let count = c.trade_count-left.ensures in
+    let first = c.curve_count-first.ensures.value in
+    let struck = struck-lent s c.args.used bytes c.requires.0 c.args.position c.requires.1 in
+    record { value = rw (first, count) struck.0; book_after = c.seal_blocks.ensures ∙ rw (c.cut_back.ensures, c.move_up.ensures, first, count) struck.1 }

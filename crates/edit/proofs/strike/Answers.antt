@@ -19,7 +19,5 @@ returns-in-Refused c =
 pub returns-in-Accepted : goal.returns-in-Accepted
 unfolding strike_answer struck
 returns-in-Accepted c =
-    let after-remove-arg = c.before.before.before in
-    let told = after-remove-arg.before in
-    let e = sym told.position_verdict-v.ensures ∙ told.in-Accepted.is in
+    let e = sym c.position_verdict-v.ensures ∙ c.in-Accepted.is in
     record { value = rw (e, c.remove.ensures.value); book_after = rw e c.remove.ensures.book_after }

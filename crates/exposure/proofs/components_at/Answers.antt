@@ -7,13 +7,10 @@ use Rattle.exposure.proofs.components_at.Goals as goal
 
 pub block_at-requires : goal.block_at-requires
 block_at-requires c =
-    let start = c.before in
-    let b = sound _ _ start.requires.0.accepted in
-    omega (arith, b.blocks, b.lent, start.requires.2)
+    let b = sound _ _ c.requires.0.accepted in
+    omega (arith, b.blocks, b.lent, c.requires.2)
 
 pub returns : goal.returns
 returns c =
-    let at = c.before in
-    let start = at.before.before in
-    let b = curve-sound _ _ (sound _ _ start.requires.0.accepted) start.args.curve start.requires.1 start.requires.2 in
-    record { value = c.components_of.ensures ∙ rw at.block_at.ensures.result_value refl; proper_components = rw (c.components_of.ensures, at.block_at.ensures.result_value) b.components }
+    let b = curve-sound _ _ (sound _ _ c.requires.0.accepted) c.args.curve c.requires.1 c.requires.2 in
+    record { value = c.components_of.ensures ∙ rw c.block_at.ensures.result_value refl; proper_components = rw (c.components_of.ensures, c.block_at.ensures.result_value) b.components }

@@ -14,8 +14,7 @@ returns-then-not-stands_on c =
 
 pub returns : goal.returns
 returns c =
-    let after-slice-known = c.before.before.before in
-    let a = after-slice-known.args in
+    let a = c.args in
     push-one a.curve a.leg a.ladder.now a.schedules (sym c.Stands-on.ensures ∙ c.if-not-stands_on.false)
 
 pub bounds-ladder-at-2 : goal.bounds-ladder-at-2

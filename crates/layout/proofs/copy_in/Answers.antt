@@ -10,13 +10,12 @@ loop-j-init c = (omega arith, refl, rw add-zero)
 
 pub loop-j-preserved : goal.loop-j-preserved
 loop-j-preserved c =
-    let at-loop = c.before.before in
-    let at = at-loop.args.at in
-    let src = at-loop.args.src.now in
-    let j = at-loop.loop-j.j in
+    let at = c.args.at in
+    let src = c.args.src.now in
+    let j = c.loop-j.j in
     let l : j < length src = c.loop-j-test.true in
     let e : at + (j + 1) ≡ suc (at + j) = omega arith in
-    (omega arith, simp length-set at-loop.loop-j.invariant.1, at-loop.loop-j.invariant.2 ∙ rw (drop-cons src j 0 l, e, add-one) (put-cons _ _ _ _))
+    (omega arith, simp length-set c.loop-j.invariant.1, c.loop-j.invariant.2 ∙ rw (drop-cons src j 0 l, e, add-one) (put-cons _ _ _ _))
 
 pub shape_of-dst : goal.shape_of-dst
 shape_of-dst c = c.loop-j.invariant.1

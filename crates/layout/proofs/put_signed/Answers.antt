@@ -5,7 +5,5 @@ use Rattle.layout.proofs.put_signed.Goals as goal
 
 pub returns : goal.returns
 returns c =
-    let after-bits-of = c.before.before.before in
-    let s = after-bits-of.before.before.before in
     c.put_le.ensures
-    ∙ rw (c.bits_of.ensures, code_read s.args.v s.ranges.v)
+    ∙ rw (c.bits_of.ensures, code_read c.args.v c.ranges.v)

@@ -5,7 +5,6 @@ use Rattle.layout.proofs.u16_at.Goals as goal
 
 pub returns : goal.returns
 returns c =
-    let after-shared-slice-known2 = c.before.before.before in
-    let s = after-shared-slice-known2.args.s.now in
-    let at = after-shared-slice-known2.args.at in
+    let s = c.args.s.now in
+    let at = c.args.at in
     omega (arith, field-add 1 1 s at, field-byte s at, field-byte s (at + 1))

@@ -11,19 +11,17 @@ loop-i-init c = (omega arith, refl)
 
 pub returns-then-s-i-ne0 : goal.returns-then-s-i-ne0
 returns-then-s-i-ne0 c =
-    let at-loop = c.before.before.before in
-    let i = at-loop.loop-i.i in
-    let s = at-loop.args.s.now in
-    sym (at-loop.loop-i.invariant.1
+    let i = c.loop-i.i in
+    let s = c.args.s.now in
+    sym (c.loop-i.invariant.1
     ∙ every-failed (λ (k : ℕ). eqb (byte_at s k) 0) i _ c.loop-i-test.true (ne_eqb (byte_at s i) 0 c.if-s-i-ne0.true))
 
 pub loop-i-preserved : goal.loop-i-preserved
 loop-i-preserved c =
-    let at-loop = c.before.before.before in
-    let i = at-loop.loop-i.i in
-    let s = at-loop.args.s.now in (
+    let i = c.loop-i.i in
+    let s = c.args.s.now in (
       omega arith,
-      at-loop.loop-i.invariant.1
+      c.loop-i.invariant.1
           ∙ every-passed (λ (k : ℕ). eqb (byte_at s k) 0) i _ c.loop-i-test.true (eq-eqb (byte_at s i) 0 c.if-s-i-ne0.false),
     )
 

@@ -7,9 +7,7 @@ use Rattle.list.proofs.main.Goals as goal
 
 pub slice_bounds-text-end : goal.slice_bounds-text-end
 slice_bounds-text-end c =
-    let known = c.before in
-    let listed = known.before.before.before in
-    let n = length-listed _ _ _ listed.list_text-written.ensures.value (search rules) known.in-Length.is in
+    let n = length-listed _ _ _ c.list_text-written.ensures.value (search rules) c.in-Length.is in
     search rules
 
 -- the text's first bytes, as many as list_text answers
@@ -18,5 +16,4 @@ slice_bounds-write_all-end c = let fits = slice_bounds-text-end c.before in sym 
 
 pub refused-requires : goal.refused-requires
 refused-requires c =
-    let listed = c.before.before.before in
-    never-refused _ _ _ listed.list_text-written.ensures.value (search rules) c.in-Refused.is
+    never-refused _ _ _ c.list_text-written.ensures.value (search rules) c.in-Refused.is

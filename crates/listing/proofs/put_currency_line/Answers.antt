@@ -8,14 +8,8 @@ use Rattle.listing.proofs.put_currency_line.Goals as goal
 pub returns-then-has : goal.returns-then-has
 unfolding currency_listed_if currency_listed ascii
 returns-then-has c =
-    let end = c.before.before in
-    let after-slice-known3 = end.before.before.before in
-    let figures = after-slice-known3.before.before in
-    let after-out = figures.before.before.before in
-    let currency = after-out.before in
-    let has = currency.before.before.before in
-    let all = and_then (and_then currency.put_currency-figures.ensures.text_written figures.put_currency_figures-end.ensures.text_written) end.put_text.ensures in
-    record { text_written = rw has.if-has.true all; upper_bound = search rules }
+    let all = and_then (and_then c.put_currency-figures.ensures.text_written c.put_currency_figures-end.ensures.text_written) c.put_text.ensures in
+    record { text_written = rw c.if-has.true all; upper_bound = search rules }
 
 pub returns : goal.returns
 unfolding currency_listed_if

@@ -19,21 +19,17 @@ loop-i-init c =
 
 pub loop-i-preserved : goal.loop-i-preserved
 loop-i-preserved c =
-    let wrote = c.before.before in
-    let has = wrote.before.before.before in
-    let at-loop = has.before.before in
-    let a = at-loop.args in
-    let h = at-loop.loop-i.invariant in
-    let next = lines_next (currency_listed_in (take a.count a.curves)) a.t5 at-loop.loop-i.i (at-loop.loop-i.i + 1) no_currency (omega arith) in
-    let line = rw has.has_currency-has.ensures at wrote.put_currency_line-next.ensures.text_written in
-    (search rules, h.1, omega (arith, wrote.put_currency_line-next.ensures.upper_bound), text-next (rw next at h.3) line)
+    let a = c.args in
+    let h = c.loop-i.invariant in
+    let next = lines_next (currency_listed_in (take a.count a.curves)) a.t5 c.loop-i.i (c.loop-i.i + 1) no_currency (omega arith) in
+    let line = rw c.has_currency-has.ensures at c.put_currency_line-next.ensures.text_written in
+    (search rules, h.1, omega (arith, c.put_currency_line-next.ensures.upper_bound), text-next (rw next at h.3) line)
 
 pub returns : goal.returns
 returns c =
-    let at-loop = c.before in
-    let a = at-loop.args in
-    let i = at-loop.loop-i.i in
-    record { text_written = text-none (rw (lines_none (currency_listed_in (take a.count a.curves)) a.t5 i (i + 1) (omega arith)) at at-loop.loop-i.invariant.3); upper_bound = omega arith }
+    let a = c.args in
+    let i = c.loop-i.i in
+    record { text_written = text-none (rw (lines_none (currency_listed_in (take a.count a.curves)) a.t5 i (i + 1) (omega arith)) at c.loop-i.invariant.3); upper_bound = omega arith }
 
 pub shape_of-out : goal.shape_of-out
 shape_of-out c = c.loop-i.invariant.3.lent

@@ -19,20 +19,16 @@ loop-i-init c =
 
 pub loop-i-preserved : goal.loop-i-preserved
 loop-i-preserved c =
-    let wrote = c.before.before in
-    let turn = wrote.before.before.before in
-    let at-loop = turn.before in
-    let a = at-loop.args in
-    let h = at-loop.loop-i.invariant in
-    let next = first-lines-next curve_listed a.t3 at-loop.loop-i.i (at-loop.loop-i.i + 1) a.count no_curve (omega arith) (omega arith) in
-    (search rules, h.1, omega (arith, wrote.put_curve_line-next.ensures.upper_bound), text-next (rw next at h.3) wrote.put_curve_line-next.ensures.text_written)
+    let a = c.args in
+    let h = c.loop-i.invariant in
+    let next = first-lines-next curve_listed a.t3 c.loop-i.i (c.loop-i.i + 1) a.count no_curve (omega arith) (omega arith) in
+    (search rules, h.1, omega (arith, c.put_curve_line-next.ensures.upper_bound), text-next (rw next at h.3) c.put_curve_line-next.ensures.text_written)
 
 pub returns : goal.returns
 returns c =
-    let at-loop = c.before in
-    let a = at-loop.args in
-    let i = at-loop.loop-i.i in
-    record { text_written = text-none (rw (first-lines-none curve_listed a.t3 i (i + 1) a.count (omega arith)) at at-loop.loop-i.invariant.3); upper_bound = omega arith }
+    let a = c.args in
+    let i = c.loop-i.i in
+    record { text_written = text-none (rw (first-lines-none curve_listed a.t3 i (i + 1) a.count (omega arith)) at c.loop-i.invariant.3); upper_bound = omega arith }
 
 pub shape_of-out : goal.shape_of-out
 shape_of-out c = c.loop-i.invariant.3.lent

@@ -10,15 +10,8 @@ use Rattle.listing.proofs.write_refused.Goals as goal
 pub returns : goal.returns
 unfolding refused_line ascii
 returns c =
-    let end = c.before.before in
-    let after-slice-known3 = end.before.before.before in
-    let block = after-slice-known3.before.before in
-    let after-slice-known2 = block.before.before.before in
-    let ground = after-slice-known2.before.before in
-    let all = and_then (and_then ground.put_number-next.ensures.text_written block.put_number-end.ensures.text_written) end.put_text.ensures in
-    let after-slice-known = ground.before.before.before in
-    let s = after-slice-known.before in
-    let room : end.put_text.result ≤ 50 =
-    omega (arith, s.requires, ground.put_number-next.ensures.upper_bound, block.put_number-end.ensures.upper_bound, end.put_text.ensures.place) in
-    let front = written-front all (omega (arith, s.requires)) in
+    let all = and_then (and_then c.put_number-next.ensures.text_written c.put_number-end.ensures.text_written) c.put_text.ensures in
+    let room : c.put_text.result ≤ 50 =
+    omega (arith, c.requires, c.put_number-next.ensures.upper_bound, c.put_number-end.ensures.upper_bound, c.put_text.ensures.place) in
+    let front = written-front all (omega (arith, c.requires)) in
     (front.0, (front.1, room))

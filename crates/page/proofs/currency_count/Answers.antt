@@ -19,13 +19,11 @@ one-most false = omega arith
 
 pub overflow_add-result : goal.overflow_add-result
 overflow_add-result c =
-    let lira = c.before.before in
-    omega (arith, one-most lira.has_currency-lira.result, one-most c.has_currency-dollar.result)
+    omega (arith, one-most c.has_currency-lira.result, one-most c.has_currency-dollar.result)
 
 pub overflow_add-result-2 : goal.overflow_add-result-2
 overflow_add-result-2 c =
-    let lira = c.before.before in
-    omega (arith, one-most lira.has_currency-lira.result, one-most c.has_currency-dollar.result, one-most c.has_currency-euro.result)
+    omega (arith, one-most c.has_currency-lira.result, one-most c.has_currency-dollar.result, one-most c.has_currency-euro.result)
 
 pub returns : goal.returns
 returns c =

@@ -63,10 +63,9 @@ loop-i-preserved c =
 
 pub returns : goal.returns
 returns c =
-    let at-loop = c.before in
-    let a = at-loop.args in
-    let k = at-loop.loop-i.i in
-    text-none (rw (lines_none (currency_part_of (take a.count a.curves)) a.t5 k (k + 1) (omega (arith, at-loop.loop-i.invariant.1))) at at-loop.loop-i.invariant.2)
+    let a = c.args in
+    let k = c.loop-i.i in
+    text-none (rw (lines_none (currency_part_of (take a.count a.curves)) a.t5 k (k + 1) (omega (arith, c.loop-i.invariant.1))) at c.loop-i.invariant.2)
 
 pub shape_of-out : goal.shape_of-out
 shape_of-out c = c.loop-i.invariant.2.lent

@@ -6,16 +6,12 @@ use Rattle.page.proofs.put_currency_part.Goals as goal
 
 pub put_currency_line-requires : goal.put_currency_line-requires
 put_currency_line-requires c =
-    let has = c.before in
-    let s = has.before.before in
-    rw has.if-has.true at s.requires
+    rw c.if-has.true at c.requires
 
 pub returns-then-has : goal.returns-then-has
 unfolding currency_part
 returns-then-has c =
-    let line = c.before.before in
-    let has = line.before.before in
-    rw has.if-has.true line.put_currency_line.ensures
+    rw c.if-has.true c.put_currency_line.ensures
 
 pub returns : goal.returns
 unfolding currency_part

@@ -24,31 +24,17 @@ fits-loss s = search rules
 
 pub put_amounts-end-requires : goal.put_amounts-end-requires
 put_amounts-end-requires c =
-    let after-struct-known = c.before.before in
-    let after-slice-known3 = after-struct-known.before.before in
-    let filled = after-slice-known3.before.before in
-    let after-out = filled.before.before.before in
-    let left = after-out.before in
-    let s = left.before.before.before in
-    omega (arith, s.requires.0, left.put_curve_left-left.ensures.upper_bound, filled.put_blanks-base.ensures.place, length-blanks (s.args.at + 14 - left.put_curve_left-left.result))
+    omega (arith, c.requires.0, c.put_curve_left-left.ensures.upper_bound, c.put_blanks-base.ensures.place, length-blanks (c.args.at + 14 - c.put_curve_left-left.result))
 
 pub put_text-requires : goal.put_text-requires
 put_text-requires c =
-    let after-out3 = c.before.before.before in
-    let amounts = after-out3.before in
-    let after-struct-known = amounts.before.before.before in
-    let after-slice-known3 = after-struct-known.before.before in
-    let filled = after-slice-known3.before.before in
-    let after-out = filled.before.before.before in
-    let left = after-out.before in
-    let s = left.before.before.before in
     omega (
       arith,
-      s.requires.0,
-      left.put_curve_left-left.ensures.upper_bound,
-      filled.put_blanks-base.ensures.place,
-      length-blanks (s.args.at + 14 - left.put_curve_left-left.result),
-      amounts.put_amounts-end.ensures.value,
+      c.requires.0,
+      c.put_curve_left-left.ensures.upper_bound,
+      c.put_blanks-base.ensures.place,
+      length-blanks (c.args.at + 14 - c.put_curve_left-left.result),
+      c.put_amounts-end.ensures.value,
     )
 
 pub returns : goal.returns

@@ -56,10 +56,9 @@ loop-i-preserved c =
 
 pub returns : goal.returns
 returns c =
-    let at-loop = c.before in
-    let a = at-loop.args in
-    let k = at-loop.loop-i.i in
-    text-none (rw (first-lines-none curve_line a.t3 k (k + 1) a.count (search rules)) at at-loop.loop-i.invariant.2)
+    let a = c.args in
+    let k = c.loop-i.i in
+    text-none (rw (first-lines-none curve_line a.t3 k (k + 1) a.count (search rules)) at c.loop-i.invariant.2)
 
 pub shape_of-out : goal.shape_of-out
 shape_of-out c = c.loop-i.invariant.2.lent

@@ -27,10 +27,8 @@ record-long c = search rules
 -- refused by append
 pub returns-in-Refused : goal.returns-in-Refused
 returns-in-Refused c =
-    let told = c.before in
-    let asked = told.before.before in
-    let a = asked.args in
-    let p = refused-by-append a.book.now a.used a.day a.r a.out-1.now _ _ (sym asked.append_verdict-v.ensures ∙ told.in-Refused.is) in
+    let a = c.args in
+    let p = refused-by-append a.book.now a.used a.day a.r a.out-1.now _ _ (sym c.append_verdict-v.ensures ∙ c.in-Refused.is) in
     (sym p.0, (sym p.1, preview-bounded a.book.now a.used a.day a.r a.out-1.now (sym p.0) (sym p.1)))
 
 -- taken by it

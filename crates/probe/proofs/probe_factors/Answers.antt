@@ -17,8 +17,6 @@ total t u e f g h = cc
 
 pub returns : goal.returns
 returns c =
-    let second = c.before.before in
-    let at = second.before.before in
-    let both = at.factors-both.ensures in
-    let a = at.args in
-    total a.days a.other_days at.rate_of.ensures.0 at.rate_of-2.ensures.0 both.0 both.2
+    let both = c.factors-both.ensures in
+    let a = c.args in
+    total a.days a.other_days c.rate_of.ensures.0 c.rate_of-2.ensures.0 both.0 both.2

@@ -40,10 +40,5 @@ curve_margin-requires c =
 pub returns : goal.returns
 unfolding exposure_at
 returns c =
-    let curve = c.before.before in
-    let components = curve.before in
-    let currency = components.before in
-    let at = currency.before in
-    let gathered = at.before.before.before in
     c.curve_margin.ensures
-    ∙ rw (curve.curve_of.ensures, components.components_at-components.ensures.value, currency.currency_of-currency.ensures, at.block_at-b.ensures.result_value, gathered.gather-n.ensures.flows) refl
+    ∙ rw (c.curve_of.ensures, c.components_at-components.ensures.value, c.currency_of-currency.ensures, c.block_at-b.ensures.result_value, c.gather-n.ensures.flows) refl

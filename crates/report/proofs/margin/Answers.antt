@@ -11,19 +11,15 @@ fill_report-requires c = record { used = _; accepted = (book-accepted _ _ _ (sym
 
 pub returns-in-Refused : goal.returns-in-Refused
 returns-in-Refused c =
-    let checked = c.before.before.before in
-    let a = checked.args in
-    let p = refused-book a.book.now a.used a.day a.out-1.now _ _ (sym checked.check-v.ensures ∙ c.in-Refused.is) in
+    let a = c.args in
+    let p = refused-book a.book.now a.used a.day a.out-1.now _ _ (sym c.check-v.ensures ∙ c.in-Refused.is) in
     (p.0, (p.1, demand-met a.book.now a.used a.day a.out-1.now p.0 p.1))
 
 pub returns-in-Accepted : goal.returns-in-Accepted
 returns-in-Accepted c =
-    let filled = c.before.before in
-    let told = filled.before.before in
-    let checked = told.before.before in
-    let a = checked.args in
-    let p = filled.fill_report.ensures in
-    let then = accepted-book-reported a.book.now a.used a.day a.out-1.now (sym checked.check-v.ensures ∙ told.in-Accepted.is) in
+    let a = c.args in
+    let p = c.fill_report.ensures in
+    let then = accepted-book-reported a.book.now a.used a.day a.out-1.now (sym c.check-v.ensures ∙ c.in-Accepted.is) in
     let answer = p.0 ∙ sym then.0 in
     let written = p.1 ∙ sym then.1 in
     (answer, (written, demand-met a.book.now a.used a.day a.out-1.now answer written))

@@ -16,9 +16,7 @@ trade_count-requires c = let b = here c.before in omega (arith, b.blocks, b.lent
 
 pub margin_with-requires : goal.margin_with-requires
 margin_with-requires c =
-    let test = c.before in
-    let s = test.before.before.before in
-    (s.requires, omega (arith, test.if-trade_count-le9.true, test.trade_count.ensures, length-replicate {A = ℕ} 162 0))
+    (c.requires, omega (arith, c.if-trade_count-le9.true, c.trade_count.ensures, length-replicate {A = ℕ} 162 0))
 
 pub margin_with-requires-2 : goal.margin_with-requires-2
 margin_with-requires-2 c =

@@ -50,8 +50,7 @@ turn c = let called = c.before.before in called.before.before
 pub loop-k-preserved : goal.loop-k-preserved
 loop-k-preserved c =
     let t = turn c in
-    let called = c.before.before in
-    (omega arith, search rules, placed-next _ _ _ t.loop-k.inv.2 called.curve_figures-m.result (below t) called.curve_figures-m.ensures)
+    (omega arith, search rules, placed-next _ _ _ t.loop-k.inv.2 c.curve_figures-m.result (below t) c.curve_figures-m.ensures)
 
 -- behind the loop: every curve has its place
 module _ (c : After-loop-k) where

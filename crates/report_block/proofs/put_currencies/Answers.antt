@@ -13,9 +13,7 @@ loop-i-init c = records-all currency_bytes 24 length-currency _ 264 c.args.t2 3 
 
 pub loop-i-preserved : goal.loop-i-preserved
 loop-i-preserved c =
-    let wrote = c.before.before in
-    let turn = wrote.before.before.before in
-    records-next currency_bytes 24 length-currency _ 264 _ 3 no_currency turn.loop-i.invariant turn.loop-i-test.true wrote.put_currency.ensures
+    records-next currency_bytes 24 length-currency _ 264 _ 3 no_currency c.loop-i.invariant c.loop-i-test.true c.put_currency.ensures
 
 pub returns : goal.returns
 returns c = records-none currency_bytes 24 length-currency _ 264 _ 3 c.loop-i.invariant (search rules)

@@ -13,9 +13,7 @@ loop-i-init c = records-all curve_bytes 32 length-curve _ 8 c.args.t2 8 (search 
 
 pub loop-i-preserved : goal.loop-i-preserved
 loop-i-preserved c =
-    let wrote = c.before.before in
-    let turn = wrote.before.before.before in
-    records-next curve_bytes 32 length-curve _ 8 _ 8 no_curve turn.loop-i.invariant turn.loop-i-test.true wrote.put_curve.ensures
+    records-next curve_bytes 32 length-curve _ 8 _ 8 no_curve c.loop-i.invariant c.loop-i-test.true c.put_curve.ensures
 
 pub returns : goal.returns
 returns c = records-none curve_bytes 32 length-curve _ 8 _ 8 c.loop-i.invariant (search rules)

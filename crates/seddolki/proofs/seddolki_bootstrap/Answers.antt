@@ -11,9 +11,6 @@ use Rattle.seddolki.proofs.seddolki_bootstrap.Goals as goal
 
 pub returns : goal.returns
 returns c =
-    let done = c.before.before.before in
-    let quoted = done.before.before in
-    let start = quoted.before.before.before in
-    let a = start.args in
-    let quote : quoted.quote_of-quote.result ≡ quote_of a.curve a.bond.now a.cash a.first a.second a.third =
-    quoted.quote_of-quote.ensures ∙ rw (to_z-of_z start.ranges.first, to_z-of_z start.ranges.second, to_z-of_z start.ranges.third) in record { value = c.verdict_answer.ensures ∙ rw done.bootstrap.ensures.value (ap (λ (q : Quote). verdict_answer (bootstrap_verdict a.book-1.now a.used a.day q)) quote); book_after = done.bootstrap.ensures.book_after ∙ ap (bootstrapped a.book-1.now a.used a.day) quote }
+    let a = c.args in
+    let quote : c.quote_of-quote.result ≡ quote_of a.curve a.bond.now a.cash a.first a.second a.third =
+    c.quote_of-quote.ensures ∙ rw (to_z-of_z c.ranges.first, to_z-of_z c.ranges.second, to_z-of_z c.ranges.third) in record { value = c.verdict_answer.ensures ∙ rw c.bootstrap.ensures.value (ap (λ (q : Quote). verdict_answer (bootstrap_verdict a.book-1.now a.used a.day q)) quote); book_after = c.bootstrap.ensures.book_after ∙ ap (bootstrapped a.book-1.now a.used a.day) quote }

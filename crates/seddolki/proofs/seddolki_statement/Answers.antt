@@ -4,5 +4,4 @@ use Rattle.seddolki.proofs.seddolki_statement.Goals as goal
 
 pub returns : goal.returns
 returns c =
-    let entry = c.before.before.before in
-    record { value = rw (c.written_answer.ensures, entry.statement.ensures.value); page_after = entry.statement.ensures.out_after }
+    record { value = rw (c.written_answer.ensures, c.statement.ensures.value); page_after = c.statement.ensures.out_after }

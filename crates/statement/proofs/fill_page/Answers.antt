@@ -44,11 +44,9 @@ module _ (c : After-page_length-needed) where
 
   needed : c.page_length-needed.result ≡ length (page_of start.args.book.now)
   needed =
-      let trades = c.before.before in
-      let made = trades.before.before in
       let b = here start in
       let e = length-page_of start.args.book.now _ b in
-      rw (e, ← made.margin_of_book-m.ensures, ← trades.trade_count.ensures, ← c.curve_count.ensures.value) c.page_length-needed.ensures
+      rw (e, ← c.margin_of_book-m.ensures, ← c.trade_count.ensures, ← c.curve_count.ensures.value) c.page_length-needed.ensures
 
 pub returns-then-breaks_space : goal.returns-then-breaks_space
 returns-then-breaks_space c =
@@ -65,10 +63,8 @@ pub write_page-requires : goal.write_page-requires
 write_page-requires c =
     let free = c.before in
     let measured = free.before.before in
-    let after-trade-count = measured.before.before in
-    let made = after-trade-count.before.before in
     let s = start measured in
-    record { starts_with_book = (s.requires, made.margin_of_book-m.ensures); book_in_bounds = text-fits (page_of s.args.book.now) s.args.out.now (spacious free) }
+    record { starts_with_book = (s.requires, measured.margin_of_book-m.ensures); book_in_bounds = text-fits (page_of s.args.book.now) s.args.out.now (spacious free) }
 
 pub returns : goal.returns
 returns c =

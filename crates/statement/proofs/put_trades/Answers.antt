@@ -87,12 +87,9 @@ loop-i-preserved c =
 
 pub returns : goal.returns
 returns c =
-    let at-loop = c.before in
-    let counted = at-loop.before in
-    let s = counted.before.before.before in
-    let k = at-loop.loop-i.i in
-    let e : k ≡ length (records s.args.book.now) = omega (arith, length-records s.args.book.now, counted.trade_count-count.ensures) in
-    text-none (rw (lines_none record_line (records s.args.book.now) k k e) at at-loop.loop-i.invariant.1)
+    let k = c.loop-i.i in
+    let e : k ≡ length (records c.args.book.now) = omega (arith, length-records c.args.book.now, c.trade_count-count.ensures) in
+    text-none (rw (lines_none record_line (records c.args.book.now) k k e) at c.loop-i.invariant.1)
 
 pub overflow_add-i : goal.overflow_add-i
 overflow_add-i c = omega arith

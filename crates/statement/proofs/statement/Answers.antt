@@ -10,16 +10,12 @@ fill_page-requires c = record { used = _; accepted = (book-accepted _ _ _ (sym c
 
 pub returns-in-Refused : goal.returns-in-Refused
 returns-in-Refused c =
-    let checked = c.before.before.before in
-    let a = checked.args in
-    refused-statement a.book.now a.used a.day a.out-1.now _ _ (sym checked.check-v.ensures ∙ c.in-Refused.is)
+    let a = c.args in
+    refused-statement a.book.now a.used a.day a.out-1.now _ _ (sym c.check-v.ensures ∙ c.in-Refused.is)
 
 pub returns-in-Accepted : goal.returns-in-Accepted
 returns-in-Accepted c =
-    let filled = c.before.before in
-    let told = filled.before.before in
-    let checked = told.before.before in
-    let a = checked.args in
-    let p = filled.fill_page.ensures in
-    let then = accepted-statement a.book.now a.used a.day a.out-1.now (sym checked.check-v.ensures ∙ told.in-Accepted.is) in
+    let a = c.args in
+    let p = c.fill_page.ensures in
+    let then = accepted-statement a.book.now a.used a.day a.out-1.now (sym c.check-v.ensures ∙ c.in-Accepted.is) in
     record { value = p.0 ∙ sym then.0; out_after = p.1 ∙ sym then.1 }

@@ -12,13 +12,11 @@ loop-low-init c = left-all c.requires.cash_value
 
 pub loop-low-preserved-then-value_at-cash : goal.loop-low-preserved-then-value_at-cash
 loop-low-preserved-then-value_at-cash c =
-    let at-loop = c.before.before.before in
-    left-low at-loop.loop-low.invariant _ (search rules) (search rules) (omega (arith, c.value_at.ensures))
+    left-low c.loop-low.invariant _ (search rules) (search rules) (omega (arith, c.value_at.ensures))
 
 pub loop-low-preserved : goal.loop-low-preserved
 loop-low-preserved c =
-    let at-loop = c.before.before.before in
-    left-high at-loop.loop-low.invariant _ (search rules) (omega (arith, c.value_at.ensures))
+    left-high c.loop-low.invariant _ (search rules) (omega (arith, c.value_at.ensures))
 
 pub returns : goal.returns
 returns c = record { value = left_one c.loop-low.invariant c.loop-low-test.false; upper_bound = search rules }

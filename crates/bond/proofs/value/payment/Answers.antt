@@ -8,16 +8,12 @@ use Rattle.bond.proofs.value.payment.Goals as goal
 
 pub overflow_mul-result : goal.overflow_mul-result
 overflow_mul-result c =
-    let s = c.before.before.before in
-    omega (arith, payment-day-most _ s.requires.0 _ s.requires.1)
+    omega (arith, payment-day-most _ c.requires.0 _ c.requires.1)
 
 pub overflow_add-result : goal.overflow_add-result
 overflow_add-result c =
-    let joined = c.before.before in
-    let s = joined.before.before in
-    omega (arith, payment-day-most _ s.requires.0 _ s.requires.1)
+    omega (arith, payment-day-most _ c.requires.0 _ c.requires.1)
 
 pub returns : goal.returns
 returns c =
-    let joined = c.before.before in
-    ⊎_elim (λ w. rw (w.1, eq-eqb _ _ w.0.taken)) (λ w. rw (w.1, ne_eqb _ _ w.0.left)) joined.if-k-l.branch
+    ⊎_elim (λ w. rw (w.1, eq-eqb _ _ w.0.taken)) (λ w. rw (w.1, ne_eqb _ _ w.0.left)) c.if-k-l.branch

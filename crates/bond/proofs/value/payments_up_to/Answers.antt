@@ -6,15 +6,11 @@ use Rattle.bond.proofs.value.payments_up_to.Goals as goal
 
 pub returns-then-day-f : goal.returns-then-day-f
 returns-then-day-f c =
-    let after-payment = c.before.before in
-    let at-loop = after-payment.before.before in
-    reached-here at-loop.loop-k.invariant (rw after-payment.payment-f.ensures at c.if-day-f.true)
+    reached-here c.loop-k.invariant (rw c.payment-f.ensures at c.if-day-f.true)
 
 pub loop-k-preserved : goal.loop-k-preserved
 loop-k-preserved c =
-    let after-payment = c.before.before in
-    let at-loop = after-payment.before.before in
-    walked_next at-loop.loop-k.invariant (search rules) (rw after-payment.payment-f.ensures at c.if-day-f.false)
+    walked_next c.loop-k.invariant (search rules) (rw c.payment-f.ensures at c.if-day-f.false)
 
 pub returns : goal.returns
 returns c = reached-all c.loop-k.invariant (search rules)

@@ -8,9 +8,7 @@ returns-then-found c = c.fine_value_of-found.ensures c.if-found.true
 
 pub present_value-requires : goal.present_value-requires
 present_value-requires c =
-    let after-found = c.before.before in
-    let start = after-found.before.before in
-    (start.requires.1, rw c.rate_at.ensures (rate-most _ _ start.requires.0))
+    (c.requires.1, rw c.rate_at.ensures (rate-most _ _ c.requires.0))
 
 pub returns : goal.returns
 returns c = rw c.rate_at.ensures at c.present_value.ensures

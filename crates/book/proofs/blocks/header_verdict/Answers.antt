@@ -10,13 +10,10 @@ use Rattle.book.proofs.blocks.header_verdict.Goals as goal
 pub returns : goal.returns
 unfolding header_verdict
 returns c =
-    let header = c.before in
-    let place = header.before.before in
-    let check = place.before.before in
-    let a = check.args in
+    let a = c.args in
     also Header 0
     (also Place 0
-    (also {v = Accepted} Check 0 refl check.breaks_check.ensures place.or_if.ensures)
-    place.breaks_place.ensures header.or_if-2.ensures)
-    header.breaks_header.ensures c.or_if-3.ensures
+    (also {v = Accepted} Check 0 refl c.breaks_check.ensures c.or_if.ensures)
+    c.breaks_place.ensures c.or_if-2.ensures)
+    c.breaks_header.ensures c.or_if-3.ensures
     ∙ in-turn Accepted 0 (header_rules a.b.now a.blocks)

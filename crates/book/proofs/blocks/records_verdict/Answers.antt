@@ -24,8 +24,7 @@ module _ (c : After-is_accepted) where
       let a = l.args in
       c.record_verdict-v.result ≡ bytes_verdict a.curves (record_in a.b.now l.loop-i.i) a.k
   judged =
-      let f = c.before.before in
-      rw (f.fields_of-f.ensures, f.record_in.ensures.result_value) at c.record_verdict-v.ensures
+      rw (c.fields_of-f.ensures, c.record_in.ensures.result_value) at c.record_verdict-v.ensures
 
 pub returns-then-not-is_accepted : goal.returns-then-not-is_accepted
 returns-then-not-is_accepted c =

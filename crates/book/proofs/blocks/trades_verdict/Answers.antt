@@ -18,15 +18,12 @@ module _ (c : After-or_if-v) where
   -- grounds 2, 3 and 7
   so_far : c.or_if-v.result ≡ first_broken start.args.k (trades_rules start.args.b.now start.args.k start.args.last)
   so_far =
-      let count = c.before in
-      let place = count.before.before in
-      let check = place.before.before in
       let a = start.args in
       also TradeBlock a.k
       (also Place a.k
-      (also {v = Accepted} Check a.k refl check.breaks_check.ensures place.or_if.ensures)
-      place.breaks_place.ensures count.or_if-2.ensures)
-      count.breaks_trade_block.ensures c.or_if-v.ensures
+      (also {v = Accepted} Check a.k refl c.breaks_check.ensures c.or_if.ensures)
+      c.breaks_place.ensures c.or_if-2.ensures)
+      c.breaks_trade_block.ensures c.or_if-v.ensures
       ∙ in-turn Accepted a.k (trades_rules a.b.now a.k a.last)
 
 pub returns-then-not-is_accepted : goal.returns-then-not-is_accepted

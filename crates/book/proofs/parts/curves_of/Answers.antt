@@ -23,26 +23,24 @@ loop-k-init c = (search rules, refl, λ j l. absurd (omega arith))
 
 pub loop-k-preserved : goal.loop-k-preserved
 loop-k-preserved c =
-    let at-loop = c.before.before in
-    let k = at-loop.loop-k.k in
-    let held = at-loop.loop-k.currency in (
+    let k = c.loop-k.k in
+    let held = c.loop-k.currency in (
       search rules,
-      simp length-set at-loop.loop-k.invariant.1,
+      simp length-set c.loop-k.invariant.1,
       below_more _ k
-          (λ j l. get_or-set_other held k j c.currency_at.result 0 (λ e. omega arith) ∙ at-loop.loop-k.invariant.2 j l)
+          (λ j l. get_or-set_other held k j c.currency_at.result 0 (λ e. omega arith) ∙ c.loop-k.invariant.2 j l)
           (get_or-set_same held k c.currency_at.result 0 (omega arith) ∙ c.currency_at.ensures),
     )
 
 pub returns : goal.returns
 unfolding curves_in
 returns c =
-    let at-loop = c.before.before in
-    let s = at-loop.args.book.now in
-    let inv = at-loop.loop-k.invariant in
-    let last : at-loop.loop-k.k ≡ 8 = omega arith in
+    let s = c.args.book.now in
+    let inv = c.loop-k.invariant in
+    let last : c.loop-k.k ≡ 8 = omega arith in
     rw (
       c.curve_count-count.ensures.value,
       length-curve_blocks s,
-      ext_get_or 0 at-loop.loop-k.currency (table (currency s) 0 8) (inv.1 ∙ sym (length-table (currency s) 0 8))
+      ext_get_or 0 c.loop-k.currency (table (currency s) 0 8) (inv.1 ∙ sym (length-table (currency s) 0 8))
           (λ j l. inv.2 j (omega arith) ∙ sym (get_d-table (currency s) 0 8 j 0 (omega arith) ∙ ap (currency s) (omega arith))),
     )

@@ -8,12 +8,10 @@ use Rattle.book.proofs.parts.record_at.Goals as goal
 pub returns : goal.returns
 unfolding record_at
 returns c =
-    let after-r = c.before.before.before in
-    let block = after-r.before in
     c.copy_in.ensures
     ∙ put_whole _ _ c.record_in.ensures.result_len
     ∙ rw (
       c.record_in.ensures.result_value,
-      block.block_at-b.ensures.result_value,
-      block.curve_count.ensures.value,
+      c.block_at-b.ensures.result_value,
+      c.curve_count.ensures.value,
     )

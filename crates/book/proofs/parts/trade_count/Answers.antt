@@ -11,11 +11,9 @@ returns-then-blocks-eq0 c = rw (← c.trade_blocks-blocks.ensures.value, eq-eqb 
 pub returns : goal.returns
 unfolding trade_count
 returns c =
-    let else1 = c.before.before.before in
-    let trades = else1.before in
     rw (
-      ← trades.trade_blocks-blocks.ensures.value,
-      ne_eqb trades.trade_blocks-blocks.result 0 c.if-blocks-eq0.false,
+      ← c.trade_blocks-blocks.ensures.value,
+      ne_eqb c.trade_blocks-blocks.result 0 c.if-blocks-eq0.false,
       ← c.curve_count.ensures.value,
       ← c.block_at-last.ensures.result_value,
       c.record_count.ensures.value,

@@ -26,10 +26,9 @@ zeros-requires c = let f = few c.before in (omega arith, omega arith)
 pub returns : goal.returns
 unfolding breaks_trade_block
 returns c =
-    let fits = c.before.before.before in
     rw (
-      ← fits.record_count-n.ensures.value,
-      ← fits.count_fits.ensures,
+      ← c.record_count-n.ensures.value,
+      ← c.count_fits.ensures,
       c.if-not-count_fits.false,
       c.zeros.ensures,
       c.record_place.ensures,

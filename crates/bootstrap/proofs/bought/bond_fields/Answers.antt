@@ -15,11 +15,6 @@ copy_in-requires c =
 pub returns : goal.returns
 unfolding bond_fields bond_record
 returns c =
-    let made = c.before.before in
-    let bytes = made.before.before in
-    let copied = bytes.before in
-    let zeros = copied.before.before in
-    let start = zeros.before.before in
-    let q = start.args.q in
-    let e : made.fields_of-f.result ≡ fields_of (bond_record q.bond-1) = made.fields_of-f.ensures ∙ ap fields_of copied.copy_in.ensures in
+    let q = c.args.q in
+    let e : c.fields_of-f.result ≡ fields_of (bond_record q.bond-1) = c.fields_of-f.ensures ∙ ap fields_of c.copy_in.ensures in
     ap (bought q.curve) e

@@ -11,11 +11,9 @@ quoted-requires c = record { used = _; accepted = (book-accepted _ _ _ (sym c.ch
 pub returns-in-Refused : goal.returns-in-Refused
 unfolding bootstrap_verdict
 returns-in-Refused c =
-    let v = c.before in
-    rw (sym v.check-v.ensures ∙ v.in-Refused.is)
+    rw (sym c.check-v.ensures ∙ c.in-Refused.is)
 
 pub returns-in-Accepted : goal.returns-in-Accepted
 unfolding bootstrap_verdict
 returns-in-Accepted c =
-    let told = c.before in
-    c.quoted.ensures ∙ rw (sym told.check-v.ensures ∙ told.in-Accepted.is)
+    c.quoted.ensures ∙ rw (sym c.check-v.ensures ∙ c.in-Accepted.is)

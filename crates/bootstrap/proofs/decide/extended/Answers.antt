@@ -33,8 +33,7 @@ unfolding extension_verdict new_node
 returns c =
     let filled = c.before.before.before in
     let later = filled.before.before in
-    let node = later.before.before in
-    c.priced.ensures ∙ rw (node.open_node-n.ensures, node.payments_of-l.ensures, sym (end_is later.before) ∙ later.if-breaks_curve_end.false)
+    c.priced.ensures ∙ rw (later.open_node-n.ensures, later.payments_of-l.ensures, sym (end_is later.before) ∙ later.if-breaks_curve_end.false)
 
 pub fill-requires : goal.fill-requires
 fill-requires c = length-replicate {A = ℕ} 3694 0

@@ -11,14 +11,11 @@ use Rattle.bootstrap.proofs.refusals.quote_verdict.Goals as goal
 pub returns : goal.returns
 unfolding quote_verdict
 returns c =
-    let components = c.before.before in
-    let judged = components.before.before in
-    let start = judged.before.before in
-    let q = start.args.q in
-    let e : judged.record_verdict.result ≡ record_verdict start.args.curves (bond_fields q) 0 =
-    judged.record_verdict.ensures ∙ rw judged.bond_fields.ensures in
+    let q = c.args.q in
+    let e : c.record_verdict.result ≡ record_verdict c.args.curves (bond_fields q) 0 =
+    c.record_verdict.ensures ∙ rw c.bond_fields.ensures in
     also Amounts 0
-    (also Node 0 e components.breaks_components.ensures components.or_if.ensures)
+    (also Node 0 e c.breaks_components.ensures c.or_if.ensures)
     c.breaks_cash.ensures
     c.or_if-2.ensures
-    ∙ in-turn (record_verdict start.args.curves (bond_fields q) 0) 0 (quote_rules q)
+    ∙ in-turn (record_verdict c.args.curves (bond_fields q) 0) 0 (quote_rules q)

@@ -15,8 +15,7 @@ returns-then-day-from c = rw (lt-ltb _ _ c.if-day-from.true) c.alone.ensures
 pub returns-then-until-day : goal.returns-then-until-day
 unfolding bucket_on
 returns-then-until-day c =
-    let then = c.before in
-    rw (le-ltb _ _ then.if-day-from.false, le-leb _ _ then.if-until-day.true) c.alone-then-until-day.ensures
+    rw (le-ltb _ _ c.if-day-from.false, le-leb _ _ c.if-until-day.true) c.alone-then-until-day.ensures
 
 -- with the ends of the bucket known
 module _ (c : After-last_day_of-last) where

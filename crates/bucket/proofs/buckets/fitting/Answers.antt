@@ -11,20 +11,14 @@ returns-then-first-last c = rw (eq-eqb _ _ c.if-first-last.true) c.alone.ensures
 pub returns-then-jump-gt20000 : goal.returns-then-jump-gt20000
 unfolding fitting
 returns-then-jump-gt20000 c =
-    let then = c.before in
-    rw (ne_eqb _ _ then.if-first-last.false, lt-ltb _ _ then.if-jump-gt20000.true) c.alone-then-jump-gt20000.ensures
+    rw (ne_eqb _ _ c.if-first-last.false, lt-ltb _ _ c.if-jump-gt20000.true) c.alone-then-jump-gt20000.ensures
 
 pub returns-then-error-gt4000000 : goal.returns-then-error-gt4000000
 unfolding fitting
 returns-then-error-gt4000000 c =
-    let then = c.before in
-    let after-off = then.before in
-    let else = after-off.before in
-    rw (ne_eqb _ _ else.if-first-last.false, le-ltb _ _ else.if-jump-gt20000.false, ← after-off.convexity-error.ensures, lt-ltb _ _ then.if-error-gt4000000.true) c.alone-then-error-gt4000000.ensures
+    rw (ne_eqb _ _ c.if-first-last.false, le-ltb _ _ c.if-jump-gt20000.false, ← c.convexity-error.ensures, lt-ltb _ _ c.if-error-gt4000000.true) c.alone-then-error-gt4000000.ensures
 
 pub returns : goal.returns
 unfolding fitting
 returns c =
-    let after-off = c.before in
-    let else = after-off.before in
-    rw (ne_eqb _ _ else.if-first-last.false, le-ltb _ _ else.if-jump-gt20000.false, ← after-off.convexity-error.ensures, le-ltb _ _ c.if-error-gt4000000.false)
+    rw (ne_eqb _ _ c.if-first-last.false, le-ltb _ _ c.if-jump-gt20000.false, ← c.convexity-error.ensures, le-ltb _ _ c.if-error-gt4000000.false)

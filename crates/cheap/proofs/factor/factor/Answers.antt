@@ -8,8 +8,7 @@ use Rattle.cheap.proofs.factor.factor.Goals as goal
 
 pub power-requires : goal.power-requires
 power-requires c =
-    let start = c.before.before in
-    (start.requires.0, rw c.exponent.ensures (exponent-le (cheap_log start.args.rate) start.args.day (cheap-log-le start.args.rate start.requires.1) start.requires.2))
+    (c.requires.0, rw c.exponent.ensures (exponent-le (cheap_log c.args.rate) c.args.day (cheap-log-le c.args.rate c.requires.1) c.requires.2))
 
 pub returns : goal.returns
 unfolding cheap_factor

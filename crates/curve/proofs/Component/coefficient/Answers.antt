@@ -14,18 +14,15 @@ overflow_sub-result c = let h = c.requires in rw (code_step _ _ h) (fits _ (omeg
 
 pub overflow_mul-result : goal.overflow_mul-result
 overflow_mul-result c =
-    let after-struct-known = c.before.before.before in
-    let h = after-struct-known.requires in
+    let h = c.requires in
     rw (code-scaled _ _ h) (fits _ (omega (arith, scaled_fits _ _ h)))
 
 pub nonzero_div-result : goal.nonzero_div-result
 nonzero_div-result c =
-    let after-struct-known = c.before.before.before in
-    let h = after-struct-known.requires in
+    let h = c.requires in
     (search rules, rw (code-coefficient _ _ h (search rules)) (fits _ (omega (arith, coefficient-fits _ _ h))))
 
 pub returns : goal.returns
 returns c =
-    let after-struct-known = c.before.before.before in
-    let h = after-struct-known.requires in
+    let h = c.requires in
     rw (code-coefficient _ _ h (search rules)) (read_is _ (omega (arith, coefficient-fits _ _ h)))

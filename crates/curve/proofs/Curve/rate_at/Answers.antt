@@ -13,28 +13,17 @@ loop-i-init c = passed_first _ _ c.requires c.if-t-a.false
 
 pub interpolate-requires : goal.interpolate-requires
 interpolate-requires c =
-    let in-loop = c.before.before.before in
-    let l = in-loop.before in
-    let after-a = l.before.before.before in
-    passed-between _ _ after-a.requires _ _ l.loop-i.invariant (search rules) c.if-t-b.true
+    passed-between _ _ c.requires _ _ c.loop-i.invariant (search rules) c.if-t-b.true
 
 pub returns-then-t-b : goal.returns-then-t-b
 returns-then-t-b c =
-    let after-b = c.before.before.before in
-    let l = after-b.before.before in
-    let after-a = l.before.before.before in
     c.interpolate.ensures
-    ∙ sym (passed-interpolated _ _ after-a.requires _ _ l.loop-i.invariant (search rules) c.if-t-b.true)
+    ∙ sym (passed-interpolated _ _ c.requires _ _ c.loop-i.invariant (search rules) c.if-t-b.true)
 
 pub loop-i-preserved : goal.loop-i-preserved
 loop-i-preserved c =
-    let in-loop = c.before.before.before in
-    let l = in-loop.before in
-    let after-a = l.before.before.before in
-    passed-next _ _ after-a.requires _ _ l.loop-i.invariant (search rules) c.if-t-b.false
+    passed-next _ _ c.requires _ _ c.loop-i.invariant (search rules) c.if-t-b.false
 
 pub returns : goal.returns
 returns c =
-    let l = c.before in
-    let after-a = l.before.before.before in
-    sym (passed-all _ _ after-a.requires _ _ l.loop-i.invariant (search rules))
+    sym (passed-all _ _ c.requires _ _ c.loop-i.invariant (search rules))

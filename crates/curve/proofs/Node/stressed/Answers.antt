@@ -10,9 +10,8 @@ use Rattle.curve.proofs.Node.stressed.Goals as goal
 
 pub returns : goal.returns
 returns c =
-    let start = c.before.before in
-    let n = start.args.self in
-    let z = shifted start.args.s n in
+    let n = c.args.self in
+    let z = shifted c.args.s n in
     let e : c.clamp-rate.result ≡ clamped z =
-    c.clamp-rate.ensures ∙ rw (c.shift.ensures, read_is z (omega (arith, shifted-size _ _ start.requires))) in
+    c.clamp-rate.ensures ∙ rw (c.shift.ensures, read_is z (omega (arith, shifted-size _ _ c.requires))) in
     ap (λ (r : ℕ). record { day = n.day; rate = r; first = n.first; second = n.second; third = n.third }) e

@@ -12,9 +12,8 @@ returns-then-not-numbers_sound c = rw (← c.numbers_sound.ensures, c.if-not-num
 
 pub unnamed_zero-requires : goal.unnamed_zero-requires
 unnamed_zero-requires c =
-    let s = c.before.before.before in
     let kept = sym c.numbers_sound.ensures ∙ c.if-not-numbers_sound.false in
-    (s.requires, count_most s.args.b.now s.args.k kept)
+    (c.requires, count_most c.args.b.now c.args.k kept)
 
 pub returns : goal.returns
 unfolding breaks_curve

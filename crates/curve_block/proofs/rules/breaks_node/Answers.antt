@@ -29,27 +29,22 @@ loop-i-init c = (search rules, search rules, refl, rw (sub-zero, c.node_count-n.
 
 pub returns-then-not-node_sound : goal.returns-then-not-node_sound
 returns-then-not-node_sound c =
-    let in-loop = c.before.before.before in
-    let at-loop = in-loop.before in
-    let b = at-loop.args.b.now in
-    let sound = sound-is b at-loop.loop-i.i _ _ c.node_sound.result at-loop.loop-i.invariant.2 c.Node-at.ensures c.node_sound.ensures in
-    sym (at-loop.loop-i.invariant.3
-    ∙ rw (every-failed (sound_at b) at-loop.loop-i.i _ c.loop-i-test.true (sym sound ∙ c.if-not-node_sound.true)))
+    let b = c.args.b.now in
+    let sound = sound-is b c.loop-i.i _ _ c.node_sound.result c.loop-i.invariant.2 c.node_at-node.ensures c.node_sound.ensures in
+    sym (c.loop-i.invariant.3
+    ∙ rw (every-failed (sound_at b) c.loop-i.i _ c.loop-i-test.true (sym sound ∙ c.if-not-node_sound.true)))
 
 pub loop-i-preserved : goal.loop-i-preserved
 loop-i-preserved c =
-    let in-loop = c.before.before.before in
-    let at-loop = in-loop.before in
-    let b = at-loop.args.b.now in
-    let sound = sound-is b at-loop.loop-i.i _ _ c.node_sound.result at-loop.loop-i.invariant.2 c.Node-at.ensures c.node_sound.ensures in (
+    let b = c.args.b.now in
+    let sound = sound-is b c.loop-i.i _ _ c.node_sound.result c.loop-i.invariant.2 c.node_at-node.ensures c.node_sound.ensures in (
       search rules,
       search rules,
-      day-next b at-loop.loop-i.i c.Node-at.result c.Node-at.ensures,
-      at-loop.loop-i.invariant.3
-          ∙ rw (every-passed (sound_at b) at-loop.loop-i.i _ c.loop-i-test.true (sym sound ∙ c.if-not-node_sound.false)),
+      day-next b c.loop-i.i c.node_at-node.result c.node_at-node.ensures,
+      c.loop-i.invariant.3
+          ∙ rw (every-passed (sound_at b) c.loop-i.i _ c.loop-i-test.true (sym sound ∙ c.if-not-node_sound.false)),
     )
 
 pub returns : goal.returns
 returns c =
-    let after-shared-slice-known = c.before.before.before in
-    sym (c.loop-i.invariant.3 ∙ rw (every-end (sound_at after-shared-slice-known.args.b.now) _ _ c.loop-i-test.false))
+    sym (c.loop-i.invariant.3 ∙ rw (every-end (sound_at c.args.b.now) _ _ c.loop-i-test.false))

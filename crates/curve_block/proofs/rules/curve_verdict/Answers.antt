@@ -18,15 +18,12 @@ module _ (c : After-or_if-v) where
   -- grounds 2, 3 and 5
   so_far : c.or_if-v.result ≡ in_turn Accepted start.args.k (take 3 (curve_rules start.args.b.now start.args.k))
   so_far =
-      let curve = c.before in
-      let place = curve.before.before in
-      let check = place.before.before in
       let k = start.args.k in
       also Curve k
       (also Place k
-      (also {v = Accepted} Check k refl check.breaks_check.ensures place.or_if.ensures)
-      place.breaks_place.ensures curve.or_if-2.ensures)
-      curve.breaks_curve.ensures c.or_if-v.ensures
+      (also {v = Accepted} Check k refl c.breaks_check.ensures c.or_if.ensures)
+      c.breaks_place.ensures c.or_if-2.ensures)
+      c.breaks_curve.ensures c.or_if-v.ensures
 
 pub returns-then-not-is_accepted : goal.returns-then-not-is_accepted
 unfolding curve_verdict

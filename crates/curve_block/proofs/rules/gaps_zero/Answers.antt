@@ -17,28 +17,23 @@ loop-i-init c = (search rules, search rules, rw (sub-zero, c.node_count-n.ensure
 
 pub returns-then-u16_at-ne0 : goal.returns-then-u16_at-ne0
 returns-then-u16_at-ne0 c =
-    let in-loop = c.before.before.before in
-    let at-loop = in-loop.before in
-    let b = at-loop.args.b.now in
-    let i = at-loop.loop-i.i in
+    let b = c.args.b.now in
+    let i = c.loop-i.i in
     let e : c.u16_at.result ≡ u16_at b (node_place i + 2) = c.u16_at.ensures.value ∙ rw c.node_place.ensures in
-    sym (at-loop.loop-i.invariant.2
+    sym (c.loop-i.invariant.2
     ∙ every-failed (gap_zero b) i _ c.loop-i-test.true (rw (← e) (ne_eqb c.u16_at.result 0 c.if-u16_at-ne0.true)))
 
 pub loop-i-preserved : goal.loop-i-preserved
 loop-i-preserved c =
-    let in-loop = c.before.before.before in
-    let at-loop = in-loop.before in
-    let b = at-loop.args.b.now in
-    let i = at-loop.loop-i.i in
+    let b = c.args.b.now in
+    let i = c.loop-i.i in
     let e : c.u16_at.result ≡ u16_at b (node_place i + 2) = c.u16_at.ensures.value ∙ rw c.node_place.ensures in (
       search rules,
       search rules,
-      at-loop.loop-i.invariant.2
+      c.loop-i.invariant.2
           ∙ every-passed (gap_zero b) i _ c.loop-i-test.true (rw (← e) (eq-eqb c.u16_at.result 0 c.if-u16_at-ne0.false)),
     )
 
 pub returns : goal.returns
 returns c =
-    let after-shared-slice-known = c.before.before.before in
-    sym (c.loop-i.invariant.2 ∙ every-end (gap_zero after-shared-slice-known.args.b.now) _ _ c.loop-i-test.false)
+    sym (c.loop-i.invariant.2 ∙ every-end (gap_zero c.args.b.now) _ _ c.loop-i-test.false)

@@ -6,5 +6,4 @@ use Rattle.curve_block.proofs.rules.unnamed_zero.Goals as goal
 pub returns : goal.returns
 unfolding unnamed_zero
 returns c =
-    let u = c.before.before.before in
-    rw (c.zeros.ensures, c.node_place.ensures, c.gaps_zero.ensures, u.u16_at-2.ensures.value, u.u16_at.ensures.value, u.node_count-n.ensures)
+    rw (c.zeros.ensures, c.node_place.ensures, c.gaps_zero.ensures, c.u16_at-2.ensures.value, c.u16_at.ensures.value, c.node_count-n.ensures)

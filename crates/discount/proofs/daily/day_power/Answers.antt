@@ -18,15 +18,12 @@ run-taken-requires c = (c.guess.ensures, zero-le, powers-none c.guess.result c.o
 pub run-ends-requires : goal.run-ends-requires
 unfolding unit year
 run-ends-requires c =
-    let guessed = c.before.before in
-    (guessed.guess.ensures, guessed.requires.1, c.run-taken.ensures)
+    (c.guess.ensures, c.requires.1, c.run-taken.ensures)
 
 pub power_from_guess-requires : goal.power_from_guess-requires
 unfolding unit year
 power_from_guess-requires c =
-    let at-k = c.before in
-    let guessed = at-k.before.before in
-    (guessed.requires.0, guessed.guess.ensures, at-k.run-taken.ensures.low-is, c.run-ends.ensures)
+    (c.requires.0, c.guess.ensures, c.run-taken.ensures.low-is, c.run-ends.ensures)
 
 pub returns : goal.returns
 returns c = c.power_from_guess.ensures

@@ -10,16 +10,13 @@ use Rattle.discount.proofs.daily.power_from_guess.Goals as goal
 
 pub returns-then-next-q : goal.returns-then-next-q
 returns-then-next-q c =
-    let told = c.before.before.before in
-    let s = told.before in
-    let e : s.args.q.0 ≡ root s.args.yearly.0 = omega (arith, told.nearer-next.ensures.1, c.if-next-q.true) in
-    (s.requires.2 ∙ ap (λ (q : ℕ). power q s.args.k) e, omega (arith, s.requires.2, power_le s.args.q.0 s.args.k (omega arith)))
+    let e : c.args.q.0 ≡ root c.args.yearly.0 = omega (arith, c.nearer-next.ensures.1, c.if-next-q.true) in
+    (c.requires.2 ∙ ap (λ (q : ℕ). power q c.args.k) e, omega (arith, c.requires.2, power_le c.args.q.0 c.args.k (omega arith)))
 
 pub power-requires : goal.power-requires
 power-requires c = rw c.search.ensures (root-le _)
 
 pub returns : goal.returns
 returns c =
-    let known = c.before.before.before in
-    let k = known.args.k in
+    let k = c.args.k in
     (c.power.ensures.0 ∙ ap (λ (q : ℕ). power q k) c.search.ensures, c.power.ensures.1)

@@ -12,14 +12,12 @@ loop-i-init c = (c.requires.1, c.requires.2)
 
 pub product-chains-requires : goal.product-chains-requires
 product-chains-requires c =
-    let start = c.before.before in
-    let h = powers-le start.args.q.0 c.loop-i.i start.requires.0 c.loop-i.invariant.1 in
-    (h.0, h.1, start.requires.0)
+    let h = powers-le c.args.q.0 c.loop-i.i c.requires.0 c.loop-i.invariant.1 in
+    (h.0, h.1, c.requires.0)
 
 pub loop-i-preserved : goal.loop-i-preserved
 loop-i-preserved c =
-    let head = c.before.before in
-    (omega arith, powers-next head.args.q.0 head.loop-i.i c.product-chains.ensures head.loop-i.invariant.1)
+    (omega arith, powers-next c.args.q.0 c.loop-i.i c.product-chains.ensures c.loop-i.invariant.1)
 
 pub returns : goal.returns
 returns c =

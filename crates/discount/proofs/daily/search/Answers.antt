@@ -15,8 +15,7 @@ run-requires c = (c.loop-q.invariant, zero-le, powers-none c.loop-q.q.0 c.ones.e
 pub nearer-next-requires : goal.nearer-next-requires
 unfolding year
 nearer-next-requires c =
-    let head = c.before.before in
-    (head.requires.0, head.loop-q.invariant, c.run.ensures)
+    (c.requires.0, c.loop-q.invariant, c.run.ensures)
 
 pub returns-then-next-q : goal.returns-then-next-q
 returns-then-next-q c = omega arith

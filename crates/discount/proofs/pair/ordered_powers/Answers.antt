@@ -18,42 +18,29 @@ guess-requires-2 c = omega arith
 pub run-short-requires : goal.run-short-requires
 unfolding unit
 run-short-requires c =
-    let guessed = c.before.before in
-    let q = guessed.guess in
-    let p = guessed.guess-2 in
+    let q = c.guess in
+    let p = c.guess-2 in
     (q.ensures, p.ensures, zero-le, powers-none q.result c.ones.ensures, powers-none p.result c.ones-2.ensures)
 
 pub run-long-requires : goal.run-long-requires
 unfolding unit
 run-long-requires c =
-    let guessed = c.before.before.before in
-    let start = guessed.before.before in
-    (guessed.guess.ensures, guessed.guess-2.ensures, start.requires.2, c.run-short.ensures.0, c.run-short.ensures.1)
+    (c.guess.ensures, c.guess-2.ensures, c.requires.2, c.run-short.ensures.0, c.run-short.ensures.1)
 
 pub run-ends-requires : goal.run-ends-requires
 unfolding unit year
 run-ends-requires c =
-    let at_j = c.before in
-    let guessed = at_j.before.before.before in
-    let start = guessed.before.before in
-    (guessed.guess.ensures, guessed.guess-2.ensures, start.requires.3, c.run-long.ensures.0, c.run-long.ensures.1)
+    (c.guess.ensures, c.guess-2.ensures, c.requires.3, c.run-long.ensures.0, c.run-long.ensures.1)
 
 pub power_from_guess-requires : goal.power_from_guess-requires
 unfolding unit year
 power_from_guess-requires c =
-    let ends = c.before.before in
-    let at_j = ends.before.before in
-    let guessed = at_j.before.before.before in
-    (guessed.requires.0, guessed.guess.ensures, at_j.run-short.ensures.0.low-is, ends.run-ends.ensures.0)
+    (c.requires.0, c.guess.ensures, c.run-short.ensures.0.low-is, c.run-ends.ensures.0)
 
 pub power_from_guess-requires-2 : goal.power_from_guess-requires-2
 unfolding unit year
 power_from_guess-requires-2 c =
-    let ends = c.before.before.before in
-    let at-k = ends.before in
-    let at_j = at-k.before in
-    let guessed = at_j.before.before.before in
-    (guessed.requires.1, guessed.guess-2.ensures, at-k.run-long.ensures.1.low-is, ends.run-ends.ensures.1)
+    (c.requires.1, c.guess-2.ensures, c.run-long.ensures.1.low-is, c.run-ends.ensures.1)
 
 pub returns : goal.returns
 returns c =

@@ -14,30 +14,24 @@ loop-i-init c =
 
 pub product-first-requires : goal.product-first-requires
 product-first-requires c =
-    let head = c.before in
-    let s = head.before.before.before in
-    let h = powers-le s.args.q.0 head.loop-i.i s.requires.0 head.loop-i.invariant.1 in
-    (h.0, h.1, s.requires.0)
+    let h = powers-le c.args.q.0 c.loop-i.i c.requires.0 c.loop-i.invariant.1 in
+    (h.0, h.1, c.requires.0)
 
 pub product-second-requires : goal.product-second-requires
 product-second-requires c =
-    let head = c.before.before in
-    let s = head.before.before.before in
-    let h = powers-le s.args.p.0 head.loop-i.i s.requires.1 head.loop-i.invariant.2 in
-    (h.0, h.1, s.requires.1)
+    let h = powers-le c.args.p.0 c.loop-i.i c.requires.1 c.loop-i.invariant.2 in
+    (h.0, h.1, c.requires.1)
 
 pub loop-i-preserved : goal.loop-i-preserved
 loop-i-preserved c =
-    let head = c.before.before.before in
-    let a = head.args in
-    let i = head.loop-i.i in (
+    let a = c.args in
+    let i = c.loop-i.i in (
       omega arith,
-      powers-next a.q.0 i c.product-first.ensures head.loop-i.invariant.1,
-      powers-next a.p.0 i c.product-second.ensures head.loop-i.invariant.2,
+      powers-next a.q.0 i c.product-first.ensures c.loop-i.invariant.1,
+      powers-next a.p.0 i c.product-second.ensures c.loop-i.invariant.2,
     )
 
 pub returns : goal.returns
 returns c =
-    let head = c.before in
-    let e : head.loop-i.i ≡ head.args.k = omega arith in
-    (rw e at head.loop-i.invariant.1, rw e at head.loop-i.invariant.2)
+    let e : c.loop-i.i ≡ c.args.k = omega arith in
+    (rw e at c.loop-i.invariant.1, rw e at c.loop-i.invariant.2)

@@ -20,7 +20,5 @@ day_power-power-requires c = omega (arith, c.yearly-yearly.ensures.1, c.if-yearl
 
 pub returns : goal.returns
 returns c =
-    let known = c.before.before.before in
-    let told = known.before in
-    let a = told.args in
-    (factor-is a.rate a.days told.yearly-yearly.ensures.0 c.day_power-power.ensures.0 c.compound.ensures.0, c.compound.ensures.1)
+    let a = c.args in
+    (factor-is a.rate a.days c.yearly-yearly.ensures.0 c.day_power-power.ensures.0 c.compound.ensures.0, c.compound.ensures.1)

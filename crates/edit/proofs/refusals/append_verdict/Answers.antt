@@ -20,6 +20,5 @@ new_record_verdict-requires c =
 pub returns : goal.returns
 unfolding append_verdict
 returns c =
-    let told = c.before.before in
-    let accepted = sym told.check-v.ensures ∙ is-accepted _ (sym told.is_accepted.ensures ∙ c.if-not-is_accepted.false) in
+    let accepted = sym c.check-v.ensures ∙ is-accepted _ (sym c.is_accepted.ensures ∙ c.if-not-is_accepted.false) in
     c.new_record_verdict.ensures ∙ rw accepted

@@ -15,22 +15,16 @@ curve_count-requires c = let b = sound _ _ c.requires in omega arith
 
 pub curves_of-requires : goal.curves_of-requires
 curves_of-requires c =
-    let curves = c.before.before in
-    let b = sound _ _ curves.requires in
+    let b = sound _ _ c.requires in
     omega arith
 
 pub breaks_book_space-requires : goal.breaks_book_space-requires
 breaks_book_space-requires c =
-    let after-r = c.before.before.before in
-    let curves = after-r.before in
-    (sound _ _ curves.requires).limit
+    (sound _ _ c.requires).limit
 
 pub returns : goal.returns
 unfolding new_record_verdict
 returns c =
-    let judged = c.before.before in
-    let fields = judged.before.before in
-    let curves = fields.before.before in
-    let trades = curves.trade_count-trades.ensures in
-    let e = rw (judged.curves_of.ensures, fields.fields_of-f.ensures, curves.curve_count.ensures.value, trades) at judged.record_verdict-v.ensures in
+    let trades = c.trade_count-trades.ensures in
+    let e = rw (c.curves_of.ensures, c.fields_of-f.ensures, c.curve_count.ensures.value, trades) at c.record_verdict-v.ensures in
     also BookSpace 0 e (rw trades at c.breaks_book_space.ensures) c.or_if.ensures

@@ -25,6 +25,4 @@ breaks_position-requires c =
 pub returns : goal.returns
 unfolding position_verdict
 returns c =
-    let after-is-accepted = c.before.before.before in
-    let checked = after-is-accepted.before in
-    also Position 0 checked.check-v.ensures c.breaks_position.ensures c.or_if.ensures
+    also Position 0 c.check-v.ensures c.breaks_position.ensures c.or_if.ensures

@@ -10,23 +10,18 @@ use Rattle.estimate.proofs.days.list_days.Goals as goal
 
 pub loop-day-smaller : goal.loop-day-smaller
 loop-day-smaller c =
-    let turn = c.before.before.before in
-    omega (arith, turn.loop-day-test.true, c.pass_empty-day-in-loop-day.ensures.order)
+    omega (arith, c.loop-day-test.true, c.pass_empty-day-in-loop-day.ensures.order)
 
 pub loop-day-preserved : goal.loop-day-preserved
 loop-day-preserved c =
-    let joined = c.before in
-    let turn = joined.before.before in
-    let l = turn.before in
-    let s = l.before.before.before in
-    let x = get_or s.args.nets.now l.loop-day.day (pos 0) in
-    let k = turn.loop-day-test.true in
-    let more = listing-more _ _ _ _ _ l.loop-day.invariant k s.requires.0 in
-    let kept = listing-kept _ _ _ _ _ l.loop-day.invariant k s.requires.0 in
+    let x = get_or c.args.nets.now c.loop-day.day (pos 0) in
+    let k = c.loop-day-test.true in
+    let more = listing-more _ _ _ _ _ c.loop-day.invariant k c.requires.0 in
+    let kept = listing-kept _ _ _ _ _ c.loop-day.invariant k c.requires.0 in
     ⊎_elim
     (λ w. rw w.1 (listing-past _ _ _ _ _ (more (some-tested x w.0.taken)) _ c.pass_empty-day-in-loop-day.ensures))
-    (λ w. rw w.1 (listing-past _ _ _ _ _ (kept (none-tested x joined.t11-1.given w.0.left)) _ c.pass_empty-day-in-loop-day.ensures))
-    joined.if-nets-day-ne0.branch
+    (λ w. rw w.1 (listing-past _ _ _ _ _ (kept (none-tested x c.t11-1.given w.0.left)) _ c.pass_empty-day-in-loop-day.ensures))
+    c.if-nets-day-ne0.branch
 
 pub returns : goal.returns
 returns c =

@@ -10,14 +10,11 @@ overflow_cast-days c = omega (arith, c.shared_slice_known-1.given c.loop-i.i)
 
 pub returns-then-day-days : goal.returns-then-day-days
 returns-then-day-days c =
-    let turn = c.before.before in
-    let l = turn.before in
-    earlier-stop _ _ _ l.loop-i.invariant l.requires turn.loop-i-test.true c.if-day-days.true
+    earlier-stop _ _ _ c.loop-i.invariant c.requires c.loop-i-test.true c.if-day-days.true
 
 pub loop-i-preserved : goal.loop-i-preserved
 loop-i-preserved c =
-    let turn = c.before.before in
-    earlier-next _ _ _ turn.loop-i.invariant turn.loop-i-test.true c.if-day-days.false
+    earlier-next _ _ _ c.loop-i.invariant c.loop-i-test.true c.if-day-days.false
 
 pub loop-i-init : goal.loop-i-init
 loop-i-init c = earlier-none _ _

@@ -19,10 +19,9 @@ module _ (s : Start) where
 
 pub overflow_mul-result-2 : goal.overflow_mul-result-2
 overflow_mul-result-2 c =
-    let s = c.before.before in
-    let a = s.args in
-    rw (code-moved a.slope a.a.day s.requires.2 s.requires.0.day)
-    (fits _ (omega (arith, moved-size a.slope a.a.day s.requires.2 s.requires.0.day)))
+    let a = c.args in
+    rw (code-moved a.slope a.a.day c.requires.2 c.requires.0.day)
+    (fits _ (omega (arith, moved-size a.slope a.a.day c.requires.2 c.requires.0.day)))
 
 pub overflow_sub-result : goal.overflow_sub-result
 overflow_sub-result c =

@@ -33,8 +33,7 @@ value_in-requires c =
     let turn = c.before.before in
     let l = turn.before in
     let p = (entry l).requires in
-    let filled = l.before.before.before in
-    (p.0, rw c.scenario-scenario.ensures (scenario-limits _ _ (within turn) p.1), filled.fill_ends.ensures, p.2, p.3)
+    (p.0, rw c.scenario-scenario.ensures (scenario-limits _ _ (within turn) p.1), l.fill_ends.ensures, p.2, p.3)
 
 pub offset_bounds-values-at : goal.offset_bounds-values-at
 offset_bounds-values-at c =
@@ -65,8 +64,7 @@ loop-s-preserved c =
 
 pub returns : goal.returns
 returns c =
-    let l = c.before in
-    record { kept = l.loop-s.invariant.places; each = filled-all _ _ _ _ _ _ l.loop-s.invariant (omega (arith, c.loop-s-test.false, l.scenario_count-n.ensures)) }
+    record { kept = c.loop-s.invariant.places; each = filled-all _ _ _ _ _ _ c.loop-s.invariant (omega (arith, c.loop-s-test.false, c.scenario_count-n.ensures)) }
 
 pub loop-s-init : goal.loop-s-init
 loop-s-init c = filled_none _ _ _ _

@@ -17,8 +17,7 @@ entry l = start l.before.before.before
 
 pub level-requires : goal.level-requires
 level-requires c =
-    let s = c.before.before.before in
-    (s.requires.0.each 0 (omega (arith, s.requires.0.least))).rate
+    (c.requires.0.each 0 (omega (arith, c.requires.0.least))).rate
 
 pub bounds-ends-0 : goal.bounds-ends-0
 bounds-ends-0 c =

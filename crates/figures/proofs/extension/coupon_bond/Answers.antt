@@ -7,11 +7,6 @@ use Rattle.figures.proofs.extension.coupon_bond.Goals as goal
 pub returns : goal.returns
 unfolding coupon_bond
 returns c =
-    let nominal = c.before in
-    let coupon = nominal.before.before.before in
-    let payments = coupon.before.before.before in
-    let period = payments.before.before.before in
-    let first = period.before.before.before in
-    next_field 12 8 10000000000 nominal.put_le-5.ensures
-    (next_field 8 4 50000 coupon.put_le-4.ensures
-    (next_field 4 2 2 payments.put_le-3.ensures (next_field 2 2 180 period.put_le-2.ensures first.put_le.ensures)))
+    next_field 12 8 10000000000 c.put_le-5.ensures
+    (next_field 8 4 50000 c.put_le-4.ensures
+    (next_field 4 2 2 c.put_le-3.ensures (next_field 2 2 180 c.put_le-2.ensures c.put_le.ensures)))

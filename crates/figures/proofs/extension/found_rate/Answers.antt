@@ -29,11 +29,9 @@ module _ (c : After-bootstrap-v) where
   is-book : curve-copied.copy_in-2.last.0 ≡ known_book
   unfolding known_book
   is-book =
-      let known = curve-copied.before.before in
-      let head = header-copied.before.before in
       curve-copied.copy_in-2.ensures
-      ∙ ap (λ (b : List ℕ). put header-copied.copy_in.last.0 512 b) known.known_curve.ensures
-      ∙ ap (λ (b : List ℕ). put b 512 known_curve) (header-copied.copy_in.ensures ∙ ap (put (replicate 1024 0) 0) head.header.ensures)
+      ∙ ap (λ (b : List ℕ). put header-copied.copy_in.last.0 512 b) curve-copied.known_curve.ensures
+      ∙ ap (λ (b : List ℕ). put b 512 known_curve) (header-copied.copy_in.ensures ∙ ap (put (replicate 1024 0) 0) header-copied.header.ensures)
 
   judged : c.bootstrap-v.result ≡ bootstrap_verdict known_book 1024 0 bond_quote
   unfolding bond_quote

@@ -8,6 +8,4 @@ use Rattle.figures.proofs.extension.header.Goals as goal
 pub returns : goal.returns
 unfolding known_header
 returns c =
-    let after-seal = c.before in
-    let after-put-le = after-seal.before.before.before in
-    after-seal.seal.ensures ∙ ap sealed after-put-le.put_le.ensures
+    c.seal.ensures ∙ ap sealed c.put_le.ensures

@@ -10,19 +10,16 @@ use Rattle.figures.proofs.worked.indexed.Goals.{After-indexed_by-scaled}
 
 pub indexed_by-scaled-requires : goal.indexed_by-scaled-requires
 indexed_by-scaled-requires c =
-    let paid = c.before.before in
-    let n = paid.amount in
-    let r = paid.rate in
-    omega (arith, paid.millionths_of-payment.ensures, millionths-bound n.result r.result 1 n.ensures.1 r.ensures.2)
+    let n = c.amount in
+    let r = c.rate in
+    omega (arith, c.millionths_of-payment.ensures, millionths-bound n.result r.result 1 n.ensures.1 r.ensures.2)
 
 told : (c : After-indexed_by-scaled) →
-    let paid = c.before.before.before in
-    let a = paid.args in
+    let a = c.args in
     c.indexed_by-scaled.result ≡ scaled_to (indexed_by (index_in a.settlement) (index_in a.issue) (millionths_of (amount_in a.nominal) (rate_in a.coupon)))
 told c =
-    let paid = c.before.before.before in
     c.indexed_by-scaled.ensures
-    ∙ rw (c.within-2.ensures.0, c.within.ensures.0, paid.millionths_of-payment.ensures, paid.rate.ensures.0, paid.amount.ensures.0)
+    ∙ rw (c.within-2.ensures.0, c.within.ensures.0, c.millionths_of-payment.ensures, c.rate.ensures.0, c.amount.ensures.0)
 
 pub returns-in-Within : goal.returns-in-Within
 unfolding indexed_for

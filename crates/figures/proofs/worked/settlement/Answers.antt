@@ -11,6 +11,5 @@ settlement_cash-requires c = (c.amount.ensures.1, rw c.dirty-dirty.ensures (omeg
 pub returns : goal.returns
 unfolding cash_for
 returns c =
-    let priced = c.before.before in
     c.settlement_cash.ensures
-    ∙ rw (c.amount.ensures.0, priced.dirty-dirty.ensures, priced.rate.ensures.0, priced.within.ensures.0)
+    ∙ rw (c.amount.ensures.0, c.dirty-dirty.ensures, c.rate.ensures.0, c.within.ensures.0)

@@ -23,8 +23,7 @@ returns-in-Present c = rw c.in-Present.is c.present.ensures
 pub returns-in-Variation : goal.returns-in-Variation
 unfolding worked_of
 returns-in-Variation c =
-    let received = c.before.before in
-    rw received.in-Variation.is (c.difference.ensures ∙ rw (received.present-in-Variation.ensures, c.present-in-Variation-2.ensures))
+    rw c.in-Variation.is (c.difference.ensures ∙ rw (c.present-in-Variation.ensures, c.present-in-Variation-2.ensures))
 
 pub returns-in-Interest : goal.returns-in-Interest
 unfolding worked_of

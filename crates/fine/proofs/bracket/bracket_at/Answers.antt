@@ -12,5 +12,4 @@ same c = let a = c.args in c.bracket_of.ensures.same ∙ ap (bracket_of a.rate a
 
 pub returns : goal.returns
 returns c =
-    let start = c.before.before.before in
-    (same c, (c.bracket_of.ensures.limits, rw (same c) (fine-between start.args.rate start.args.day start.requires.1 start.requires.2)))
+    (same c, (c.bracket_of.ensures.limits, rw (same c) (fine-between c.args.rate c.args.day c.requires.1 c.requires.2)))

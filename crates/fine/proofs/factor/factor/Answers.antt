@@ -8,8 +8,7 @@ use Rattle.fine.proofs.factor.factor.Goals as goal
 
 pub antilog-requires : goal.antilog-requires
 antilog-requires c =
-    let start = c.before.before in
-    (start.requires.0, rw c.exponent.ensures (exponent-le (log_at start.args.rate) start.args.day (log-at-le start.args.rate start.requires.1) start.requires.2))
+    (c.requires.0, rw c.exponent.ensures (exponent-le (log_at c.args.rate) c.args.day (log-at-le c.args.rate c.requires.1) c.requires.2))
 
 pub returns : goal.returns
 unfolding fine_factor

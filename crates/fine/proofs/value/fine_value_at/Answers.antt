@@ -7,6 +7,5 @@ use Rattle.fine.proofs.value.fine_value_at.Goals as goal
 pub returns : goal.returns
 unfolding fine_value_at
 returns c =
-    let at = c.before in
-    let a = at.args in
-    record { same = c.fine_value_in.ensures.same ∙ ap (fine_value_in a.amount) at.bracket_at.ensures.same; worth = c.fine_value_in.ensures.worth a.rate a.day at.bracket_at.ensures.between }
+    let a = c.args in
+    record { same = c.fine_value_in.ensures.same ∙ ap (fine_value_in a.amount) c.bracket_at.ensures.same; worth = c.fine_value_in.ensures.worth a.rate a.day c.bracket_at.ensures.between }

@@ -12,40 +12,33 @@ signs_of-requires c =
 
 pub outright_legs-requires : goal.outright_legs-requires
 outright_legs-requires c =
-    let at-match-keys1 = c.before.before.before in
-    subst TradeLimits c.in-Outright.is at-match-keys1.requires
+    subst TradeLimits c.in-Outright.is c.requires
 
 pub signs_of-requires-in-Pool : goal.signs_of-requires-in-Pool
 signs_of-requires-in-Pool c =
-    let matched = c.before.before in
-    let l = subst TradeLimits matched.in-Pool.is matched.requires in
+    let l = subst TradeLimits c.in-Pool.is c.requires in
     (omega arith, (omega arith, (l.phases, (l.sides.low, l.sides.high))))
 
 pub repo_legs-requires : goal.repo_legs-requires
 repo_legs-requires c =
-    let matched = c.before.before.before in
-    subst TradeLimits matched.in-Pool.is matched.requires
+    subst TradeLimits c.in-Pool.is c.requires
 
 pub signs_of-requires-in-Specified : goal.signs_of-requires-in-Specified
 signs_of-requires-in-Specified c =
-    let matched = c.before.before in
-    let l = subst TradeLimits matched.in-Specified.is matched.requires in
+    let l = subst TradeLimits c.in-Specified.is c.requires in
     (omega arith, (omega arith, (l.phases, (l.sides.low, l.sides.high))))
 
 pub repo_legs-requires-in-Specified : goal.repo_legs-requires-in-Specified
 repo_legs-requires-in-Specified c =
-    let matched = c.before.before.before in
-    subst TradeLimits matched.in-Specified.is matched.requires
+    subst TradeLimits c.in-Specified.is c.requires
 
 pub returns-in-Outright : goal.returns-in-Outright
 returns-in-Outright c = rw c.in-Outright.is (c.outright_legs.ensures ∙ rw c.signs_of.ensures)
 
 pub returns-in-Pool : goal.returns-in-Pool
 returns-in-Pool c =
-    let settled = c.before.before in
-    rw settled.in-Pool.is (c.repo_legs.ensures ∙ rw (c.signs_of-in-Pool.ensures, settled.has_settled.ensures))
+    rw c.in-Pool.is (c.repo_legs.ensures ∙ rw (c.signs_of-in-Pool.ensures, c.has_settled.ensures))
 
 pub returns-in-Specified : goal.returns-in-Specified
 returns-in-Specified c =
-    let settled = c.before.before in
-    rw settled.in-Specified.is (c.repo_legs-in-Specified.ensures ∙ rw (c.signs_of-in-Specified.ensures, settled.has_settled-in-Specified.ensures))
+    rw c.in-Specified.is (c.repo_legs-in-Specified.ensures ∙ rw (c.signs_of-in-Specified.ensures, c.has_settled-in-Specified.ensures))

@@ -10,5 +10,4 @@ overflow_add-coupon c = omega (arith, c.coupon_of-coupon.ensures.upper_bound, c.
 
 pub returns : goal.returns
 returns c =
-    let cap = c.before.before.before in
-    rw (c.bond_leg.ensures, c.cap-2.ensures, cap.cap.ensures, cap.coupon_of-coupon.ensures.value)
+    rw (c.bond_leg.ensures, c.cap-2.ensures, c.cap.ensures, c.coupon_of-coupon.ensures.value)

@@ -9,8 +9,7 @@ use Rattle.flows.proofs.trade_legs.indexed_payment.Goals as goal
 pub returns-in-Within : goal.returns-in-Within
 unfolding indexed_of
 returns-in-Within c =
-    let after-indexed-by = c.before.before.before in
-    let a = after-indexed-by.args in
+    let a = c.args in
     capped-within (indexed_of a.i a.payment) _ (sym c.in-Within.is ∙ c.indexed_by.ensures)
 
 pub returns-in-Over : goal.returns-in-Over

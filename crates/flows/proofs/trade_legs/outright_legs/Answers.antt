@@ -11,23 +11,20 @@ pub settlement_cash-cash-requires : goal.settlement_cash-cash-requires
 settlement_cash-cash-requires c =
     let l = c.requires in
     let s = c.args.t.security in
-    (rw c.nominal_of.ensures (nominal-bound s l.security), rw c.dirty-dirty.ensures (omega (arith, l.price-1, l.accrued)))
+    (rw c.nominal_of.ensures (nominal-bound s l.security), rw c.dirty-dirty.ensures (omega (arith, l.price, l.accrued)))
 
 pub returns : goal.returns
 unfolding outright_legs
 returns c =
-    let paid = c.before.before.before in
-    let priced = paid.before.before in
-    let after-price = priced.before.before.before in
-    let s = after-price.args.s in
+    let s = c.args.s in
     rw (
       c.payment_leg.ensures,
       c.no_leg.ensures,
-      paid.cash_leg.ensures,
+      c.cash_leg.ensures,
       back s.payments c.struct_told-2-1.given.1.1.0.1,
-      back s.first paid.struct_told-1.given.0.1,
-      priced.settlement_cash-cash.ensures,
-      priced.nominal_of.ensures,
-      priced.dirty-dirty.ensures,
+      back s.first c.struct_told-1.given.0.1,
+      c.settlement_cash-cash.ensures,
+      c.nominal_of.ensures,
+      c.dirty-dirty.ensures,
       capped-none,
     )

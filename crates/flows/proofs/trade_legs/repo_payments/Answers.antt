@@ -16,25 +16,20 @@ use Rattle.flows.proofs.trade_legs.repo_payments.Goals as goal
 
 pub returns-then-settled-all_behind : goal.returns-then-settled-all_behind
 returns-then-settled-all_behind c =
-    let found = c.before.before.before in
-    let a = found.args in
+    let a = c.args in
     let t = a.t in
-    let p = both (not a.settled) (ltb t.valueday2 found.first_payment_of.result) c.if-settled-all_behind.true in
-    let behind = ltb-true t.valueday2 found.first_payment_of.result p.1 in
+    let p = both (not a.settled) (ltb t.valueday2 c.first_payment_of.result) c.if-settled-all_behind.true in
+    let behind = ltb-true t.valueday2 c.first_payment_of.result p.1 in
     c.no_leg.ensures
-    ∙ rw (not-true a.settled p.0, all-behind a.sign t.security t.valueday1 t.valueday2 (omega (arith, behind, found.first_payment_of.ensures)), capped-none)
+    ∙ rw (not-true a.settled p.0, all-behind a.sign t.security t.valueday1 t.valueday2 (omega (arith, behind, c.first_payment_of.ensures)), capped-none)
 
 pub counted_leg-requires : goal.counted_leg-requires
 counted_leg-requires c =
-    let found = c.before.before.before in
-    let start = found.before in
-    rw c.payment_leg-payments.ensures (payment-reach _ start.args.t.security start.requires.security)
+    rw c.payment_leg-payments.ensures (payment-reach _ c.args.t.security c.requires.security)
 
 pub returns : goal.returns
 returns c =
-    let else1 = c.before.before in
-    let start = else1.before.before.before in
-    let a = start.args in
+    let a = c.args in
     let t = a.t in
     c.counted_leg.ensures
-    ∙ rw (c.payment_leg-payments.ensures, back a.sign start.ranges.sign.sfits) (counted-capped a.settled t.valueday1 t.valueday2 (signed_leg a.sign (payments_of t.security)))
+    ∙ rw (c.payment_leg-payments.ensures, back a.sign c.ranges.sign.sfits) (counted-capped a.settled t.valueday1 t.valueday2 (signed_leg a.sign (payments_of t.security)))

@@ -22,17 +22,14 @@ module _ (c : After-or_if-v) where
   -- the rules 8 to 11
   so_far : c.or_if-v.result ≡ in_turn Accepted start.args.block (take 4 (record_rules start.args.curves start.args.f))
   so_far =
-      let currency = c.before in
-      let amounts = currency.before.before in
-      let days = amounts.before.before in
       let k = start.args.block in
       also Currency k
       (also Amounts k
       (also Days k
-      (also {v = Accepted} Form k refl form.breaks_form.ensures days.or_if.ensures)
-      days.breaks_days.ensures amounts.or_if-2.ensures)
-      amounts.breaks_amounts.ensures currency.or_if-3.ensures)
-      currency.breaks_currency.ensures c.or_if-v.ensures
+      (also {v = Accepted} Form k refl form.breaks_form.ensures c.or_if.ensures)
+      c.breaks_days.ensures c.or_if-2.ensures)
+      c.breaks_amounts.ensures c.or_if-3.ensures)
+      c.breaks_currency.ensures c.or_if-v.ensures
 
 pub returns-then-not-is_accepted : goal.returns-then-not-is_accepted
 unfolding record_verdict

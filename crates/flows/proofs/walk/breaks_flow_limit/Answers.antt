@@ -9,10 +9,8 @@ use Rattle.flows.proofs.walk.breaks_flow_limit.Goals as goal
 pub returns : goal.returns
 unfolding breaks_flow_limit
 returns c =
-    let after-payments = c.before.before.before in
-    let after-capped-legs = after-payments.before.before.before in
-    let legs = after-payments.capped_legs-l.ensures in
-    let t = after-capped-legs.args.t in
+    let legs = c.capped_legs-l.ensures in
+    let t = c.args.t in
     let l = counted_legs t in
     rw (
       ← flows-counted t,
@@ -21,7 +19,7 @@ returns c =
       c.leg_above-2.ensures,
       c.leg_above-3.ensures,
       legs,
-      any-capped l.first-1,
-      any-capped l.second-1,
-      any-capped l.payments-1,
+      any-capped l.first,
+      any-capped l.second,
+      any-capped l.payments,
     )

@@ -7,5 +7,4 @@ use Rattle.flows.proofs.walk.leg_above.Goals as goal
 pub returns : goal.returns
 unfolding unit
 returns c =
-    let after-struct-known = c.before.before.before in
-    sym (any-leg after-struct-known.args.l)
+    sym (any-leg c.args.l)

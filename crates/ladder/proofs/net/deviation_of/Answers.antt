@@ -17,8 +17,7 @@ use Rattle.ladder.proofs.net.deviation_of.Goals.{After-payment-f, In-loop-rung, 
 
 pub loop-rung-init : goal.loop-rung-init
 loop-rung-init c =
-    let s = c.before in
-    folded-none _ _ _ _ _ s.requires _ (room-none 200000 s.requires.few)
+    folded-none _ _ _ _ _ c.requires _ (room-none 200000 c.requires.few)
 
 -- in a turn
 module _ (c : In-loop-rung) where

@@ -73,8 +73,7 @@ loop-rung-preserved c =
 
 pub shape_of-nets : goal.shape_of-nets
 shape_of-nets c =
-    let head = c.before.before in
-    head.loop-rung.invariant.room.0 ∙ sym head.requires.1
+    c.loop-rung.invariant.room.0 ∙ sym c.requires.1
 
 pub returns : goal.returns
 returns c = folded-all c.loop-rung.invariant c.loop-rung-test.false

@@ -12,8 +12,7 @@ use Rattle.ladder.proofs.payments.payment.Goals.{After-struct_known-2-1}
 day-fits : (c : After-struct_known-2-1) → let after-struct-known = c.before.before.before in let a = after-struct-known.args in
     let l = leg_at a.curve a.ladder.now a.rung.schedule in l.first + a.rung.payment * l.period ≤ 10950
 day-fits c =
-    let after-struct-known = c.before.before.before in
-    let p = after-struct-known.requires in
+    let p = c.requires in
     span _ _ p.1 p.0.within
 
 pub overflow_mul-day : goal.overflow_mul-day

@@ -78,8 +78,7 @@ shape_of-factors c =
 
 pub returns : goal.returns
 returns c =
-    let head = c.before.before.before in
-    c.finished.ensures ∙ folded-all head.loop-rung.invariant.0 c.loop-rung-test.false ∙ plus_flows-none _ _
+    c.finished.ensures ∙ folded-all c.loop-rung.invariant.0 c.loop-rung-test.false ∙ plus_flows-none _ _
 
 pub payment-f-requires : goal.payment-f-requires
 payment-f-requires c = here c

@@ -17,16 +17,13 @@ returns-then-day-l c = rw (lt-ltb _ _ c.if-day-l.true)
 pub returns-then-l-paid : goal.returns-then-l-paid
 unfolding leg_after
 returns-then-l-paid c =
-    let paid = c.before.before.before in
-    c.no_leg.ensures ∙ rw (le-ltb _ _ paid.if-day-l.false, ← paid.paid_by-paid.ensures, le-ltb _ _ c.if-l-paid.true)
+    c.no_leg.ensures ∙ rw (le-ltb _ _ c.if-day-l.false, ← c.paid_by-paid.ensures, le-ltb _ _ c.if-l-paid.true)
 
 -- some flows are left, and the first of them is in reach
 module _ (c : Else-l-paid) where
   reach : let paid = c.before.before in let l = paid.args.l in l.first + paid.paid_by-paid.result * l.period ≤ last_day
   reach =
-      let paid = c.before.before in
-      let start = paid.before.before.before in
-      span start.args.l paid.paid_by-paid.result start.requires c.if-l-paid.false
+      span c.args.l c.paid_by-paid.result c.requires c.if-l-paid.false
 
 pub overflow_mul-result : goal.overflow_mul-result
 overflow_mul-result c = omega (arith, reach c.before)
@@ -37,6 +34,4 @@ overflow_add-result c = omega (arith, reach c.before.before)
 pub returns : goal.returns
 unfolding leg_after
 returns c =
-    let else2 = c.before.before.before in
-    let paid = else2.before.before in
-    rw (le-ltb _ _ paid.if-day-l.false, ← paid.paid_by-paid.ensures, lt-ltb _ _ else2.if-l-paid.false)
+    rw (le-ltb _ _ c.if-day-l.false, ← c.paid_by-paid.ensures, lt-ltb _ _ c.if-l-paid.false)

@@ -11,11 +11,9 @@ returns-then-l-eq0 c = rw (eq-eqb _ _ c.if-l-eq0.true)
 pub returns-then-periods-l : goal.returns-then-periods-l
 unfolding paid_by
 returns-then-periods-l c =
-    let divided = c.before.before in
-    rw (ne_eqb _ _ divided.if-l-eq0.false, lt-ltb _ _ c.if-periods-l.true)
+    rw (ne_eqb _ _ c.if-l-eq0.false, lt-ltb _ _ c.if-periods-l.true)
 
 pub returns-else-periods-l : goal.returns-else-periods-l
 unfolding paid_by
 returns-else-periods-l c =
-    let divided = c.before.before in
-    rw (ne_eqb _ _ divided.if-l-eq0.false, le-ltb _ _ c.if-periods-l.false)
+    rw (ne_eqb _ _ c.if-l-eq0.false, le-ltb _ _ c.if-periods-l.false)

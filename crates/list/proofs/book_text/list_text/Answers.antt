@@ -16,14 +16,10 @@ use Rattle.list.proofs.book_text.list_text.Goals.{Else-breaks_space, Start}
 pub returns-then-breaks_space : goal.returns-then-breaks_space
 unfolding list_answer list_bytes
 returns-then-breaks_space c =
-    let asked = c.before in
-    let wrote = asked.before.before in
-    let text = wrote.before.before in
-    let start = text.before.before in
-    let a = start.args in
-    let e : wrote.put_listing-n.result ≡ length (list_text a.book.now a.used) = wrote.put_listing-n.ensures.value in
-    let p = text-too-long (list_text a.book.now a.used) a.out-1.now (rw e at (sym asked.breaks_space.ensures ∙ c.if-breaks_space.true)) in
-    (p.answer, (p.bytes, omega (arith, e, wrote.put_listing-n.ensures.upper_bound)))
+    let a = c.args in
+    let e : c.put_listing-n.result ≡ length (list_text a.book.now a.used) = c.put_listing-n.ensures.value in
+    let p = text-too-long (list_text a.book.now a.used) a.out-1.now (rw e at (sym c.breaks_space.ensures ∙ c.if-breaks_space.true)) in
+    (p.answer, (p.bytes, omega (arith, e, c.put_listing-n.ensures.upper_bound)))
 
 pub slice_bounds-copy_in-end : goal.slice_bounds-copy_in-end
 slice_bounds-copy_in-end c = sym (length-take-le _ _ (search rules))
@@ -52,9 +48,8 @@ unfolding list_answer list_bytes
 returns c =
     let written = c.before.before in
     let free = written.before.before.before in
-    let wrote = free.before.before.before in
     let out = (start free).args.out.now in
-    let rest : List ℕ = drop wrote.put_listing-n.result (replicate 1481 0) in
-    let put = text-copied (whole free) out rest (length-is free) wrote.put_listing-n.ensures.out_after (text-fits (whole free) out (spacious free)) written.copy_in.ensures in
+    let rest : List ℕ = drop free.put_listing-n.result (replicate 1481 0) in
+    let put = text-copied (whole free) out rest (length-is free) free.put_listing-n.ensures.out_after (text-fits (whole free) out (spacious free)) written.copy_in.ensures in
     let p = text_in-front (whole free) out (spacious free) (length-is free) put in
-    (p.answer, (p.bytes, omega (arith, length-is free, wrote.put_listing-n.ensures.upper_bound)))
+    (p.answer, (p.bytes, omega (arith, length-is free, free.put_listing-n.ensures.upper_bound)))

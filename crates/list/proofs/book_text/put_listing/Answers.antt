@@ -13,32 +13,23 @@ margin_of_book-m-requires c = record { used = _; accepted = (book-accepted _ _ _
 -- an accepted book has its header, and at most eight curves
 pub curve_count-requires : goal.curve_count-requires
 curve_count-requires c =
-    let told = c.before.before in
-    let b = sound _ _ (book-accepted _ _ _ (sym told.check-v.ensures ∙ told.in-Accepted.is)).blocks in
+    let b = sound _ _ (book-accepted _ _ _ (sym c.check-v.ensures ∙ c.in-Accepted.is)).blocks in
     omega (arith, b.blocks, b.lent)
 
 pub write_listing-requires : goal.write_listing-requires
 write_listing-requires c =
-    let told = c.before.before.before in
-    let b = sound _ _ (book-accepted _ _ _ (sym told.check-v.ensures ∙ told.in-Accepted.is)).blocks in
+    let b = sound _ _ (book-accepted _ _ _ (sym c.check-v.ensures ∙ c.in-Accepted.is)).blocks in
     (omega (arith, b.most, c.curve_count.ensures.value), search rules)
 
 pub returns-in-Refused : goal.returns-in-Refused
 unfolding list_text
 returns-in-Refused c =
-    let wrote = c.before.before in
-    let number = wrote.before in
-    let v = number.before.before.before in
-    let e = own-day _ _ ∙ sym v.check-v.ensures ∙ v.in-Refused.is in
-    let w = wrote.write_refused.ensures in
-    rw (e, ← number.number.ensures) (w.0, (w.1.0, omega (arith, w.1.1)))
+    let e = own-day _ _ ∙ sym c.check-v.ensures ∙ c.in-Refused.is in
+    let w = c.write_refused.ensures in
+    rw (e, ← c.number.ensures) (w.0, (w.1.0, omega (arith, w.1.1)))
 
 pub returns-in-Accepted : goal.returns-in-Accepted
 unfolding list_text
 returns-in-Accepted c =
-    let wrote = c.before.before in
-    let count = wrote.before in
-    let margin = count.before.before in
-    let told = margin.before in
-    let e = own-day _ _ ∙ sym told.check-v.ensures ∙ told.in-Accepted.is in
-    rw (e, ← count.curve_count.ensures.value, ← margin.margin_of_book-m.ensures) wrote.write_listing.ensures
+    let e = own-day _ _ ∙ sym c.check-v.ensures ∙ c.in-Accepted.is in
+    rw (e, ← c.curve_count.ensures.value, ← c.margin_of_book-m.ensures) c.write_listing.ensures

@@ -10,40 +10,28 @@ use Rattle.logarithm.proofs.tables.fill.Goals as goal
 pub powers-requires : goal.powers-requires
 unfolding middle_base
 powers-requires c =
-    let first = c.before.before.before in
-    let start = first.before.before.before in
-    (middle-le, lit≤ tt, lit≤ tt, rw (first.logs.ensures.kept, start.requires) (lit≤ tt))
+    (middle-le, lit≤ tt, lit≤ tt, rw (c.logs.ensures.kept, c.requires) (lit≤ tt))
 
 pub powers-requires-2 : goal.powers-requires-2
 unfolding upper_base
 powers-requires-2 c =
-    let second = c.before.before.before in
-    let first = second.before.before.before.before in
-    let start = first.before.before.before in
-    (upper-le, lit≤ tt, lit≤ tt, rw (second.powers.ensures.kept, first.logs.ensures.kept, start.requires) (lit≤ tt))
+    (upper-le, lit≤ tt, lit≤ tt, rw (c.powers.ensures.kept, c.logs.ensures.kept, c.requires) (lit≤ tt))
 
 pub shape_of-tables : goal.shape_of-tables
 shape_of-tables c =
-    let third = c.before.before in
-    let second = third.before.before.before.before in
-    let first = second.before.before.before.before in
-    third.powers-2.ensures.kept ∙ second.powers.ensures.kept ∙ first.logs.ensures.kept
+    c.powers-2.ensures.kept ∙ c.powers.ensures.kept ∙ c.logs.ensures.kept
 
 pub returns : goal.returns
 unfolding middle_base upper_base
 returns c =
-    let third = c.before.before in
-    let second = third.before.before.before.before in
-    let first = second.before.before.before.before in
-    let start = first.before.before.before in
-    let rows = third.powers-2.ensures.1 in
+    let rows = c.powers-2.ensures.1 in
     let later = rows.1.1 in
-    let middle-rows = second.powers.ensures.1 in
+    let middle-rows = c.powers.ensures.1 in
     let earlier = middle-rows.1.1 in
     record {
-      places = third.powers-2.ensures.kept ∙ second.powers.ensures.kept ∙ first.logs.ensures.kept ∙ start.requires;
-      logs = λ k l. later.0 k (omega arith) ∙ earlier.0 k (omega arith) ∙ first.logs.ensures.rows k l;
-      slopes = λ k l. later.0 (489 + k) (omega arith) ∙ earlier.0 (489 + k) (omega arith) ∙ first.logs.ensures.slopes k l;
+      places = c.powers-2.ensures.kept ∙ c.powers.ensures.kept ∙ c.logs.ensures.kept ∙ c.requires;
+      logs = λ k l. later.0 k (omega arith) ∙ earlier.0 k (omega arith) ∙ c.logs.ensures.rows k l;
+      slopes = λ k l. later.0 (489 + k) (omega arith) ∙ earlier.0 (489 + k) (omega arith) ∙ c.logs.ensures.slopes k l;
       middles = λ k l. later.0 (978 + k) (omega arith) ∙ middle-rows.0 k (omega arith);
       uppers = λ k l. rows.0 k (omega arith);
       short_middles = λ k l. later.1 (2336 + k) (omega arith) (omega arith) ∙ middle-rows.1.0 k (omega arith);

@@ -43,13 +43,12 @@ overflow_add-m c = omega (arith, c.loop-i.invariant.3, c.loop-i-test.true)
 
 pub loop-i-preserved : goal.loop-i-preserved
 loop-i-preserved c =
-    let head = c.before.before in
-    let inv = head.loop-i.invariant in
-    let tables = head.loop-i.tables in
-    let i = head.loop-i.i in
-    let log = head.loop-i.log in
-    let slope = 2251799813685248 / head.loop-i.m - 4 in
-    let all : 978 ≤ length tables = omega (arith, inv.1, head.requires) in
+    let inv = c.loop-i.invariant in
+    let tables = c.loop-i.tables in
+    let i = c.loop-i.i in
+    let log = c.loop-i.log in
+    let slope = 2251799813685248 / c.loop-i.m - 4 in
+    let all : 978 ≤ length tables = omega (arith, inv.1, c.requires) in
     let less : i < 489 = c.loop-i-test.true in
     let other : (k : ℕ) → (k ≡ 489 + i → ⊥) → get_or (set (set tables i log) (489 + i) slope) k 0 ≡ get_or (set tables i log) k 0 =
     λ k n. get_or-set_other (set tables i log) (489 + i) k slope 0 n in (

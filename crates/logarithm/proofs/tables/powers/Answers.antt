@@ -14,12 +14,11 @@ use Rattle.logarithm.proofs.tables.powers.Goals.{In-loop-i}
 
 pub loop-i-init : goal.loop-i-init
 loop-i-init c =
-    let s = c.before in
-    let none : s.args.from - s.args.from ≡ 0 = omega arith in (
+    let none : c.args.from - c.args.from ≡ 0 = omega arith in (
       omega arith,
-      s.requires.1,
+      c.requires.1,
       refl,
-      rw none (sym power-is ∙ sym (chain-none s.args.base)),
+      rw none (sym power-is ∙ sym (chain-none c.args.base)),
       (λ k l h. absurd (omega arith)),
       (λ k l h. absurd (omega arith)),
       (λ k l. refl),
@@ -33,20 +32,17 @@ module _ (c : In-loop-i) where
 
 pub multiply-x-requires : goal.multiply-x-requires
 multiply-x-requires c =
-    let start = c.before.before.before in
     let at = c.loop-i in
-    omega (arith, at.invariant.3, chain-le start.args.base start.requires.0 (at.i - start.args.from))
+    omega (arith, at.invariant.3, chain-le c.args.base c.requires.0 (at.i - c.args.from))
 
 pub loop-i-preserved : goal.loop-i-preserved
 loop-i-preserved c =
-    let head = c.before.before in
-    let inv = head.loop-i.invariant in
-    let start = head.before.before in
-    let base = start.args.base in
-    let from = start.args.from in
-    let tables = head.loop-i.tables in
-    let i = head.loop-i.i in
-    let x = head.loop-i.x in
+    let inv = c.loop-i.invariant in
+    let base = c.args.base in
+    let from = c.args.from in
+    let tables = c.loop-i.tables in
+    let i = c.loop-i.i in
+    let x = c.loop-i.x in
     let row = x / 262144 in
     let short = x / 536870912 in
     let here : 1358 + i < length tables = room c.before in
@@ -61,7 +57,7 @@ loop-i-preserved c =
           (λ k l h. apart k (λ e. omega arith) (λ e. omega arith) ∙ inv.4 k l h)
           (λ h. get_or-set_other (set tables i row) (1358 + i) i short 0 (λ e. omega arith) ∙ get_or-set_same tables i row 0 (omega arith) ∙ ap (λ (n : ℕ). n / 262144) inv.3 ∙ sym (power-row-is base (i - from))),
       below_more (λ k. from ≤ k → get_or (set (set tables i row) (1358 + i) short) (1358 + k) 0 ≡ short_row base (k - from)) i
-          (λ k l h. apart (1358 + k) (λ e. omega arith) (λ e. omega (arith, start.requires.2, c.loop-i-test.true)) ∙ inv.5 k l h)
+          (λ k l h. apart (1358 + k) (λ e. omega arith) (λ e. omega (arith, c.requires.2, c.loop-i-test.true)) ∙ inv.5 k l h)
           (λ h. get_or-set_same (set tables i row) (1358 + i) short 0 (simp length-set (omega arith)) ∙ ap (λ (n : ℕ). n / 536870912) inv.3 ∙ sym (short-row-is base (i - from))),
       (λ k l. apart k (λ e. omega (arith, inv.0)) (λ e. omega (arith, inv.0)) ∙ inv.6 k l),
       (λ k l h. apart k (λ e. omega (arith, inv.0)) (λ e. omega (arith, c.loop-i-test.true)) ∙ inv.7 k l h),

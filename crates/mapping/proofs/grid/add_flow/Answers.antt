@@ -8,13 +8,11 @@ use Rattle.mapping.proofs.grid.add_flow.Goals as goal
 
 pub net_with-requires : goal.net_with-requires
 net_with-requires c =
-    let s = c.before in
-    (rw (back (net_on s.args.nets.now s.args.f.day) c.net_with-arg-1.given) (omega (arith, s.requires.2)), omega (arith, s.requires.1.amount))
+    (rw (back (net_on c.args.nets.now c.args.f.day) c.net_with-arg-1.given) (omega (arith, c.requires.2)), omega (arith, c.requires.1.amount))
 
 pub returns : goal.returns
 unfolding net_with
 returns c =
-    let s = c.before.before in
-    let net = net_on s.args.nets.now s.args.f.day in
+    let net = net_on c.args.nets.now c.args.f.day in
     let fit = back net c.net_with-arg-1.given in
-    rw (net-read net s.args.f (omega (arith, s.requires.2)) (omega (arith, s.requires.1.amount)) _ (rw fit at c.net_with.ensures))
+    rw (net-read net c.args.f (omega (arith, c.requires.2)) (omega (arith, c.requires.1.amount)) _ (rw fit at c.net_with.ensures))

@@ -7,9 +7,8 @@ use Rattle.mapping.proofs.grid.add_mapped.Goals.{After-add_flow, Start}
 
 pub add_flow-requires : goal.add_flow-requires
 add_flow-requires c =
-    let s = c.before.before in
     rw c.first_flow.ensures
-    (s.requires.0.places, first-limits s.args.f s.args.k s.requires.1 s.requires.2, omega (arith, s.requires.0.each s.args.k.first))
+    (c.requires.0.places, first-limits c.args.f c.args.k c.requires.1 c.requires.2, omega (arith, c.requires.0.each c.args.k.first))
 
 -- what the nets are after the first flow, and after the second
 module _ (c : After-add_flow) where
@@ -40,9 +39,4 @@ add_flow-requires-3 c =
 
 pub returns : goal.returns
 returns c =
-    let after-add3 = c.before in
-    let after-excess = after-add3.before in
-    let after-add2 = after-excess.before.before.before in
-    let after_last = after-add2.before in
-    let after-add = after_last.before.before.before in
-    rw (after-add3.add_flow-3.ensures, after-excess.excess_flow.ensures, after-add2.add_flow-2.ensures, after_last.last_flow.ensures, after-add.add_flow.ensures, after-add.first_flow.ensures)
+    rw (c.add_flow-3.ensures, c.excess_flow.ensures, c.add_flow-2.ensures, c.last_flow.ensures, c.add_flow.ensures, c.first_flow.ensures)

@@ -17,8 +17,7 @@ none-length held e = rw e (length-replicate 10951 (pos 0))
 
 pub loop-i-init : goal.loop-i-init
 loop-i-init c =
-    let s = c.before.before in
-    mapping-first _ _ _ _ s.requires.1 _ s.requires.2 (none-length _ s.requires.2)
+    mapping-first _ _ _ _ c.requires.1 _ c.requires.2 (none-length _ c.requires.2)
 
 -- a turn
 module _ (c : After-shared_slice_known-in-loop-i-1) where
@@ -71,8 +70,7 @@ loop-i-preserved c =
 
 pub shape_of-mapped : goal.shape_of-mapped
 shape_of-mapped c =
-    let l = c.before in
-    l.loop-i.invariant.places ∙ sym (none-length _ l.requires.2)
+    c.loop-i.invariant.places ∙ sym (none-length _ c.requires.2)
 
 pub returns : goal.returns
 returns c = mapping-all _ _ _ _ _ _ c.loop-i.invariant c.loop-i-test.false

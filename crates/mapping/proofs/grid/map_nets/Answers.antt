@@ -9,8 +9,7 @@ use Rattle.mapping.proofs.grid.map_nets.Goals.{After-list_segments, Start}
 
 pub list_segments-requires : goal.list_segments-requires
 list_segments-requires c =
-    let s = c.before.before in
-    (s.requires.0, s.requires.1, length-replicate {A = ℕ} 100 0)
+    (c.requires.0, c.requires.1, length-replicate {A = ℕ} 100 0)
 
 -- the segments listed
 module _ (c : After-list_segments) where

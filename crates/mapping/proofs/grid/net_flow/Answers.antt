@@ -7,5 +7,4 @@ use Rattle.mapping.proofs.grid.net_flow.Goals as goal
 
 pub returns : goal.returns
 returns c =
-    let s = c.before in
-    rw (c.size.ensures, read_is s.args.net (omega (arith, s.requires)), received_is s.args.net)
+    rw (c.size.ensures, read_is c.args.net (omega (arith, c.requires)), received_is c.args.net)

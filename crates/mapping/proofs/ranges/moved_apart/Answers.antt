@@ -15,14 +15,11 @@ part z h = read_is z (omega arith)
 pub returns : goal.returns
 unfolding moved_apart
 returns c =
-    let two = c.before.before.before in
-    let one = two.before.before.before in
-    let start = one.before.before.before in
-    let a = start.requires.0 in
-    let b = start.requires.1 in
-    let p = start.args.a in
-    let q = start.args.b in (
+    let a = c.requires.0 in
+    let b = c.requires.1 in
+    let p = c.args.a in
+    let q = c.args.b in (
       rw
-          (c.moved_by-third.ensures.0, two.moved_by-second.ensures.0, one.moved_by-first.ensures.0, part p.first a.first, part p.second a.second, part p.third a.third, part q.first b.first, part q.second b.second, part q.third b.third),
-      omega (arith, c.moved_by-third.ensures.1, two.moved_by-second.ensures.1, one.moved_by-first.ensures.1),
+          (c.moved_by-third.ensures.0, c.moved_by-second.ensures.0, c.moved_by-first.ensures.0, part p.first a.first, part p.second a.second, part p.third a.third, part q.first b.first, part q.second b.second, part q.third b.third),
+      omega (arith, c.moved_by-third.ensures.1, c.moved_by-second.ensures.1, c.moved_by-first.ensures.1),
     )

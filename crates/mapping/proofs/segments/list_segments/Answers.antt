@@ -11,19 +11,15 @@ use Rattle.mapping.proofs.segments.list_segments.Goals.{At-loop-i, Start}
 
 pub range_of-requires : goal.range_of-requires
 range_of-requires c =
-    let start = c.before.before.before in
-    let node = start.requires.0.each 0 (omega (arith, start.requires.0.least)) in
-    (node, node, start.requires.1)
+    let node = c.requires.0.each 0 (omega (arith, c.requires.0.least)) in
+    (node, node, c.requires.1)
 
 pub put_segment-requires : goal.put_segment-requires
 put_segment-requires c = let start = c.before.before.before.before in omega (arith, start.requires.2)
 
 pub loop-i-init : goal.loop-i-init
 loop-i-init c =
-    let after-put = c.before.before in
-    let after-range = after-put.before in
-    let start = after-range.before.before.before.before in
-    rw after-put.put_segment.ensures (listing-first _ start.requires.0 _ start.args.segments.now start.requires.2 _ (rw after-range.range_of.ensures (ranges _ _ _)))
+    rw c.put_segment.ensures (listing-first _ c.requires.0 _ c.args.segments.now c.requires.2 _ (rw c.range_of.ensures (ranges _ _ _)))
 
 -- a turn
 abbrev start : At-loop-i → Start

@@ -17,28 +17,23 @@ loop-s-init c = (omega arith, λ k h. absurd (omega arith))
 
 pub returns-then-values-s : goal.returns-then-values-s
 returns-then-values-s c =
-    let l = c.before.before.before in
-    let s = l.before in
-    let limit = s.args.limit in
-    let fl = s.ranges.limit.sfits in
-    let v = get_or s.args.values.now l.loop-s.s (pos 0) in
+    let limit = c.args.limit in
+    let fl = c.ranges.limit.sfits in
+    let v = get_or c.args.values.now c.loop-s.s (pos 0) in
     let e : le_z v limit ≡ true = compared le_z v limit true c.t9-1.given fl c.if-values-s.true in
-    (record { kept = record { le = rw e tt }; none = rw (back limit fl) at l.loop-s.invariant.1 }, search rules)
+    (record { kept = record { le = rw e tt }; none = rw (back limit fl) at c.loop-s.invariant.1 }, search rules)
 
 pub loop-s-preserved : goal.loop-s-preserved
 loop-s-preserved c =
-    let l = c.before.before.before in
-    let s = l.before in
-    let limit = s.args.limit in
-    let fl = s.ranges.limit.sfits in
-    let v = get_or s.args.values.now l.loop-s.s (pos 0) in
+    let limit = c.args.limit in
+    let fl = c.ranges.limit.sfits in
+    let v = get_or c.args.values.now c.loop-s.s (pos 0) in
     let e : le_z v limit ≡ false = compared le_z v limit false c.t9-1.given fl c.if-values-s.false in
-    (search rules, below_more _ l.loop-s.s l.loop-s.invariant.1 (rw (back limit fl) (le_z-no v limit e)))
+    (search rules, below_more _ c.loop-s.s c.loop-s.invariant.1 (rw (back limit fl) (le_z-no v limit e)))
 
 -- the one that is kept would have been passed
 pub returns : goal.returns
 returns c =
-    let s = c.before.before in
-    let some = s.requires.1 in
-    let none = rw (back s.args.limit s.ranges.limit.sfits) at (c.loop-s.invariant.1 some.place (omega (arith, some.within, c.loop-s-test.false))) in
+    let some = c.requires.1 in
+    let none = rw (back c.args.limit c.ranges.limit.sfits) at (c.loop-s.invariant.1 some.place (omega (arith, some.within, c.loop-s-test.false))) in
     absurd (omega (int, some.kept, none))

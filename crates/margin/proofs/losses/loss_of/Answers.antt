@@ -18,8 +18,7 @@ curve_in-stressed-requires c =
 
 pub value_of-total-requires : goal.value_of-total-requires
 value_of-total-requires c =
-    let s = c.before.before.before in
-    let b = s.requires.0 in
+    let b = c.requires.0 in
     (rw c.curve_in-stressed.ensures (proper-stressed _ _ b.limits.proper), b.limits.schedules, b.filled)
 
 -- the code's difference is the loss

@@ -17,10 +17,7 @@ loop-i-init c =
 
 pub returns-then-m-currency : goal.returns-then-m-currency
 returns-then-m-currency c =
-    let turn = c.before.before.before in
-    let at-loop = turn.before in
-    let s = at-loop.before in
-    sym (at-loop.loop-i.invariant.2 ∙ has-next s.args.t1 s.args.count at-loop.loop-i.i s.args.currency (omega arith) (omega arith) ∙ rw (eq-eqb _ _ c.if-m-currency.true))
+    sym (c.loop-i.invariant.2 ∙ has-next c.args.t1 c.args.count c.loop-i.i c.args.currency (omega arith) (omega arith) ∙ rw (eq-eqb _ _ c.if-m-currency.true))
 
 pub loop-i-preserved : goal.loop-i-preserved
 loop-i-preserved c =
@@ -34,5 +31,4 @@ loop-i-preserved c =
 
 pub returns : goal.returns
 returns c =
-    let s = c.before.before in
-    sym (c.loop-i.invariant.2 ∙ has-none s.args.t1 s.args.count c.loop-i.i s.args.currency (omega arith))
+    sym (c.loop-i.invariant.2 ∙ has-none c.args.t1 c.args.count c.loop-i.i c.args.currency (omega arith))

@@ -7,11 +7,9 @@ use Rattle.page.proofs.line.line_day.Goals as goal
 pub returns-then-has_security : goal.returns-then-has_security
 unfolding line_day
 returns-then-has_security c =
-    let asked = c.before in
-    rw (sym asked.has_security.ensures ∙ c.if-has_security.true) asked.last_payment_day-last.ensures
+    rw (sym c.has_security.ensures ∙ c.if-has_security.true) c.last_payment_day-last.ensures
 
 pub returns : goal.returns
 unfolding line_day
 returns c =
-    let asked = c.before in
-    rw (sym asked.has_security.ensures ∙ c.if-has_security.false)
+    rw (sym c.has_security.ensures ∙ c.if-has_security.false)

@@ -13,31 +13,17 @@ use Rattle.page.proofs.line.put_title.Goals as goal
 
 pub put_text-requires : goal.put_text-requires
 put_text-requires c =
-    let after-slice-known3 = c.before.before in
-    let filled = after-slice-known3.before.before in
-    let after-out = filled.before.before.before in
-    let number = after-out.before in
-    let after-put-number-arg = number.before.before in
-    let s = after-put-number-arg.before.before in
     omega (
       arith,
-      s.requires,
-      number.put_number-left.ensures.upper_bound,
-      filled.put_blanks-end.ensures.place,
-      length-blanks (s.args.at + 80 - number.put_number-left.result),
+      c.requires,
+      c.put_number-left.ensures.upper_bound,
+      c.put_blanks-end.ensures.place,
+      length-blanks (c.args.at + 80 - c.put_number-left.result),
     )
 
 pub returns : goal.returns
 unfolding title_line ascii
 returns c =
-    let end = c.before.before in
-    let after-put-text-arg = end.before.before in
-    let after-out2 = after-put-text-arg.before.before in
-    let filled = after-out2.before in
-    let after-out = filled.before.before.before in
-    let number = after-out.before in
-    let after-put-number-arg = number.before.before in
-    let s = after-put-number-arg.before.before in
-    let left = figure "account " s.args.account in
-    let gap : s.args.at + 80 - number.put_number-left.result ≡ 80 - 22 * 0 - length left = omega (arith, number.put_number-left.ensures.text_written.place) in
-    line-written left [] _ gap number.put_number-left.ensures.text_written filled.put_blanks-end.ensures (no-amount _ _) end.put_text.ensures
+    let left = figure "account " c.args.account in
+    let gap : c.args.at + 80 - c.put_number-left.result ≡ 80 - 22 * 0 - length left = omega (arith, c.put_number-left.ensures.text_written.place) in
+    line-written left [] _ gap c.put_number-left.ensures.text_written c.put_blanks-end.ensures (no-amount _ _) c.put_text.ensures

@@ -6,5 +6,4 @@ use Rattle.record.proofs.bytes.amounts_of.Goals as goal
 pub returns : goal.returns
 unfolding amounts_of
 returns c =
-    let u = c.before.before.before in
-    rw (u.u32_at.ensures.value, u.u64_at.ensures, u.u64_at-2.ensures, u.u32_at-2.ensures.value, c.u32_at-3.ensures.value, c.u32_at-4.ensures.value, c.u32_at-5.ensures.value)
+    rw (c.u32_at.ensures.value, c.u64_at.ensures, c.u64_at-2.ensures, c.u32_at-2.ensures.value, c.u32_at-3.ensures.value, c.u32_at-4.ensures.value, c.u32_at-5.ensures.value)

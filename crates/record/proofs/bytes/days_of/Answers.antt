@@ -6,5 +6,4 @@ use Rattle.record.proofs.bytes.days_of.Goals as goal
 pub returns : goal.returns
 unfolding days_of
 returns c =
-    let u = c.before.before.before in
-    rw (u.u16_at.ensures.value, u.u16_at-2.ensures.value, u.u16_at-3.ensures.value, c.u16_at-4.ensures.value, c.u16_at-5.ensures.value, c.u16_at-6.ensures.value)
+    rw (c.u16_at.ensures.value, c.u16_at-2.ensures.value, c.u16_at-3.ensures.value, c.u16_at-4.ensures.value, c.u16_at-5.ensures.value, c.u16_at-6.ensures.value)

@@ -6,5 +6,4 @@ use Rattle.record.proofs.rules.breaks_amounts.Goals as goal
 pub returns : goal.returns
 unfolding breaks_amounts
 returns c =
-    let principals = c.before.before.before in
-    rw (c.indices_fit.ensures, c.coupons_fit.ensures, c.price_fits.ensures, principals.principals_fit.ensures, principals.unused_days_fit.ensures)
+    rw (c.indices_fit.ensures, c.coupons_fit.ensures, c.price_fits.ensures, c.principals_fit.ensures, c.unused_days_fit.ensures)

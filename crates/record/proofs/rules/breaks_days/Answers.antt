@@ -6,5 +6,4 @@ use Rattle.record.proofs.rules.breaks_days.Goals as goal
 pub returns : goal.returns
 unfolding breaks_days
 returns c =
-    let asked = c.before.before.before in
-    rw (c.asked-2.ensures, c.coupon_days_fit.ensures, c.has_coupons.ensures, asked.asked.ensures, asked.first_payment_fits.ensures, asked.has_security.ensures, asked.value_days_fit.ensures)
+    rw (c.asked-2.ensures, c.coupon_days_fit.ensures, c.has_coupons.ensures, c.asked.ensures, c.first_payment_fits.ensures, c.has_security.ensures, c.value_days_fit.ensures)

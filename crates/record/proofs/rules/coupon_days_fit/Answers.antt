@@ -18,8 +18,7 @@ returns-then-not-counts_fit c = rw (← c.counts_fit.ensures, c.if-not-counts_fi
 -- a schedule that starts out of reach does not fit
 pub returns-then-not-in_reach : goal.returns-then-not-in_reach
 returns-then-not-in_reach c =
-    let after-counts-fit = c.before.before.before in
-    let a = after-counts-fit.args in
+    let a = c.args in
     let e : leb a.first last_day ≡ false = sym c.in_reach.ensures ∙ c.if-not-in_reach.true in
     let l = leb-false a.first last_day e in
     rw (lt-leb (last_payment_day a.first a.period a.payments) last_day (omega arith), and-false)
@@ -33,8 +32,7 @@ module _ (c : Else-not-in_reach) where
 
 pub last_payment_day-requires : goal.last_payment_day-requires
 last_payment_day-requires c =
-    let else1 = c.before.before in
-    let a = else1.args in
+    let a = c.args in
     let counts = coupon-counts a.period a.payments (counted c) in
     (leb-true a.first last_day (near c), (counts.apart.high, counts.some.high))
 

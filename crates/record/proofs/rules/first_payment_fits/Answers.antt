@@ -4,5 +4,4 @@ use Rattle.record.proofs.rules.first_payment_fits.Goals as goal
 
 pub returns : goal.returns
 returns c =
-    let pick = c.before in
-    rw (c.in_reach.ensures, pick.pick.ensures, pick.has_settled.ensures)
+    rw (c.in_reach.ensures, c.pick.ensures, c.has_settled.ensures)

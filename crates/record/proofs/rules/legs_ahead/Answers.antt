@@ -4,5 +4,4 @@ use Rattle.record.proofs.rules.legs_ahead.Goals as goal
 
 pub returns : goal.returns
 returns c =
-    let minus = c.before.before in
-    rw (c.in_reach.ensures, minus.minus.ensures, minus.in_limits.ensures)
+    rw (c.in_reach.ensures, c.minus.ensures, c.in_limits.ensures)

@@ -4,5 +4,4 @@ use Rattle.record.proofs.rules.phase_fits.Goals as goal
 
 pub returns : goal.returns
 returns c =
-    let is-pool = c.before.before.before in
-    rw (c.in_limits-2.ensures, c.is_specified.ensures, c.in_limits.ensures, is-pool.is_pool.ensures, is-pool.is_outright.ensures)
+    rw (c.in_limits-2.ensures, c.is_specified.ensures, c.in_limits.ensures, c.is_pool.ensures, c.is_outright.ensures)

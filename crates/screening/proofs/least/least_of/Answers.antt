@@ -17,16 +17,14 @@ loop-s-init c = (least_first _, c.requires.0)
 
 pub loop-s-preserved : goal.loop-s-preserved
 loop-s-preserved c =
-    let turn = c.before.before.before in
-    let l = turn.before in
-    let values = l.args.values.now in
-    let a = get_or values l.loop-s.s (pos 0) in
-    let b = get_or values l.loop-s.least (pos 0) in
+    let values = c.args.values.now in
+    let a = get_or values c.loop-s.s (pos 0) in
+    let b = get_or values c.loop-s.least (pos 0) in
     let fa = c.t9-1.given in
     let fb = c.t13-1.given in (
       ⊎_elim
-          (λ w. rw w.1 (least-new values _ _ l.loop-s.invariant.0 (lt_z_yes (rw (compared lt_z a b true fa fb w.0.taken) tt))))
-          (λ w. rw w.1 (least-same values _ _ l.loop-s.invariant.0 (lt_z_no (rw (compared lt_z a b false fa fb w.0.left) tt)))) c.if-values-s.branch,
+          (λ w. rw w.1 (least-new values _ _ c.loop-s.invariant.0 (lt_z_yes (rw (compared lt_z a b true fa fb w.0.taken) tt))))
+          (λ w. rw w.1 (least-same values _ _ c.loop-s.invariant.0 (lt_z_no (rw (compared lt_z a b false fa fb w.0.left) tt)))) c.if-values-s.branch,
       search rules,
     )
 

@@ -42,9 +42,8 @@ loop-s-preserved c =
 
 pub returns : goal.returns
 returns c =
-    let l = c.before in
-    let e : l.loop-s.s ≡ l.args.n = omega (arith, c.loop-s-test.false, l.loop-s.invariant.0) in
-    record { kept = l.loop-s.invariant.1.places; each = rw e at l.loop-s.invariant.1.done }
+    let e : c.loop-s.s ≡ c.args.n = omega (arith, c.loop-s-test.false, c.loop-s.invariant.0) in
+    record { kept = c.loop-s.invariant.1.places; each = rw e at c.loop-s.invariant.1.done }
 
 pub loop-s-init : goal.loop-s-init
 loop-s-init c = (omega arith, lowering-none _ _)

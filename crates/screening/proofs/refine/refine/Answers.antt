@@ -62,8 +62,7 @@ module _ (c : In-loop-s) where
 
   within : at-loop.loop-s.s < scenario_count entry.args.components
   within =
-      let after-least = at-loop.before.before.before.before in
-      omega (arith, c.loop-s-test.true, after-least.scenario_count-n.ensures)
+      omega (arith, c.loop-s-test.true, at-loop.scenario_count-n.ensures)
 
   abbrev value : ℤ
   value = get_or at-loop.loop-s.values at-loop.loop-s.s (pos 0)
@@ -115,13 +114,11 @@ pub returns : goal.returns
 returns c =
     let l = c.before in
     let after-value = l.before in
-    let after-scenario = after-value.before.before in
-    let after-least = after-scenario.before in
-    let n = after-least.scenario_count-n.ensures in
+    let n = after-value.scenario_count-n.ensures in
     let s = start (filled after-value) in
     let e : l.loop-s.s ≡ scenario_count s.args.components = omega (arith, c.loop-s-test.false, l.loop-s.invariant.0, n) in
-    let m : after-least.least_of-least.result < scenario_count s.args.components = omega (arith, after-least.least_of-least.ensures.within, n) in
-    let found = scenario-read s.args.curve s.args.components _ _ after-least.least_of-least.result s.requires.2 _ _ after-scenario.scenario.ensures after-value.value_in-limit.ensures in
+    let m : after-value.least_of-least.result < scenario_count s.args.components = omega (arith, after-value.least_of-least.ensures.within, n) in
+    let found = scenario-read s.args.curve s.args.components _ _ after-value.least_of-least.result s.requires.2 _ _ after-value.scenario.ensures after-value.value_in-limit.ensures in
     record { kept = l.loop-s.invariant.1.places; each = refined-screened _ _ _ _ _ _ m found s.requires.5 _ (rw e at l.loop-s.invariant.1) }
 
 pub offset_bounds-values-at : goal.offset_bounds-values-at

@@ -6,6 +6,4 @@ use Rattle.trade_edit.proofs.blocks.put_trade_blocks.Goals as goal
 pub returns : goal.returns
 unfolding with_trade_blocks
 returns c =
-    let after-seal-arg = c.before.before.before in
-    let put = after-seal-arg.before.before.before in
-    rw (c.seal.ensures, put.put_le.ensures)
+    rw (c.seal.ensures, c.put_le.ensures)

@@ -6,15 +6,9 @@ use Rattle.trade_edit.proofs.steps.grow.Goals as goal
 
 pub returns : goal.returns
 returns c =
-    let after-put-trade-blocks-arg = c.before.before.before in
-    let copied = after-put-trade-blocks-arg.before.before.before in
-    let after-b2 = copied.before.before.before in
-    let filled = after-b2.before in
-    let after-trade-blocks = filled.before.before.before in
-    let start = after-trade-blocks.before.before.before in
-    grow-left start.args.book.now start.args.used start.args.r (omega (arith, start.requires))
-    filled.trade_blocks-blocks.ensures.value
-    filled.bare_block-b.ensures
-    filled.put_record.ensures
-    copied.copy_in.ensures
+    grow-left c.args.book.now c.args.used c.args.r (omega (arith, c.requires))
+    c.trade_blocks-blocks.ensures.value
+    c.bare_block-b.ensures
+    c.put_record.ensures
+    c.copy_in.ensures
     c.put_trade_blocks.ensures

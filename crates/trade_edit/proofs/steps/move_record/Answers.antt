@@ -29,14 +29,12 @@ loop-k-init c = (omega arith, (refl, sym (put-none _ _)))
 
 pub loop-k-preserved : goal.loop-k-preserved
 loop-k-preserved c =
-    let at-loop = c.before.before in
-    let start = at-loop.before in
-    let inv = at-loop.loop-k.invariant in
-    let l : at-loop.loop-k.k < 56 = c.loop-k-test.true in (
+    let inv = c.loop-k.invariant in
+    let l : c.loop-k.k < 56 = c.loop-k-test.true in (
       omega arith,
       (
         simp length-set inv.1.0,
-        rw inv.1.1 (byte-moved start.args.book.now start.args.from start.args.to at-loop.loop-k.k start.requires.0 start.requires.1 l),
+        rw inv.1.1 (byte-moved c.args.book.now c.args.from c.args.to c.loop-k.k c.requires.0 c.requires.1 l),
       ),
     )
 

@@ -11,37 +11,25 @@ use Rattle.trade_edit.proofs.steps.move_up.Goals as goal
 
 pub loop-i-init : goal.loop-i-init
 loop-i-init c =
-    let start = c.before.before.before in
-    (start.requires.position_le_left.0, (refl, refl))
+    (c.requires.position_le_left.0, (refl, refl))
 
 pub move_record-requires : goal.move_record-requires
 move_record-requires c =
-    let placed = c.before in
-    let in-loop = placed.before.before in
-    let at-loop = in-loop.before in
-    let counted = at-loop.before in
-    let start = counted.before.before.before in
-    let inv = at-loop.loop-i.invariant in
-    let from = placed.place_of.ensures in
+    let inv = c.loop-i.invariant in
+    let from = c.place_of.ensures in
     let to = c.place_of-in-loop-i.ensures in
-    let e = counted.curve_count-curves.ensures.value in
-    omega (arith, start.requires.left_in_bounds, inv.1.0, in-loop.loop-i-test.true)
+    let e = c.curve_count-curves.ensures.value in
+    omega (arith, c.requires.left_in_bounds, inv.1.0, c.loop-i-test.true)
 
 pub loop-i-preserved : goal.loop-i-preserved
 unfolding record_moved
 loop-i-preserved c =
-    let moved = c.before.before in
-    let after-move-record-arg = moved.before.before.before in
-    let in-loop = after-move-record-arg.before in
-    let at-loop = in-loop.before in
-    let counted = at-loop.before in
-    let start = counted.before.before.before in
-    let inv = at-loop.loop-i.invariant in
-    let l : at-loop.loop-i.i < start.args.left = omega (arith, in-loop.loop-i-test.true) in (
+    let inv = c.loop-i.invariant in
+    let l : c.loop-i.i < c.args.left = omega (arith, c.loop-i-test.true) in (
       omega arith,
       (
-        moved.move_record.auto.0 ∙ inv.1.0,
-        inv.1.1 ∙ run_step (record_moved _) at-loop.loop-i.i start.args.left at-loop.loop-i.book l ∙ rw (moved.move_record.ensures, moved.place_of-in-loop-i.ensures, moved.place_of.ensures),
+        c.move_record.auto.0 ∙ inv.1.0,
+        inv.1.1 ∙ run_step (record_moved _) c.loop-i.i c.args.left c.loop-i.book l ∙ rw (c.move_record.ensures, c.place_of-in-loop-i.ensures, c.place_of.ensures),
       ),
     )
 

@@ -18,17 +18,13 @@ loop-k-init c = (refl, refl)
 
 pub loop-k-preserved : goal.loop-k-preserved
 loop-k-preserved c =
-    let sealing = c.before.before in
-    let in-loop = sealing.before.before in
-    let at-loop = in-loop.before in
-    let start = at-loop.before.before in
-    let inv = at-loop.loop-k.invariant in
-    let k = at-loop.loop-k.k in
-    let book = at-loop.loop-k.book in
-    let l : k < start.args.to = in-loop.loop-k-test.true in
-    let done = block-left sealed length-sealed book (k * 512) (omega (arith, inv.0, start.requires)) (rw add-sub_cancel_left at sealing.seal.ensures) in (
+    let inv = c.loop-k.invariant in
+    let k = c.loop-k.k in
+    let book = c.loop-k.book in
+    let l : k < c.args.to = c.loop-k-test.true in
+    let done = block-left sealed length-sealed book (k * 512) (omega (arith, inv.0, c.requires)) (rw add-sub_cancel_left at c.seal.ensures) in (
       rw add-sub_cancel_left (ap length done ∙ length-on_block sealed book (k * 512) ∙ inv.0),
-      inv.1 ∙ run_step block_sealed k start.args.to book l ∙ rw add-sub_cancel_left (ap (run block_sealed (k + 1) (start.args.to - (k + 1))) (sym done)),
+      inv.1 ∙ run_step block_sealed k c.args.to book l ∙ rw add-sub_cancel_left (ap (run block_sealed (k + 1) (c.args.to - (k + 1))) (sym done)),
     )
 
 pub shape_of-book : goal.shape_of-book

@@ -6,6 +6,5 @@ use Rattle.bond.proofs.value.Extension.new.Goals as goal
 
 pub returns : goal.returns
 returns c =
-    let after-end-day = c.before.before in
-    let reached = rw after-end-day.end_day.ensures at c.payments_up_to-within.ensures in
-    (refl, refl, refl, record { extends = after-end-day.requires.0; reached = reached; worth = rw sub-zero at c.value_between-known.ensures })
+    let reached = rw c.end_day.ensures at c.payments_up_to-within.ensures in
+    (refl, refl, refl, record { extends = c.requires.0; reached = reached; worth = rw sub-zero at c.value_between-known.ensures })

@@ -7,24 +7,17 @@ use Rattle.bond.proofs.value.Extension.value_at.Goals as goal
 
 pub value_between-requires : goal.value_between-requires
 value_between-requires c =
-    let after-at-rate = c.before in
-    let after-n = after-at-rate.before.before in
-    let pre = after-n.requires in
-    let proper = longer-proper pre.0 after-at-rate.at_rate.ensures c.lengthened-longer.ensures pre.1 in
+    let pre = c.requires in
+    let proper = longer-proper pre.0 c.at_rate.ensures c.lengthened-longer.ensures pre.1 in
     search rules
 
 pub overflow_add-result : goal.overflow_add-result
 unfolding unit
 overflow_add-result c =
-    let after-lengthened = c.before.before in
-    let after-n = after-lengthened.before.before.before in
-    let pre = after-n.requires in
+    let pre = c.requires in
     omega (arith, value-limit pre.0 _ c.value_between.ensures)
 
 pub returns : goal.returns
 returns c =
-    let after-lengthened = c.before.before in
-    let after-at-rate = after-lengthened.before in
-    let after-n = after-at-rate.before.before in
-    let pre = after-n.requires in
-    value-whole pre.0 after-at-rate.at_rate.ensures after-lengthened.lengthened-longer.ensures c.value_between.ensures
+    let pre = c.requires in
+    value-whole pre.0 c.at_rate.ensures c.lengthened-longer.ensures c.value_between.ensures

@@ -12,19 +12,16 @@ loop-i-init c = (omega arith, sym (compound-none c.args.self.0 c.args.other.0))
 
 pub product-r-requires : goal.product-r-requires
 product-r-requires c =
-    let start = c.before.before in
-    omega (arith, compound-le start.args.self.0 start.args.other.0 c.loop-i.i start.requires.1)
+    omega (arith, compound-le c.args.self.0 c.args.other.0 c.loop-i.i c.requires.1)
 
 pub loop-i-preserved : goal.loop-i-preserved
 loop-i-preserved c =
-    let head = c.before.before in
-    let a = head.args in
-    (omega arith, compound-next a.self.0 a.other.0 head.loop-i.i c.product-r.ensures.0 head.loop-i.invariant.1)
+    let a = c.args in
+    (omega arith, compound-next a.self.0 a.other.0 c.loop-i.i c.product-r.ensures.0 c.loop-i.invariant.1)
 
 pub returns : goal.returns
 returns c =
-    let start = c.before.before in
-    let a = start.args in
+    let a = c.args in
     let e : c.loop-i.i ≡ a.k = omega arith in
     let r : c.loop-i.r.0 ≡ compound a.self.0 a.other.0 a.k = c.loop-i.invariant.1 ∙ ap (compound a.self.0 a.other.0) e in
-    (r, omega (arith, compound-le a.self.0 a.other.0 a.k start.requires.1))
+    (r, omega (arith, compound-le a.self.0 a.other.0 a.k c.requires.1))

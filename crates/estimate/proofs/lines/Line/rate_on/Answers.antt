@@ -9,10 +9,9 @@ use Rattle.estimate.proofs.lines.Line.rate_on.Goals.{After-struct_told-2-1, Star
 
 pub overflow_mul-result : goal.overflow_mul-result
 overflow_mul-result c =
-    let s = c.before.before in
-    let a = s.args in
-    rw (code-moved a.self.slope a.t s.requires.slope s.requires.day)
-    (fits _ (omega (arith, moved-size a.self.slope a.t s.requires.slope s.requires.day)))
+    let a = c.args in
+    rw (code-moved a.self.slope a.t c.requires.slope c.requires.day)
+    (fits _ (omega (arith, moved-size a.self.slope a.t c.requires.slope c.requires.day)))
 
 module _ (c : After-struct_told-2-1) where
   abbrev start : Start

@@ -5,14 +5,11 @@ use Rattle.estimate.proofs.parts.Part.between.Goals as goal
 
 pub returns-then-self-end : goal.returns-then-self-end
 returns-then-self-end c =
-    let s = c.before.before.before.before in
-    going_end _ _ _ _ _ _ (going-first _ _ _ _ _ s.requires.1) (omega (arith, c.if-self-end.true))
+    going_end _ _ _ _ _ _ (going-first _ _ _ _ _ c.requires.1) (omega (arith, c.if-self-end.true))
 
 pub along-requires : goal.along-requires
 along-requires c =
-    let other = c.before in
-    let s = other.before.before.before.before in
-    (rw c.Line-of.ensures s.requires.1, s.requires.2)
+    (rw c.Line-of.ensures c.requires.1, c.requires.2)
 
 pub line_of-requires : goal.line_of-requires
 line_of-requires c = let s = c.before.before.before.before in s.requires.0

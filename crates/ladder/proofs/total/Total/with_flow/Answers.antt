@@ -9,31 +9,22 @@ overflow_cast-worth c = cast_fits c.args.self.sum _ c.requires.0.value c.require
 
 pub overflow_add-off : goal.overflow_add-off
 overflow_add-off c =
-    let s = c.before.before in
-    rw c.tolerance.ensures (off-fits _ _ _ s.requires.0.off s.requires.1.amount (search rules))
+    rw c.tolerance.ensures (off-fits _ _ _ c.requires.0.off c.requires.1.amount (search rules))
 
 pub overflow_add-result : goal.overflow_add-result
 overflow_add-result c =
-    let off = c.before.before.before in
-    let s = off.before.before in
-    fits_more s.args.self.sum _ s.requires.0.value s.requires.2
+    fits_more c.args.self.sum _ c.requires.0.value c.requires.2
 
 pub returns-then-f : goal.returns-then-f
 unfolding plus_flow
 returns-then-f c =
-    let off = c.before.before.before in
-    let s = off.before.before in
-    rw (read_more s.args.self.sum _ s.requires.0.value s.requires.2, off.tolerance.ensures, c.if-f.true)
+    rw (read_more c.args.self.sum _ c.requires.0.value c.requires.2, c.tolerance.ensures, c.if-f.true)
 
 pub overflow_sub-result : goal.overflow_sub-result
 overflow_sub-result c =
-    let off = c.before.before.before in
-    let s = off.before.before in
-    fits-less s.args.self.sum _ s.requires.0.value s.requires.2
+    fits-less c.args.self.sum _ c.requires.0.value c.requires.2
 
 pub returns : goal.returns
 unfolding plus_flow
 returns c =
-    let off = c.before.before.before in
-    let s = off.before.before in
-    rw (read-less s.args.self.sum _ s.requires.0.value s.requires.2, off.tolerance.ensures, c.if-f.false)
+    rw (read-less c.args.self.sum _ c.requires.0.value c.requires.2, c.tolerance.ensures, c.if-f.false)

@@ -9,21 +9,14 @@ returns-then-m-currency c = plus-other _ _ _ c.if-m-currency.true
 
 pub overflow_add-result : goal.overflow_add-result
 overflow_add-result c =
-    let other = c.before.before.before in
-    let p = other.requires in
+    let p = c.requires in
     rw (code-initial _ _ p) (fits _ (initial-size _ _ p))
 
 pub overflow_add-result-2 : goal.overflow_add-result-2
 overflow_add-result-2 c =
-    let initial = c.before.before.before in
-    let told = initial.before.before.before in
-    let other = told.before.before in
-    let p = other.requires in
+    let p = c.requires in
     rw (code-variation _ _ p) (fits _ (variation-size _ _ p))
 
 pub returns : goal.returns
 returns c =
-    let initial = c.before.before.before in
-    let told = initial.before.before.before in
-    let e = told.before.before in
-    code-sums _ _ e.requires ∙ sym (plus-same _ _ _ e.if-m-currency.false)
+    code-sums _ _ c.requires ∙ sym (plus-same _ _ _ c.if-m-currency.false)
