@@ -23,13 +23,10 @@ returns-then-breaks_length c = rw (← c.breaks_length.ensures, c.if-breaks_leng
 
 -- past the first test
 module _ (c : Else-breaks_length) where
-  abbrev start : Start
-  start = c.before.before.before
-
-  kept : breaks_length start.args.used (length start.args.book.now) ≡ false
+  kept : breaks_length c.args.used (length c.args.book.now) ≡ false
   kept = sym c.breaks_length.ensures ∙ c.if-breaks_length.false
 
-  fits : Long start.args.used (length start.args.book.now)
+  fits : Long c.args.used (length c.args.book.now)
   fits = long _ _ kept
 
 pub block_at-requires : goal.block_at-requires
@@ -37,44 +34,34 @@ block_at-requires c = let l = fits c in omega arith
 
 -- the header's verdict, in the contract's terms
 module _ (c : After-header_verdict-first) where
-  abbrev whole : Else-breaks_length
-  whole = c.before.before
-
-  judged : c.header_verdict-first.result ≡ header_verdict (block_at (start whole).args.book.now 0) ((start whole).args.used / 512)
+  judged : c.header_verdict-first.result ≡ header_verdict (block_at c.args.book.now 0) (c.args.used / 512)
   judged = rw c.block_at.ensures.result_value at c.header_verdict-first.ensures
 
 pub returns-then-not-is_accepted : goal.returns-then-not-is_accepted
 returns-then-not-is_accepted c =
-    let header = c.before.before in
-    let l = fits (whole header) in
-    let e = judged header in
-    let stop = rw e at (sym c.is_accepted.ensures ∙ c.if-not-is_accepted.true) in
-    e ∙ sym (verdict-blocks _ _ (kept (whole header)) ∙ header-stops _ _ (omega arith) stop)
+    let c = c.before.before in
+    let stop = rw judged at (sym c.is_accepted.ensures ∙ c.if-not-is_accepted.true) in
+    judged ∙ sym (verdict-blocks _ _ (kept c) ∙ header-stops _ _ (omega arith) stop)
 
 -- past the second
 module _ (c : Else-not-is_accepted) where
-  abbrev header : After-header_verdict-first
-  header = c.before.before
-
-  told : is_accepted header.header_verdict-first.result ≡ true
+  told : is_accepted c.header_verdict-first.result ≡ true
   told = sym c.is_accepted.ensures ∙ c.if-not-is_accepted.false
 
-  heads : Headed (block_at (start (whole header)).args.book.now 0) ((start (whole header)).args.used / 512)
-  heads = (header-accepted _ _ (sym (judged header) ∙ is-accepted _ told)).counts
+  heads : Headed (block_at c.args.book.now 0) (c.args.used / 512)
+  heads = (header-accepted _ _ (sym (judged c) ∙ is-accepted _ told)).counts
 
 pub curves_of-requires : goal.curves_of-requires
 curves_of-requires c =
-    let w = whole (header c) in
-    let l = fits w in
+    let l = fits c in
     let h = heads c in
-    omega (arith, head-curves (start w).args.book.now)
+    omega (arith, head-curves c.args.book.now)
 
 pub block_by_block-requires : goal.block_by_block-requires
-block_by_block-requires c = let l = fits (whole (header c.before)) in record { n_bound = (omega arith, omega arith); curves_value = c.curves_of.ensures }
+block_by_block-requires c = let l = fits c.before in record { n_bound = (omega arith, omega arith); curves_value = c.curves_of.ensures }
 
 pub returns : goal.returns
 returns c =
     let passed = c.before.before in
-    let w = whole (header passed) in
-    let l = fits w in
-    c.block_by_block.ensures ∙ sym (verdict-blocks _ _ (kept w) ∙ header-passes _ _ (omega arith) (rw (judged (header passed)) at (told passed)))
+    let l = fits passed in
+    c.block_by_block.ensures ∙ sym (verdict-blocks _ _ (kept passed) ∙ header-passes _ _ (omega arith) (rw (judged passed) at (told passed)))

@@ -18,14 +18,11 @@ use Rattle.bootstrap.proofs.bootstrap.Goals.{In-Add-2, Start}
 
 -- where a node is added nothing refuses
 module _ (c : In-Add-2) where
-  abbrev began : Start
-  began = let decided = c.before.before in decided.before.before.before
-
   abbrev judged : Verdict
-  judged = bootstrap_verdict began.args.book.now began.args.used began.args.day began.args.q
+  judged = bootstrap_verdict c.args.book.now c.args.used c.args.day c.args.q
 
   abbrev new : Node
-  new = new_node (curve_at began.args.book.now began.args.q.curve) began.args.q
+  new = new_node (curve_at c.args.book.now c.args.q.curve) c.args.q
 
   told : (judged ≡ verdict.Accepted) × (c.in-Add.n ≡ new)
   told = decided-add judged new c.in-Add.n (sym c.decided-d.ensures ∙ c.in-Add.is)
@@ -33,10 +30,10 @@ module _ (c : In-Add-2) where
   accepted : judged ≡ verdict.Accepted
   accepted = told.0
 
-  fits : began.args.q.curve * 512 + 512 ≤ length began.args.book.now
+  fits : c.args.q.curve * 512 + 512 ≤ length c.args.book.now
   fits =
-      let w = within began.args.book.now began.args.used began.args.day began.args.q accepted in
-      let b = book-sound began.args.book.now began.args.used began.args.day began.args.q accepted in
+      let w = within c.args.book.now c.args.used c.args.day c.args.q accepted in
+      let b = book-sound c.args.book.now c.args.used c.args.day c.args.q accepted in
       omega (arith, b.lent)
 
 pub overflow_mul-at : goal.overflow_mul-at
@@ -51,8 +48,8 @@ slice_bounds-add_node-end c = omega (arith, fits c.before.before)
 pub add_node-requires : goal.add_node-requires
 add_node-requires c =
     let d = c.before.before.before in
-    let s = (began d).args.book.now in
-    rw add-sub_cancel_left (length_part s ((began d).args.q.curve * 512) 512 (fits d), node-room s (began d).args.used (began d).args.day (began d).args.q (accepted d))
+    let s = d.args.book.now in
+    rw add-sub_cancel_left (length_part s (d.args.q.curve * 512) 512 (fits d), node-room s d.args.used d.args.day d.args.q (accepted d))
 
 pub returns-in-Refused : goal.returns-in-Refused
 unfolding bootstrapped
@@ -66,7 +63,7 @@ returns-in-Add c =
     let added-node = c.before.before in
     let place = added-node.before.before in
     let d = place.before.before in
-    let s = (began d).args.book.now in
-    let q = (began d).args.q in
+    let s = d.args.book.now in
+    let q = d.args.q in
     let left = rw add-sub_cancel_left at added-node.add_node.ensures in
     record { value = sym (accepted d); book_after = rw (accepted d, add-sub_cancel_left) (node-left s q.curve (fits d) (told d).1 left) }

@@ -26,37 +26,33 @@ pub loop-i-init : goal.loop-i-init
 loop-i-init c = (omega arith, refl, collected-none _ _ _)
 
 -- in the loop: the position is one of the book's
-at : (c : In-loop-i) → let after-slice-known = c.before.before.before in let start = after-slice-known.before.before in c.loop-i.i < trade_count start.args.book.now
+at : (c : In-loop-i) → let after-slice-known = c.before.before.before in let c = after-slice-known.before.before in c.loop-i.i < trade_count c.args.book.now
 at c = omega (arith, c.trade_count-count.ensures)
 
 pub record_at-r-requires : goal.record_at-r-requires
 record_at-r-requires c =
     let after-slice-known = c.before.before.before in
-    let start = after-slice-known.before.before in
-    let b = here start in
-    omega (arith, (place-held start.args.book.now start.requires.0.used b c.loop-i.i (at c)).0, b.blocks, b.lent)
+    let c = after-slice-known.before.before in
+    omega (arith, (place-held c.args.book.now c.requires.0.used here c.loop-i.i (at c)).0, here.blocks, here.lent)
 
 pub fields_of-requires : goal.fields_of-requires
 fields_of-requires c =
-    let turn = c.before.before in
-    let after-slice-known = turn.before.before.before in
-    let start = after-slice-known.before.before in
-    ap length c.record_at-r.ensures ∙ length-record_at start.args.book.now start.requires.0.used (here start) turn.loop-i.i (at turn)
+    let c = c.before.before in
+    let after-slice-known = c.before.before.before in
+    let c = after-slice-known.before.before in
+    ap length c.record_at-r.ensures ∙ length-record_at c.args.book.now c.requires.0.used (here c) c.loop-i.i (at c)
 
 -- after the trade is read: it is the one at the position
 module _ (c : After-trade_of) where
-  abbrev turn : In-loop-i
-  turn = let after-record-at = c.before.before.before in after-record-at.before
+  abbrev c : Start
+  c = let counted = c.before.before.before in counted.before.before
 
-  abbrev start : Start
-  start = let counted = turn.before.before.before in counted.before.before
-
-  trade-is : c.trade_of.result ≡ trade_at start.args.book.now turn.loop-i.i
+  trade-is : c.trade_of.result ≡ trade_at c.args.book.now c.loop-i.i
   trade-is =
       c.trade_of.ensures ∙ ap trade_of (c.fields_of.ensures ∙ ap fields_of c.record_at-r.ensures)
 
-  trade-sound : SoundTrade (trade_at start.args.book.now turn.loop-i.i)
-  trade-sound = (accepted-at start.args.book.now start.requires.0.used (here start) turn.loop-i.i (at turn)).trade
+  trade-sound : SoundTrade (trade_at c.args.book.now c.loop-i.i)
+  trade-sound = (accepted-at c.args.book.now c.requires.0.used (here c) c.loop-i.i (at c)).trade
 
 pub legs_of-legs-requires : goal.legs_of-legs-requires
 legs_of-legs-requires c = rw (trade-is c) (trade-sound c)
@@ -66,8 +62,8 @@ unfolding breaks_flow_limit
 push_legs-schedules-requires c =
     let legs = c.before in
     let read = legs.before in
-    let inv = (turn read).loop-i.invariant in (
-      omega (arith, inv.1, inv.2.few, at (turn read), (start read).requires.1),
+    let inv = read.loop-i.invariant in (
+      omega (arith, inv.1, inv.2.few, at read, read.requires.1),
       record { reach = legs.legs_of-legs.ensures.limits; within = rw (legs.legs_of-legs.ensures.flows, trade-is read) (trade-sound read).within },
     )
 
@@ -82,7 +78,7 @@ loop-i-preserved c =
     let pushed = c.before.before in
     let legs = pushed.before.before in
     let read = legs.before in
-    let inv = (turn read).loop-i.invariant in (
+    let inv = read.loop-i.invariant in (
       omega arith,
       search rules,
       collected-next _ _ legs.legs_of-legs.result inv.2 (legs.legs_of-legs.ensures.flows ∙ ap flows_of (trade-is read)) pushed.push_legs-schedules.ensures,
@@ -91,9 +87,9 @@ loop-i-preserved c =
 pub returns : goal.returns
 returns c =
     let after-slice-known = c.before.before.before in
-    let start = after-slice-known.before.before in
-    let s = start.args.book.now in
+    let c = after-slice-known.before.before in
+    let s = c.args.book.now in
     let inv = c.loop-i.invariant in
     let e : c.loop-i.i ≡ trade_count s = omega (arith, c.trade_count-count.ensures) in
-    let all : Collected s start.args.curve c.loop-i.ladder c.loop-i.schedules (trade_count s) = rw (sym e) inv.2 in
-    record { flows = all.flows; limits = collected-all s start.requires.0.used (here start) start.args.curve c.loop-i.ladder c.loop-i.schedules (omega (arith, inv.1, start.requires.1)) all }
+    let all : Collected s c.args.curve c.loop-i.ladder c.loop-i.schedules (trade_count s) = rw (sym e) inv.2 in
+    record { flows = all.flows; limits = collected-all s c.requires.0.used (here c) c.args.curve c.loop-i.ladder c.loop-i.schedules (omega (arith, inv.1, c.requires.1)) all }

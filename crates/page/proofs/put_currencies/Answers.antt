@@ -24,33 +24,29 @@ loop-i-init c =
 
 -- in the loop: the next currency's part is left
 module _ (c : In-loop-i) where
-  abbrev start : Start
-  start = c.before.before.before
-
   abbrev i : ℕ
   i = c.loop-i.i
 
   abbrev curves : List CurveMargin
-  curves = take start.args.count start.args.curves
+  curves = take c.args.count c.args.curves
 
   abbrev this : CurrencyMargin
-  this = get_or start.args.t5 i no_currency
+  this = get_or c.args.t5 i no_currency
 
   below : i < 3
   below = search rules
 
-  next : lines_of (currency_part_of curves) (i + 1) (drop i start.args.t5) ≡ currency_part_of curves (i + 1) this ++ lines_of (currency_part_of curves) (i + 1 + 1) (drop (i + 1) start.args.t5)
-  next = lines_next (currency_part_of curves) start.args.t5 i (i + 1) no_currency (omega (arith, c.loop-i.invariant.1, below))
+  next : lines_of (currency_part_of curves) (i + 1) (drop i c.args.t5) ≡ currency_part_of curves (i + 1) this ++ lines_of (currency_part_of curves) (i + 1 + 1) (drop (i + 1) c.args.t5)
+  next = lines_next (currency_part_of curves) c.args.t5 i (i + 1) no_currency (omega (arith, c.loop-i.invariant.1, below))
 
 pub put_currency_part-next-requires : goal.put_currency_part-next-requires
 put_currency_part-next-requires c =
     let has = c.before.before in
     let turn = has.before in
-    let s = start turn in
-    let long = length_part (i turn + 1) (this turn) (s.requires.count_bound.1.each (i turn) (below turn)) (has_currency (i turn + 1) (curves turn)) in
+    let long = length_part (i turn + 1) (this turn) (turn.requires.count_bound.1.each (i turn) (below turn)) (has_currency (i turn + 1) (curves turn)) in
     let room =
-    text-room (currency_part_of (curves turn) (i turn + 1) (this turn)) (lines_of (currency_part_of (curves turn)) (i turn + 1 + 1) (drop (i turn + 1) s.args.t5))
-    (rw (next turn) at turn.loop-i.invariant.2) s.requires.currencies_in_bounds in
+    text-room (currency_part_of (curves turn) (i turn + 1) (this turn)) (lines_of (currency_part_of (curves turn)) (i turn + 1 + 1) (drop (i turn + 1) turn.args.t5))
+    (rw (next turn) at turn.loop-i.invariant.2) turn.requires.currencies_in_bounds in
     rw has.has_currency-has.ensures (omega (arith, long, room))
 
 pub loop-i-preserved : goal.loop-i-preserved

@@ -22,30 +22,26 @@ loop-i-init c =
 
 -- in the loop: the next curve's line is left
 module _ (c : In-loop-i) where
-  abbrev start : Start
-  start = c.before.before.before
-
   abbrev i : ℕ
   i = c.loop-i.i
 
-  below : i < start.args.count
+  below : i < c.args.count
   below = search rules
 
-  next : lines_of curve_line (i + 1) (drop i (take start.args.count start.args.t3))
-      ≡ curve_line (i + 1) (get_or start.args.t3 i no_curve) ++ lines_of curve_line (i + 1 + 1) (drop (i + 1) (take start.args.count start.args.t3))
+  next : lines_of curve_line (i + 1) (drop i (take c.args.count c.args.t3))
+      ≡ curve_line (i + 1) (get_or c.args.t3 i no_curve) ++ lines_of curve_line (i + 1 + 1) (drop (i + 1) (take c.args.count c.args.t3))
   next =
-      first-lines-next curve_line start.args.t3 i (i + 1) start.args.count no_curve (omega (arith, c.loop-i.invariant.1, start.requires.0.most)) below
+      first-lines-next curve_line c.args.t3 i (i + 1) c.args.count no_curve (omega (arith, c.loop-i.invariant.1, c.requires.0.most)) below
 
 pub put_curve-next-requires : goal.put_curve-next-requires
 put_curve-next-requires c =
     let turn = c.before.before in
-    let s = start turn in
-    let few : i turn + 1 ≤ 8 = omega (arith, below turn, s.requires.0.most) in
-    let limits = s.requires.0.each (i turn) (below turn) in
-    let long = length-curve-line (i turn + 1) (get_or s.args.t3 (i turn) no_curve) few limits in
+    let few : i turn + 1 ≤ 8 = omega (arith, below turn, turn.requires.0.most) in
+    let limits = turn.requires.0.each (i turn) (below turn) in
+    let long = length-curve-line (i turn + 1) (get_or turn.args.t3 (i turn) no_curve) few limits in
     let room =
-    text-room (curve_line (i turn + 1) (get_or s.args.t3 (i turn) no_curve)) (lines_of curve_line (i turn + 1 + 1) (drop (i turn + 1) (take s.args.count s.args.t3)))
-    (rw (next turn) at turn.loop-i.invariant.2) s.requires.1 in
+    text-room (curve_line (i turn + 1) (get_or turn.args.t3 (i turn) no_curve)) (lines_of curve_line (i turn + 1 + 1) (drop (i turn + 1) (take turn.args.count turn.args.t3)))
+    (rw (next turn) at turn.loop-i.invariant.2) turn.requires.1 in
     (omega (arith, long, room), (few, limits))
 
 pub loop-i-preserved : goal.loop-i-preserved

@@ -33,48 +33,42 @@ returns-in-Refused c =
 
 -- taken by it
 module _ (c : In-Accepted) where
-  abbrev asked : After-append_verdict-v
-  asked = c.before.before
-
-  abbrev start : Start
-  start = asked.before.before.before
+  abbrev c : Start
+  c = c.before.before.before
 
   abbrev s : List ℕ
-  s = start.args.book.now
+  s = c.args.book.now
 
   bytes : AreBytes s
-  bytes k = omega (arith, asked.shared_slice_known-1.given k)
+  bytes k = omega (arith, c.shared_slice_known-1.given k)
 
-  ok : append_verdict s start.args.used start.args.day start.args.r ≡ Accepted
-  ok = sym asked.append_verdict-v.ensures ∙ c.in-Accepted.is
+  ok : append_verdict s c.args.used c.args.day c.args.r ≡ Accepted
+  ok = sym c.append_verdict-v.ensures ∙ c.in-Accepted.is
 
-  given : Admitted s start.args.used start.args.r
-  given = admitted s start.args.used start.args.r start.args.day ok
+  given : Admitted s c.args.used c.args.r
+  given = admitted s c.args.used c.args.r c.args.day ok
 
 pub slice_bounds-copy_in-end-in-Accepted : goal.slice_bounds-copy_in-end-in-Accepted
 slice_bounds-copy_in-end-in-Accepted c = let b = sound _ _ (given c.before).accepted in omega (arith, b.lent)
 
 pub copy_in-requires : goal.copy_in-requires
 copy_in-requires c =
-    let passed = c.before.before in
-    let a = (start passed).args in
-    copy-fits zeros zeros-room a.book.now a.used a.r (given passed) (a.used - 0) (omega arith)
+    let c = c.before.before in
+    let a = c.args in
+    copy-fits zeros zeros-room a.book.now a.used a.r (given c) (a.used - 0) (omega arith)
 
 -- from the copy on
 module _ (c : After-copy_in) where
-  abbrev passed : In-Accepted
-  passed = c.before.before.before
-
   abbrev used : ℕ
-  used = (start passed).args.used
+  used = c.args.used
 
-  is-copy : c.copy_in.new.0 ≡ put zeros 0 (take used (s passed))
+  is-copy : c.copy_in.new.0 ≡ put zeros 0 (take used (s c))
   is-copy =
       let whole : used - 0 ≡ used = omega arith in
-      c.copy_in.ensures ∙ ap (λ (n : ℕ). put zeros 0 (take n (s passed))) whole
+      c.copy_in.ensures ∙ ap (λ (n : ℕ). put zeros 0 (take n (s c))) whole
 
-  admits-record : Admitted c.copy_in.new.0 used (start passed).args.r
-  admits-record = copy-admits-record zeros zeros-room (s passed) used (start passed).args.r (given passed) c.copy_in.new.0 is-copy (bytes passed)
+  admits-record : Admitted c.copy_in.new.0 used c.args.r
+  admits-record = copy-admits-record zeros zeros-room (s c) used c.args.r (given c) c.copy_in.new.0 is-copy (bytes c)
 
 pub add-requires : goal.add-requires
 add-requires c = let w = admits-record c.before.before in (w.accepted, record-taken _ _ _ w)
@@ -83,10 +77,10 @@ pub fill_report-requires : goal.fill_report-requires
 fill_report-requires c =
     let with-record = c.before.before.before in
     let copy = with-record.before.before.before in
-    let a = (start (passed copy)).args in
+    let a = copy.args in
     record {
       used = _;
-      accepted = copy-accepted-with-record zeros zeros-room a.book.now a.used a.r (given (passed copy)) _ (is-copy copy) (bytes (passed copy)) (record-long (start (passed copy))) _ _
+      accepted = copy-accepted-with-record zeros zeros-room a.book.now a.used a.r (given copy) _ (is-copy copy) (bytes copy) (record-long copy) _ _
           with-record.add.ensures.value with-record.add.ensures.book_after;
     }
 
@@ -95,7 +89,7 @@ returns-in-Accepted c =
     let filled = c.before.before in
     let with-record = let arg = filled.before in arg.before.before.before in
     let copy = with-record.before.before.before in
-    let a = (start (passed copy)).args in
-    let p = copy-shown zeros zeros-room a.book.now a.used a.r (given (passed copy)) _ (is-copy copy) (bytes (passed copy)) (record-long (start (passed copy))) _ _
-    with-record.add.ensures.value with-record.add.ensures.book_after a.day (ok (passed copy)) a.out-1.now filled.fill_report.ensures.value filled.fill_report.ensures.out_after in
+    let a = copy.args in
+    let p = copy-shown zeros zeros-room a.book.now a.used a.r (given copy) _ (is-copy copy) (bytes copy) (record-long copy) _ _
+    with-record.add.ensures.value with-record.add.ensures.book_after a.day (ok copy) a.out-1.now filled.fill_report.ensures.value filled.fill_report.ensures.out_after in
     (p.0, (p.1, preview-bounded a.book.now a.used a.day a.r a.out-1.now p.0 p.1))

@@ -26,36 +26,29 @@ pub loop-k-init : goal.loop-k-init
 loop-k-init c = (omega arith, refl, record { places = refl; each = λ i l. absurd (omega arith) })
 
 -- the entry's record
-abbrev entry : After-curve_count-count → Start
-entry c = c.before.before.before
 
 pub curve_figures-m-requires : goal.curve_figures-m-requires
 curve_figures-m-requires c =
-    let l = c.before.before in
-    let counted = l.before.before in
-    let p = (entry counted).requires in
-    (p.0, omega arith, omega (arith, counted.curve_count-count.ensures.value), omega (arith, l.loop-k.invariant.1, p.1))
+    let p = c.requires in
+    (p.0, omega arith, omega (arith, c.curve_count-count.ensures.value), omega (arith, c.loop-k.invariant.1, p.1))
 
 -- in the loop: a place is free
 below : (c : In-loop-k) → c.loop-k.k < 8
 below c =
     let counted = c.before.before.before in
-    let b = here (entry counted) in
+    let b = here counted in
     omega (arith, counted.curve_count-count.ensures.value, b.most)
 
 -- a turn, behind its call
-abbrev turn : After-slice_known-in-loop-k-1 → In-loop-k
-turn c = let called = c.before.before in called.before.before
 
 pub loop-k-preserved : goal.loop-k-preserved
 loop-k-preserved c =
-    let t = turn c in
-    (omega arith, search rules, placed-next _ _ _ t.loop-k.inv.2 c.curve_figures-m.result (below t) c.curve_figures-m.ensures)
+    (omega arith, search rules, placed-next _ _ _ c.loop-k.inv.2 c.curve_figures-m.result (below c) c.curve_figures-m.ensures)
 
 -- behind the loop: every curve has its place
 module _ (c : After-loop-k) where
   abbrev start : Start
-  start = entry c.before.before.before
+  start = c.before.before.before
 
   count-is : c.curve_count-count.result ≡ curve_count start.args.book.now
   count-is = c.curve_count-count.ensures.value
@@ -87,7 +80,7 @@ pub no_curve-curves-requires : goal.no_curve-curves-requires
 no_curve-curves-requires c = tt
 
 pub offset_bounds-curves-k : goal.offset_bounds-curves-k
-offset_bounds-curves-k c = omega (arith, below (turn c))
+offset_bounds-curves-k c = omega (arith, below c)
 
 pub bounds-curves-k : goal.bounds-curves-k
-bounds-curves-k c = below (turn c)
+bounds-curves-k c = below c

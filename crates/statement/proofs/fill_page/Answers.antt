@@ -39,37 +39,31 @@ page_length-needed-requires c =
 
 -- the length is that of the page
 module _ (c : After-page_length-needed) where
-  abbrev start : Start
-  start = let after-trade-count = c.before.before in let made = after-trade-count.before.before in made.before.before.before
-
-  needed : c.page_length-needed.result ≡ length (page_of start.args.book.now)
+  needed : c.page_length-needed.result ≡ length (page_of c.args.book.now)
   needed =
-      let b = here start in
-      let e = length-page_of start.args.book.now _ b in
+      let e = length-page_of c.args.book.now _ here in
       rw (e, ← c.margin_of_book-m.ensures, ← c.trade_count.ensures, ← c.curve_count.ensures.value) c.page_length-needed.ensures
 
 pub returns-then-breaks_space : goal.returns-then-breaks_space
 returns-then-breaks_space c =
     let asked = c.before in
-    let a = (start asked.before).args in
+    let a = asked.args in
     let p = text-too-long (page_of a.book.now) a.out-1.now (rw (needed asked.before) at (sym asked.breaks_space.ensures ∙ c.if-breaks_space.true)) in
     record { value = p.answer; out_after = p.bytes }
 
 -- there is text-fits
-spacious : (c : Else-breaks_space) → let a = (start c.before.before).args in breaks_space (length (page_of a.book.now)) (length a.out-1.now) ≡ false
+spacious : (c : Else-breaks_space) → let a = c.args in breaks_space (length (page_of a.book.now)) (length a.out-1.now) ≡ false
 spacious c = rw (needed c.before.before) at (sym c.breaks_space.ensures ∙ c.if-breaks_space.false)
 
 pub write_page-requires : goal.write_page-requires
 write_page-requires c =
     let free = c.before in
-    let measured = free.before.before in
-    let s = start measured in
-    record { starts_with_book = (s.requires, measured.margin_of_book-m.ensures); book_in_bounds = text-fits (page_of s.args.book.now) s.args.out.now (spacious free) }
+    record { starts_with_book = (free.requires, free.margin_of_book-m.ensures); book_in_bounds = text-fits (page_of free.args.book.now) free.args.out.now (spacious free) }
 
 pub returns : goal.returns
 returns c =
     let written = c.before.before in
     let free = written.before.before in
-    let a = (start free.before.before).args in
+    let a = free.args in
     let p = text_in-front (page_of a.book.now) a.out-1.now (spacious free) written.write_page.ensures.value written.write_page.ensures.out_after in
     record { value = p.answer; out_after = p.bytes }

@@ -30,11 +30,8 @@ loop-i-init c = (omega arith, text-all _ _ _)
 
 -- in the loop: the next trade's line is left
 module _ (c : In-loop-i) where
-  abbrev start : Start
-  start = let counted = c.before.before in counted.before.before.before
-
   abbrev book : List ℕ
-  book = start.args.book.now
+  book = c.args.book.now
 
   abbrev i : ℕ
   i = c.loop-i.i
@@ -52,15 +49,14 @@ module _ (c : In-loop-i) where
 
 pub record_at-r-requires : goal.record_at-r-requires
 record_at-r-requires c =
-    let s = start c in
-    let b = here s in
+    let b = here c in
     omega (arith, (place-held (book c) _ b (i c) (below c)).0, b.blocks, b.lent)
 
 pub fields_of-requires : goal.fields_of-requires
 fields_of-requires c =
     let read = c.before.before in
     let turn = read.before in
-    ap length read.record_at-r.ensures ∙ length-record_at (book turn) _ (here (start turn)) (i turn) (below turn)
+    ap length read.record_at-r.ensures ∙ length-record_at (book turn) _ (here turn) (i turn) (below turn)
 
 -- after the record is read: it is the one at the position
 fields-is : (c : After-fields_of) → let read = c.before.before.before in c.fields_of.result ≡ fields_of (record_at (book read.before) (i read.before))
@@ -70,10 +66,9 @@ pub put_trade-next-requires : goal.put_trade-next-requires
 put_trade-next-requires c =
     let read = c.before.before.before in
     let turn = read.before in
-    let s = start turn in
-    let limits = record-limits (book turn) _ (here s) (i turn) (below turn) in
+    let limits = record-limits (book turn) _ (here turn) (i turn) (below turn) in
     let long = length-trade-line (i turn) (fields_of (record_at (book turn) (i turn))) limits in
-    let room = text-room (record_line (i turn) (record_at (book turn) (i turn))) (rest turn) (rw (next turn) at turn.loop-i.invariant.1) s.requires.book_in_bounds in
+    let room = text-room (record_line (i turn) (record_at (book turn) (i turn))) (rest turn) (rw (next turn) at turn.loop-i.invariant.1) turn.requires.book_in_bounds in
     (omega (arith, long, room), rw (fields-is c) limits)
 
 pub loop-i-preserved : goal.loop-i-preserved

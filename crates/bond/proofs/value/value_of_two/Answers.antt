@@ -13,27 +13,23 @@ use Rattle.bond.proofs.value.value_of_two.Goals.{After-fine_value_of-second, Sta
 
 -- where both are known
 module _ (c : Then-first-second) where
-  abbrev found : After-fine_value_of-second
-  found = c.before.before.before
+  abbrev c : Start
+  c = c.before.before.before
 
-  abbrev start : Start
-  start = found.before.before.before
+  known : (c.fine_value_of-first.result.known ≡ true) × (c.fine_value_of-second.result.known ≡ true)
+  known = both c.fine_value_of-first.result.known c.fine_value_of-second.result.known c.if-first-second.true
 
-  known : (found.fine_value_of-first.result.known ≡ true) × (found.fine_value_of-second.result.known ≡ true)
-  known = both found.fine_value_of-first.result.known found.fine_value_of-second.result.known c.if-first-second.true
+  first : c.fine_value_of-first.result.value ≡ flow_value (rate_at (nodes_of c.args.c)) c.args.f
+  first = c.fine_value_of-first.ensures known.0
 
-  first : found.fine_value_of-first.result.value ≡ flow_value (rate_at (nodes_of start.args.c)) start.args.f
-  first = found.fine_value_of-first.ensures known.0
-
-  second : found.fine_value_of-second.result.value ≡ flow_value (rate_at (nodes_of start.args.c)) start.args.g
-  second = found.fine_value_of-second.ensures known.1
+  second : c.fine_value_of-second.result.value ≡ flow_value (rate_at (nodes_of c.args.c)) c.args.g
+  second = c.fine_value_of-second.ensures known.1
 
 pub overflow_add-result : goal.overflow_add-result
 unfolding unit
 overflow_add-result c =
     let known = c.before.before in
-    let s = start known in
-    omega (arith, first known, second known, two-most (nodes_of s.args.c) s.args.f s.args.g s.requires.1 s.requires.2)
+    omega (arith, first known, second known, two-most (nodes_of known.args.c) known.args.f known.args.g known.requires.1 known.requires.2)
 
 pub returns-then-first-second : goal.returns-then-first-second
 returns-then-first-second c = omega (arith, first c.before.before, second c.before.before)

@@ -17,10 +17,7 @@ loop-i-init c = (omega arith, rw (sub-zero, c.record_count-n.ensures.value))
 
 -- a turn: the record's verdict, in the contract's terms
 module _ (c : After-is_accepted) where
-  abbrev inside : In-loop-i
-  inside = let f = c.before.before in f.before.before
-
-  judged : let l = inside.before in
+  judged : let l = c.before in
       let a = l.args in
       c.record_verdict-v.result ≡ bytes_verdict a.curves (record_in a.b.now l.loop-i.i) a.k
   judged =
@@ -28,18 +25,16 @@ module _ (c : After-is_accepted) where
 
 pub returns-then-not-is_accepted : goal.returns-then-not-is_accepted
 returns-then-not-is_accepted c =
-    let turn = inside c.before in
-    let l = turn.loop-i in
+    let l = c.loop-i in
     let e = judged c.before in
     let stop = rw e at (sym c.is_accepted.ensures ∙ c.if-not-is_accepted.true) in
-    e ∙ sym (l.inv.1 ∙ first-stopped _ l.i _ turn.loop-i-test.taken stop)
+    e ∙ sym (l.inv.1 ∙ first-stopped _ l.i _ c.loop-i-test.taken stop)
 
 pub loop-i-preserved : goal.loop-i-preserved
 loop-i-preserved c =
-    let turn = inside c.before in
-    let l = turn.loop-i in
+    let l = c.loop-i in
     let pass = rw (judged c.before) at (sym c.is_accepted.ensures ∙ c.if-not-is_accepted.false) in
-    (omega arith, l.inv.1 ∙ first-passed _ l.i _ turn.loop-i-test.taken pass)
+    (omega arith, l.inv.1 ∙ first-passed _ l.i _ c.loop-i-test.taken pass)
 
 pub returns : goal.returns
 returns c = sym (c.loop-i.invariant.1 ∙ first-end _ _ _ c.loop-i-test.false)

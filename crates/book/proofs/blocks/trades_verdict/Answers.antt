@@ -12,13 +12,10 @@ use Rattle.book.proofs.blocks.trades_verdict.Goals as goal
 use Rattle.book.proofs.blocks.trades_verdict.Goals.{After-or_if-v, Start}
 
 module _ (c : After-or_if-v) where
-  abbrev start : Start
-  start = let place = c.before.before.before in let after-shared-slice-known = place.before.before.before in after-shared-slice-known.before
-
   -- grounds 2, 3 and 7
-  so_far : c.or_if-v.result ≡ first_broken start.args.k (trades_rules start.args.b.now start.args.k start.args.last)
+  so_far : c.or_if-v.result ≡ first_broken c.args.k (trades_rules c.args.b.now c.args.k c.args.last)
   so_far =
-      let a = start.args in
+      let a = c.args in
       also TradeBlock a.k
       (also Place a.k
       (also {v = Accepted} Check a.k refl c.breaks_check.ensures c.or_if.ensures)
@@ -36,7 +33,7 @@ returns-then-not-is_accepted c =
 pub records_verdict-requires : goal.records_verdict-requires
 records_verdict-requires c =
     let v = c.before.before in
-    let a = (start v).args in
+    let a = v.args in
     let accepted = sym (so_far v) ∙ is-accepted _ (sym c.is_accepted.ensures ∙ c.if-not-is_accepted.false) in
     (search rules, (traded _ _ (unbroken a.k (trades_rules a.b.now a.k a.last) accepted 2)).count.most)
 

@@ -13,18 +13,15 @@ use Rattle.bootstrap.proofs.Extending.{of_parts}
 use Rattle.bootstrap.proofs.decide.priced.Goals as goal
 use Rattle.bootstrap.proofs.decide.priced.Goals.{After-breaks_rate_range, After-new-e, Start}
 
-abbrev start : After-new-e → Start
-start c = c.before.before
-
 -- the extension is that of the bond on the curve
-is-of : {A : Type 0} (f : Curve → Node → Leg → A) (c : After-new-e) → let a = (start c).args in
+is-of : {A : Type 0} (f : Curve → Node → Leg → A) (c : After-new-e) → let a = c.args in
     f c.new-e.result.curve c.new-e.result.node c.new-e.result.payments ≡ f a.c a.n a.l
 is-of f c = let e = c.new-e.ensures in of_parts f c.new-e.result e.0 e.1 e.2
 
-range-is : (c : After-breaks_rate_range) → let a = (start c.before).args in
+range-is : (c : After-breaks_rate_range) → let a = c.args in
     c.breaks_rate_range.result ≡ breaks_rate_range (nodes_of a.c) a.n (leg_flows a.l) a.cash
 range-is c =
-    let cash = (start c.before).args.cash in
+    let cash = c.args.cash in
     c.breaks_rate_range.ensures ∙ is-of (λ k n l. breaks_rate_range (nodes_of k) n (leg_flows l) cash) c.before
 
 pub returns-then-breaks_rate_range : goal.returns-then-breaks_rate_range
@@ -32,13 +29,12 @@ returns-then-breaks_rate_range c = rw (sym (range-is c.before) ∙ c.if-breaks_r
 
 pub rate_for-requires : goal.rate_for-requires
 rate_for-requires c =
-    let made = c.before.before in
-    record { prepared = (made.new-e.ensures.3, (start made).requires.1); cash_value = sym c.breaks_rate_range.ensures ∙ c.if-breaks_rate_range.false }
+    record { prepared = (c.new-e.ensures.3, c.requires.1); cash_value = sym c.breaks_rate_range.ensures ∙ c.if-breaks_rate_range.false }
 
 pub returns : goal.returns
 returns c =
     let found = c.before in
     let range = found.before.before in
-    let a = (start range.before).args in
+    let a = range.args in
     let rate = found.rate_for.ensures.value ∙ is-of (λ k n l. rate_for (nodes_of k) n (leg_flows l) a.cash) range.before in
     rw (sym (range-is range) ∙ found.if-breaks_rate_range.false) (ap Add (c.at_rate.ensures ∙ ap (at_rate a.n) rate))

@@ -19,17 +19,14 @@ judged : (c : After-quote_verdict-v) → let s = c.before.before.before in c.quo
 judged c = c.quote_verdict-v.ensures ∙ rw c.curves_of.ensures
 
 module _ (c : In-Accepted) where
-  abbrev start : Start
-  start = let told = c.before.before in told.before.before.before
-
-  accepted : quote_verdict (curves_of start.args.book.now) start.args.q ≡ Accepted
+  accepted : quote_verdict (curves_of c.args.book.now) c.args.q ≡ Accepted
   accepted = sym (judged c.before.before) ∙ c.in-Accepted.is
 
-  book : Sound start.args.book.now start.requires.used
-  book = sound _ _ start.requires.accepted
+  book : Sound c.args.book.now c.requires.used
+  book = sound _ _ c.requires.accepted
 
-  id : InLimits 1 start.args.q.curve (curve_count start.args.book.now)
-  id = id-in-book start.args.book.now start.args.q accepted
+  id : InLimits 1 c.args.q.curve (curve_count c.args.book.now)
+  id = id-in-book c.args.book.now c.args.q accepted
 
 pub block_at-requires : goal.block_at-requires
 block_at-requires c = let b = book c in omega (arith, b.blocks, b.lent, (id c).high)
@@ -37,9 +34,8 @@ block_at-requires c = let b = book c in omega (arith, b.blocks, b.lent, (id c).h
 pub extended-requires : goal.extended-requires
 extended-requires c =
     let told = c.before.before in
-    let s = start told in
-    let curve = (curve-sound s.args.book.now s.requires.used (book told) s.args.q.curve (id told).low (id told).high).curve in
-    (rw (c.curve_of.ensures, c.block_at.ensures.result_value) curve, quote-kept _ s.args.q (accepted told))
+    let curve = (curve-sound told.args.book.now told.requires.used (book told) told.args.q.curve (id told).low (id told).high).curve in
+    (rw (c.curve_of.ensures, c.block_at.ensures.result_value) curve, quote-kept _ told.args.q (accepted told))
 
 pub returns-in-Refused : goal.returns-in-Refused
 unfolding in_book_verdict

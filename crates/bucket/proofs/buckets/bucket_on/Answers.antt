@@ -19,11 +19,8 @@ returns-then-until-day c =
 
 -- with the ends of the bucket known
 module _ (c : After-last_day_of-last) where
-  abbrev else : Else-until-day
-  else = c.before.before
-
-  abbrev start : Start
-  start = else.before.before
+  abbrev c : Start
+  c = c.before.before
 
   record Ends (near far day : ℕ) : Type 0 where
     near_le : near ≤ day
@@ -31,23 +28,21 @@ module _ (c : After-last_day_of-last) where
     span : far ≤ near + 32
     last : far ≤ 10950
 
-  ends : Ends c.first_day_of-first.result c.last_day_of-last.result start.args.day
+  ends : Ends c.first_day_of-first.result c.last_day_of-last.result c.args.day
   ends =
       let n = c.first_day_of-first.ensures in
       let f = c.last_day_of-last.ensures in
-      let from = else.if-day-from.left in
-      let until = else.if-until-day.left in
-      record { near_le = omega arith; le-far = omega arith; span = omega arith; last = omega (arith, start.requires.2) }
+      let from = c.if-day-from.left in
+      let until = c.if-until-day.left in
+      record { near_le = omega arith; le-far = omega arith; span = omega arith; last = omega (arith, c.requires.2) }
 
-  moved : start.args.width * (c.last_day_of-last.result - c.first_day_of-first.result) ≤ 1000000 * 32
-  moved = mul-le-mul {n₂ = 1000000} {m₂ = 32} start.requires.0 (omega (arith, ends))
+  moved : c.args.width * (c.last_day_of-last.result - c.first_day_of-first.result) ≤ 1000000 * 32
+  moved = mul-le-mul {n₂ = 1000000} {m₂ = 32} c.requires.0 (omega (arith, ends))
 
 pub returns : goal.returns
 unfolding bucket_on
 returns c =
-    let at = c.before in
-    let e = else at in
-    rw (le-ltb _ _ e.if-day-from.left, lt-leb _ _ e.if-until-day.left, ← at.first_day_of-first.ensures, ← at.last_day_of-last.ensures) c.fitting.ensures
+    rw (le-ltb _ _ c.if-day-from.left, lt-leb _ _ c.if-until-day.left, ← c.first_day_of-first.ensures, ← c.last_day_of-last.ensures) c.fitting.ensures
 
 pub overflow_sub-jump : goal.overflow_sub-jump
 overflow_sub-jump c = omega (arith, ends c)
@@ -56,7 +51,7 @@ pub overflow_mul-jump : goal.overflow_mul-jump
 overflow_mul-jump c = omega (arith, moved c)
 
 pub overflow_add-jump : goal.overflow_add-jump
-overflow_add-jump c = omega (arith, moved c, div-le_self ((start c).args.width * (c.last_day_of-last.result - c.first_day_of-first.result)) ((start c).args.until - (start c).args.from))
+overflow_add-jump c = omega (arith, moved c, div-le_self (c.args.width * (c.last_day_of-last.result - c.first_day_of-first.result)) (c.args.until - c.args.from))
 
 pub fitting-requires : goal.fitting-requires
-fitting-requires c = ((start c).requires.1, (ends c).near_le, (ends c).le-far, (ends c).span, (ends c).last)
+fitting-requires c = (c.requires.1, (ends c).near_le, (ends c).le-far, (ends c).span, (ends c).last)

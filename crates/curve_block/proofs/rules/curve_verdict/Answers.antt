@@ -12,13 +12,10 @@ use Rattle.curve_block.proofs.rules.curve_verdict.Goals as goal
 use Rattle.curve_block.proofs.rules.curve_verdict.Goals.{After-or_if-v, Start}
 
 module _ (c : After-or_if-v) where
-  abbrev start : Start
-  start = let place = c.before.before.before in let after-shared-slice-known = place.before.before.before in after-shared-slice-known.before
-
   -- grounds 2, 3 and 5
-  so_far : c.or_if-v.result ≡ in_turn Accepted start.args.k (take 3 (curve_rules start.args.b.now start.args.k))
+  so_far : c.or_if-v.result ≡ in_turn Accepted c.args.k (take 3 (curve_rules c.args.b.now c.args.k))
   so_far =
-      let k = start.args.k in
+      let k = c.args.k in
       also Curve k
       (also Place k
       (also {v = Accepted} Check k refl c.breaks_check.ensures c.or_if.ensures)
@@ -29,23 +26,22 @@ pub returns-then-not-is_accepted : goal.returns-then-not-is_accepted
 unfolding curve_verdict
 returns-then-not-is_accepted c =
     let v = c.before.before in
-    let a = (start v).args in
+    let a = v.args in
     let rules = curve_rules a.b.now a.k in
     stopped a.k (drop 3 rules) (so_far v) (sym c.is_accepted.ensures ∙ c.if-not-is_accepted.true) ∙ in-turn Accepted a.k rules
 
 pub breaks_node-requires : goal.breaks_node-requires
 breaks_node-requires c =
     let v = c.before.before in
-    let s = start v in
-    let b = s.args.b.now in
-    let k = s.args.k in
+    let b = v.args.b.now in
+    let k = v.args.k in
     let kept = passed k (take 3 (curve_rules b k)) (so_far v) (sym c.is_accepted.ensures ∙ c.if-not-is_accepted.false) in
-    (s.requires, count_most b k (numbers-kept b k (kept 2)))
+    (v.requires, count_most b k (numbers-kept b k (kept 2)))
 
 pub returns : goal.returns
 unfolding curve_verdict
 returns c =
     let node = c.before in
     let v = node.before.before.before in
-    let a = (start v).args in
+    let a = v.args in
     also Node a.k (so_far v) node.breaks_node.ensures c.or_if-3.ensures ∙ in-turn Accepted a.k (curve_rules a.b.now a.k)

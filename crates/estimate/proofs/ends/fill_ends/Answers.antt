@@ -7,29 +7,24 @@ use Rattle.estimate.proofs.ends.fill_ends.Goals as goal
 use Rattle.estimate.proofs.ends.fill_ends.Goals.{At-loop-i, Start}
 
 -- the entry's record
-abbrev start : At-loop-i → Start
-start l = l.before.before.before
 
 pub bounds-ends-i : goal.bounds-ends-i
 bounds-ends-i c =
-    let l = c.before.before in
-    omega (arith, c.loop-i-test.true, (start l).requires.2, l.loop-i.invariant.places)
+    omega (arith, c.loop-i-test.true, c.requires.2, c.loop-i.invariant.places)
 
 pub loop-i-preserved : goal.loop-i-preserved
 loop-i-preserved c =
-    let l = c.before.before in
-    ending-next _ _ _ _ _ l.loop-i.invariant (start l).requires.2 c.loop-i-test.true _ c.days_before.ensures
+    ending-next _ _ _ _ _ c.loop-i.invariant c.requires.2 c.loop-i-test.true _ c.days_before.ensures
 
 pub returns : goal.returns
 returns c =
-    let l = c.before in
-    ending-all _ _ _ _ _ l.loop-i.invariant (start l).requires.2 c.loop-i-test.false
+    ending-all _ _ _ _ _ c.loop-i.invariant c.requires.2 c.loop-i-test.false
 
 pub loop-i-init : goal.loop-i-init
 loop-i-init c = ending-none _ _ _
 
 pub days_before-requires : goal.days_before-requires
-days_before-requires c = (start c.before).requires.1
+days_before-requires c = c.requires.1
 
 pub shape_of-ends : goal.shape_of-ends
 shape_of-ends c = c.loop-i.invariant.places

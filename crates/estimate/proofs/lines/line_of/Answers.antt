@@ -14,37 +14,31 @@ use Rattle.estimate.proofs.lines.line_of.Goals.{After-slope-down, After-slope-up
 
 -- it rises
 module _ (c : After-slope-up) where
-  abbrev test : Then-a-b
-  test = c.before.before.before
-
-  abbrev start : Start
-  start = let run = test.before.before in run.before.before.before
+  abbrev c : Start
+  c = let run = c.before.before in run.before.before.before
 
   up-most : c.slope-up.result ≤ steepest
-  up-most = rw c.slope-up.ensures (slope-size _ _ (omega (arith, start.requires.to.rate)))
+  up-most = rw c.slope-up.ensures (slope-size _ _ (omega (arith, c.requires.to.rate)))
 
 pub line_from-requires : goal.line_from-requires
 unfolding line_scale
-line_from-requires c = ((start c).requires.from, omega arith, rw (code_up _ (up-most c)) (up-most c))
+line_from-requires c = (c.requires.from, omega arith, rw (code_up _ (up-most c)) (up-most c))
 
 pub returns-then-a-b : goal.returns-then-a-b
 unfolding line_of rising
 returns-then-a-b c =
     let s = c.before in
-    let a = (start s).args in
-    rw (le-leb _ _ (test s).if-a-b.true)
+    let a = s.args in
+    rw (le-leb _ _ s.if-a-b.true)
     (c.line_from.ensures ∙ ap (λ (z : ℤ). line_from a.a 0 z) (code_up _ (up-most s) ∙ ap pos s.slope-up.ensures))
 
 -- it falls
 module _ (c : After-slope-down) where
-  abbrev other : Else-a-b
-  other = c.before.before.before
-
-  abbrev entry : Start
-  entry = let run = other.before.before in run.before.before.before
+  abbrev c : Start
+  c = let run = c.before.before in run.before.before.before
 
   down-most : c.slope-down.result ≤ steepest
-  down-most = rw c.slope-down.ensures (slope-size _ _ (omega (arith, entry.requires.from.rate)))
+  down-most = rw c.slope-down.ensures (slope-size _ _ (omega (arith, c.requires.from.rate)))
 
 pub overflow_sub-down : goal.overflow_sub-down
 overflow_sub-down c =
@@ -53,14 +47,14 @@ overflow_sub-down c =
 pub line_from-requires-2 : goal.line_from-requires-2
 unfolding line_scale
 line_from-requires-2 c =
-    ((entry c).requires.from, omega arith, rw (down-read _ (down-most c)) (down-size _ (down-most c)))
+    (c.requires.from, omega arith, rw (down-read _ (down-most c)) (down-size _ (down-most c)))
 
 pub returns : goal.returns
 unfolding line_of falling line_scale
 returns c =
     let s = c.before in
-    let a = (entry s).args in
-    rw (lt-leb _ _ (other s).if-a-b.false)
+    let a = s.args in
+    rw (lt-leb _ _ s.if-a-b.false)
     (c.line_from-2.ensures ∙ ap (λ (z : ℤ). line_from a.a 134217727 z) (down-read _ (down-most s) ∙ ap (λ (n : ℕ). neg_ℤ (pos n)) s.slope-down.ensures))
 
 pub overflow_cast-up : goal.overflow_cast-up

@@ -12,19 +12,15 @@ use Rattle.estimate.proofs.parts.day_value.Goals as goal
 use Rattle.estimate.proofs.parts.day_value.Goals.{After-factor, Start}
 
 -- the entry's record
-abbrev start : After-factor → Start
-start c = let given = c.before.before in given.before
 
 pub worth-requires : goal.worth-requires
 unfolding whole most_size
 worth-requires c =
-    let s = start c in
-    (rw (back s.args.net s.ranges.net.sfits) s.requires.2, rw c.factor.ensures (cheap-le _ _))
+    (rw (back c.args.net c.ranges.net.sfits) c.requires.2, rw c.factor.ensures (cheap-le _ _))
 
 pub returns : goal.returns
 unfolding whole most_size
 returns c =
-    let s = start c.before in
-    let size = worth-size (cheap_on (rate_on s.args.line) s.args.day) s.args.net (cheap-le _ _) in
-    rw (c.worth.ensures, c.factor.ensures, c.rate_on.ensures, back s.args.net s.ranges.net.sfits)
-    (read_is _ (omega (arith, size, s.requires.2)))
+    let size = worth-size (cheap_on (rate_on c.args.line) c.args.day) c.args.net (cheap-le _ _) in
+    rw (c.worth.ensures, c.factor.ensures, c.rate_on.ensures, back c.args.net c.ranges.net.sfits)
+    (read_is _ (omega (arith, size, c.requires.2)))

@@ -11,18 +11,16 @@ use Rattle.estimate.proofs.values.fill_values.Goals as goal
 use Rattle.estimate.proofs.values.fill_values.Goals.{After-ends-1, At-loop-s, In-loop-s, Start}
 
 -- the entry's record, and that a turn's scenario is one of the components'
-abbrev start : After-ends-1 → Start
-start c = c.before.before.before
 
 abbrev entry : At-loop-s → Start
-entry l = let filled = l.before.before.before in start filled.before
+entry l = let filled = l.before.before.before in filled.before
 
 within : (c : In-loop-s) → c.loop-s.s < scenario_count (entry c.before).args.components
 within c = omega (arith, c.loop-s-test.true, c.scenario_count-n.ensures)
 
 pub fill_ends-requires : goal.fill_ends-requires
 fill_ends-requires c =
-    let p = (start c).requires in
+    let p = c.requires in
     (p.0, rising-listed _ _ p.2, omega (arith, p.0.most, length-replicate {A = ℕ} 24 0))
 
 pub scenario-scenario-requires : goal.scenario-scenario-requires

@@ -17,12 +17,10 @@ use Rattle.estimate.proofs.values.value_in.Goals as goal
 use Rattle.estimate.proofs.values.value_in.Goals.{After-stressed, Start}
 
 -- the entry's record
-abbrev start : After-stressed → Start
-start c = let known = c.before in known.before.before.before
 
 pub value_on-requires : goal.value_on-requires
 value_on-requires c =
-    let p = (start c).requires in
+    let p = c.requires in
     (rw c.stressed.ensures (proper-stressed _ _ p.0), rw c.stressed.ensures (ends-stressed _ _ p.0 _ _ p.2), p.3, p.4)
 
 -- what is worth at the nodes of a stressed curve
@@ -32,5 +30,4 @@ at-stressed s c p e nets z f v = v ∙ ap (λ (ns : List Node). cheap_value ns n
 
 pub returns : goal.returns
 returns c =
-    let s = start c.before in
-    value_read _ _ _ s.requires.3 _ (at-stressed _ _ s.requires.0 _ _ _ c.stressed.ensures c.Value-on.ensures)
+    value_read _ _ _ c.requires.3 _ (at-stressed _ _ c.requires.0 _ _ _ c.stressed.ensures c.Value-on.ensures)

@@ -9,11 +9,9 @@ use Rattle.estimate.proofs.values.value_on.Goals as goal
 use Rattle.estimate.proofs.values.value_on.Goals.{After-level, After-loop-i, At-loop-i, In-loop-i, Start}
 
 -- the entry's record
-abbrev start : After-level → Start
-start c = let known = c.before in known.before.before.before
 
 abbrev entry : At-loop-i → Start
-entry l = start l.before.before.before
+entry l = l.before.before.before
 
 pub level-requires : goal.level-requires
 level-requires c =
@@ -21,32 +19,28 @@ level-requires c =
 
 pub bounds-ends-0 : goal.bounds-ends-0
 bounds-ends-0 c =
-    let p = (start c.before).requires in
+    let p = c.requires in
     omega (arith, p.0.least, p.1.places)
 
 pub along-p-requires : goal.along-p-requires
 along-p-requires c =
-    let p = (start c.before).requires in
+    let p = c.requires in
     (ready-first _ p.0 _ _ _ p.2 p.1 _ c.level.ensures, p.3)
 
 pub loop-i-init : goal.loop-i-init
 loop-i-init c =
-    let l = c.before.before in
-    let p = (start l).requires in
-    held_first _ p.0 _ _ _ p.2 p.1 _ l.level.ensures _ c.along-p.ensures
+    let p = c.requires in
+    held_first _ p.0 _ _ _ p.2 p.1 _ c.level.ensures _ c.along-p.ensures
 
 -- a turn
 module _ (c : In-loop-i) where
-  abbrev at : At-loop-i
-  at = c.before
-
   abbrev begin : Start
-  begin = entry at
+  begin = entry c
 
 pub between-p-requires : goal.between-p-requires
 between-p-requires c =
     let turn = c.before.before.before in
-    let h = (at turn).loop-i.invariant in
+    let h = turn.loop-i.invariant in
     let k = turn.loop-i-test.true in
     let p = (begin turn).requires in
     (ahead _ p.0 _ h.some k, ready-next _ p.0 _ _ _ p.2 p.1 _ _ h k, p.3)
@@ -68,7 +62,7 @@ pub loop-i-preserved : goal.loop-i-preserved
 loop-i-preserved c =
     let turn = c.before.before.before.before in
     let p = (begin turn).requires in
-    held_next _ p.0 _ _ _ p.2 p.1 _ _ (at turn).loop-i.invariant turn.loop-i-test.true _ c.between-p.ensures
+    held_next _ p.0 _ _ _ p.2 p.1 _ _ turn.loop-i.invariant turn.loop-i-test.true _ c.between-p.ensures
 
 -- behind the loop
 module _ (c : After-loop-i) where
@@ -79,7 +73,7 @@ module _ (c : After-loop-i) where
   all =
       let h = c.loop-i.invariant in
       let e : c.loop-i.i ≡ end.args.t1.count = omega (arith, c.loop-i-test.false, h.most) in
-      rw e at h
+      rw e h
 
 pub level-requires-2 : goal.level-requires-2
 level-requires-2 c =

@@ -17,29 +17,26 @@ use Rattle.figures.proofs.extension.found_rate.Goals.{After-bootstrap-v, After-c
 
 -- the book and the quote, in the contract's terms
 module _ (c : After-bootstrap-v) where
-  abbrev bond : After-coupon_bond
-  bond = c.before.before
+  abbrev c : After-copy_in-2
+  c = c.before.before
 
-  abbrev curve-copied : After-copy_in-2
-  curve-copied = bond.before.before
+  abbrev c : After-copy_in
+  c = let known = c.before.before in known.before.before.before
 
-  abbrev header-copied : After-copy_in
-  header-copied = let known = curve-copied.before.before in known.before.before.before
-
-  is-book : curve-copied.copy_in-2.last.0 ≡ known_book
+  is-book : c.copy_in-2.last.0 ≡ known_book
   unfolding known_book
   is-book =
-      curve-copied.copy_in-2.ensures
-      ∙ ap (λ (b : List ℕ). put header-copied.copy_in.last.0 512 b) curve-copied.known_curve.ensures
-      ∙ ap (λ (b : List ℕ). put b 512 known_curve) (header-copied.copy_in.ensures ∙ ap (put (replicate 1024 0) 0) header-copied.header.ensures)
+      c.copy_in-2.ensures
+      ∙ ap (λ (b : List ℕ). put c.copy_in.last.0 512 b) c.known_curve.ensures
+      ∙ ap (λ (b : List ℕ). put b 512 known_curve) (c.copy_in.ensures ∙ ap (put (replicate 1024 0) 0) c.header.ensures)
 
   judged : c.bootstrap-v.result ≡ bootstrap_verdict known_book 1024 0 bond_quote
   unfolding bond_quote
-  judged = c.bootstrap-v.ensures.value ∙ rw (is-book, bond.coupon_bond.ensures)
+  judged = c.bootstrap-v.ensures.value ∙ rw (is-book, c.coupon_bond.ensures)
 
   written : c.bootstrap-v.new.0 ≡ bootstrapped known_book 1024 0 bond_quote
   unfolding bond_quote
-  written = c.bootstrap-v.ensures.book_after ∙ rw (is-book, bond.coupon_bond.ensures)
+  written = c.bootstrap-v.ensures.book_after ∙ rw (is-book, c.coupon_bond.ensures)
 
 pub returns-then-not-is_accepted : goal.returns-then-not-is_accepted
 unfolding rate_found

@@ -13,20 +13,17 @@ use Rattle.flows.proofs.verdict.record_verdict.Goals as goal
 use Rattle.flows.proofs.verdict.record_verdict.Goals.{After-breaks_form, After-or_if-v, Start}
 
 module _ (c : After-or_if-v) where
-  abbrev form : After-breaks_form
-  form = let amounts = c.before.before.before in let after-or-if = amounts.before.before.before in after-or-if.before
-
-  abbrev start : Start
-  start = form.before.before.before.before
+  abbrev c : Start
+  c = c.before.before.before.before
 
   -- the rules 8 to 11
-  so_far : c.or_if-v.result ≡ in_turn Accepted start.args.block (take 4 (record_rules start.args.curves start.args.f))
+  so_far : c.or_if-v.result ≡ in_turn Accepted c.args.block (take 4 (record_rules c.args.curves c.args.f))
   so_far =
-      let k = start.args.block in
+      let k = c.args.block in
       also Currency k
       (also Amounts k
       (also Days k
-      (also {v = Accepted} Form k refl form.breaks_form.ensures c.or_if.ensures)
+      (also {v = Accepted} Form k refl c.breaks_form.ensures c.or_if.ensures)
       c.breaks_days.ensures c.or_if-2.ensures)
       c.breaks_amounts.ensures c.or_if-3.ensures)
       c.breaks_currency.ensures c.or_if-v.ensures
@@ -35,7 +32,7 @@ pub returns-then-not-is_accepted : goal.returns-then-not-is_accepted
 unfolding record_verdict
 returns-then-not-is_accepted c =
     let v = c.before.before in
-    let a = (start v).args in
+    let a = v.args in
     let rules = record_rules a.curves a.f in
     stopped a.block (drop 4 rules) (so_far v) (sym c.is_accepted.ensures ∙ c.if-not-is_accepted.true) ∙ in-turn Accepted a.block rules
 
@@ -44,7 +41,7 @@ pub breaks_flow_limit-requires : goal.breaks_flow_limit-requires
 breaks_flow_limit-requires c =
     let told = c.before.before in
     let v = told.before in
-    let a = (start v).args in
+    let a = v.args in
     let kept = passed a.block (take 4 (record_rules a.curves a.f)) (so_far v) (sym told.is_accepted.ensures ∙ c.if-not-is_accepted.false) in
     rw c.trade_of.ensures (trade-limits a.f (sound-record a.curves a.f (kept 0) (kept 1) (kept 2)))
 
@@ -54,6 +51,6 @@ returns c =
     let limit = c.before in
     let told = limit.before.before.before in
     let v = told.before in
-    let a = (start v).args in
+    let a = v.args in
     also FlowLimit a.block (so_far v) (limit.breaks_flow_limit.ensures ∙ ap breaks_flow_limit limit.trade_of.ensures) c.or_if-4.ensures
     ∙ in-turn Accepted a.block (record_rules a.curves a.f)

@@ -21,16 +21,12 @@ loop-rung-init c =
 
 -- in a turn
 module _ (c : In-loop-rung) where
-  abbrev start : Start
-  start = let after-shared-slice-known = c.before.before.before in after-shared-slice-known.before
-
-  here : RungLimits start.args.ladder.now c.loop-rung.rung × LegLimits (leg_at start.args.curve start.args.ladder.now c.loop-rung.rung.schedule)
-  here = rung-limits c.loop-rung.invariant start.requires c.loop-rung-test.true
+  here : RungLimits c.args.ladder.now c.loop-rung.rung × LegLimits (leg_at c.args.curve c.args.ladder.now c.loop-rung.rung.schedule)
+  here = rung-limits c.loop-rung.invariant c.requires c.loop-rung-test.true
 
 limits : (c : After-payment-f) → FlowLimits c.payment-f.result
 limits c =
-    let turn = c.before in
-    flow-limits turn.loop-rung.invariant (start turn).requires turn.loop-rung-test.true c.payment-f.ensures
+    flow-limits c.loop-rung.invariant c.requires c.loop-rung-test.true c.payment-f.ensures
 
 pub deviation-off-requires : goal.deviation-off-requires
 unfolding unit
@@ -38,21 +34,18 @@ deviation-off-requires c = ((limits c).amount, (limits c).day)
 
 pub overflow_add-off : goal.overflow_add-off
 overflow_add-off c =
-    let turn = c.before.before in
-    let room = rung-room turn.loop-rung.invariant (start turn).requires turn.loop-rung-test.true in
+    let room = rung-room c.loop-rung.invariant c.requires c.loop-rung-test.true in
     rw c.deviation-off.ensures (omega (arith, (deviation-next _ _ (limits c.before) room).fits))
 
 pub loop-rung-smaller : goal.loop-rung-smaller
 loop-rung-smaller c =
-    let turn = c.before.before.before in
-    fewer-left turn.loop-rung.invariant (start turn).requires turn.loop-rung-test.true c.next-rung.ensures
+    fewer-left c.loop-rung.invariant c.requires c.loop-rung-test.true c.next-rung.ensures
 
 pub loop-rung-preserved : goal.loop-rung-preserved
 loop-rung-preserved c =
     let at = c.before.before in
-    let turn = at.before in
     rw c.deviation-off.ensures
-    (folded-next turn.loop-rung.invariant (start turn).requires turn.loop-rung-test.true at.payment-f.ensures c.next-rung.ensures (λ n k. deviation-next _ _ (limits at) k))
+    (folded-next at.loop-rung.invariant at.requires at.loop-rung-test.true at.payment-f.ensures c.next-rung.ensures (λ n k. deviation-next _ _ (limits at) k))
 
 pub returns : goal.returns
 returns c = folded-all c.loop-rung.invariant c.loop-rung-test.false ∙ sum-fold flow_deviation 0 _ ∙ zero-add _

@@ -22,25 +22,20 @@ loop-rung-init c = let p = c.requires in folded-none _ _ _ _ _ p.0 _ (p.1, p.2)
 
 -- in a turn
 module _ (c : In-loop-rung) where
-  abbrev start : Start
-  start = let after-shared-slice-known = c.before.before.before in after-shared-slice-known.before
-
-  here : RungLimits start.args.ladder.now c.loop-rung.rung × LegLimits (leg_at start.args.curve start.args.ladder.now c.loop-rung.rung.schedule)
-  here = rung-limits c.loop-rung.invariant start.requires.0 c.loop-rung-test.true
+  here : RungLimits c.args.ladder.now c.loop-rung.rung × LegLimits (leg_at c.args.curve c.args.ladder.now c.loop-rung.rung.schedule)
+  here = rung-limits c.loop-rung.invariant c.requires.0 c.loop-rung-test.true
 
 module _ (c : After-payment-f) where
   limits : FlowLimits c.payment-f.result
   limits =
-      let turn = c.before in
-      flow-limits turn.loop-rung.invariant (start turn).requires.0 turn.loop-rung-test.true c.payment-f.ensures
+      flow-limits c.loop-rung.invariant c.requires.0 c.loop-rung-test.true c.payment-f.ensures
 
   index : c.payment-f.result.day < length c.loop-rung.nets
   index = omega (arith, limits.day, c.loop-rung.invariant.room.0)
 
   room : RoomFor unit 1 (nat_abs (net_on c.loop-rung.nets c.payment-f.result.day))
   room =
-      let turn = c.before in
-      room-less (omega arith) ((rung-room turn.loop-rung.invariant (start turn).requires.0 turn.loop-rung-test.true).1.each _)
+      room-less (omega arith) ((rung-room c.loop-rung.invariant c.requires.0 c.loop-rung-test.true).1.each _)
 
   small : nat_abs (net_on c.loop-rung.nets c.payment-f.result.day) ≤ 1000000000000000000
   unfolding unit
@@ -57,19 +52,16 @@ net_with-requires c =
 
 pub loop-rung-smaller : goal.loop-rung-smaller
 loop-rung-smaller c =
-    let after-payment = c.before.before.before in
-    let turn = after-payment.before in
-    fewer-left turn.loop-rung.invariant (start turn).requires.0 turn.loop-rung-test.true c.next-rung.ensures
+    fewer-left c.loop-rung.invariant c.requires.0 c.loop-rung-test.true c.next-rung.ensures
 
 pub loop-rung-preserved : goal.loop-rung-preserved
 unfolding net_with
 loop-rung-preserved c =
     let at = c.before.before.before in
-    let turn = at.before in
-    let net = net_on turn.loop-rung.nets at.payment-f.result.day in
+    let net = net_on at.loop-rung.nets at.payment-f.result.day in
     let fit = back net c.net_with-arg-1.given in
     rw (net-read net at.payment-f.result (small at) (amount at) _ (rw fit at c.net_with.ensures))
-    (folded-next turn.loop-rung.invariant (start turn).requires.0 turn.loop-rung-test.true at.payment-f.ensures c.next-rung.ensures (λ n k. nets-next _ _ (limits at) k))
+    (folded-next at.loop-rung.invariant at.requires.0 at.loop-rung-test.true at.payment-f.ensures c.next-rung.ensures (λ n k. nets-next _ _ (limits at) k))
 
 pub shape_of-nets : goal.shape_of-nets
 shape_of-nets c =

@@ -9,32 +9,25 @@ use Rattle.ladder.proofs.valuing.known_value.Goals as goal
 use Rattle.ladder.proofs.valuing.known_value.Goals.{After-slice_known-2-1, Start, Then-entry-ne0}
 
 -- the entry's record
-abbrev start : After-slice_known-2-1 → Start
-start c = c.before.before.before
 
 -- what is kept of the flow's day
-kept : (c : Then-entry-ne0) → let s = start c.before in KeptOn (rate_at (nodes_of s.args.curve) s.args.f.day) s.args.f.day (get_or s.args.factors.now s.args.f.day 0)
-kept c = let s = start c.before in s.requires.3.each s.args.f.day s.requires.1.day c.if-entry-ne0.true
+kept : (c : Then-entry-ne0) → let s = c.before in KeptOn (rate_at (nodes_of s.args.curve) s.args.f.day) s.args.f.day (get_or s.args.factors.now s.args.f.day 0)
+kept c = let s = c.before in s.requires.3.each s.args.f.day s.requires.1.day c.if-entry-ne0.true
 
 pub kept_value-requires : goal.kept_value-requires
-kept_value-requires c = ((start c.before).requires.1.amount, (kept c).limits)
+kept_value-requires c = (c.requires.1.amount, (kept c).limits)
 
 pub returns-then-entry-ne0 : goal.returns-then-entry-ne0
 returns-then-entry-ne0 c =
     let at = c.before in
-    record { value_value = c.kept_value.ensures _ _ (kept at); kept_factors = (start at.before).requires.3 }
+    record { value_value = c.kept_value.ensures _ _ (kept at); kept_factors = at.requires.3 }
 
 pub bracket_at-b-requires : goal.bracket_at-b-requires
 bracket_at-b-requires c =
-    let s = start c.before.before in
-    (s.requires.2, rw c.rate_at.ensures (curve-rate-limit _ s.requires.0 _), s.requires.1.day)
+    (c.requires.2, rw c.rate_at.ensures (curve-rate-limit _ c.requires.0 _), c.requires.1.day)
 
 pub returns : goal.returns
 returns c =
-    let kept-now = c.before in
-    let found = kept-now.before in
-    let rated = found.before in
-    let s = start rated.before.before in
-    let e = found.bracket_at-b.ensures in
-    let between = rw rated.rate_at.ensures at e.1.1 in
-    record { value_value = c.fine_value_in.ensures.worth _ _ between; kept_factors = kept-with _ _ s.requires.3 (bracket-kept _ _ kept-now.entry_of.ensures.0 kept-now.entry_of.ensures.1 e.1.0 between) }
+    let e = c.bracket_at-b.ensures in
+    let between = rw c.rate_at.ensures at e.1.1 in
+    record { value_value = c.fine_value_in.ensures.worth _ _ between; kept_factors = kept-with _ _ c.requires.3 (bracket-kept _ _ c.entry_of.ensures.0 c.entry_of.ensures.1 e.1.0 between) }

@@ -17,20 +17,17 @@ use Rattle.ladder.proofs.valuing.total_of.Goals as goal
 use Rattle.ladder.proofs.valuing.total_of.Goals.{After-next-rung, After-payment-f, After-slice_known-1, After-with_flow-valuing, In-loop-rung, Start}
 
 -- the entry's record
-abbrev entry : After-slice_known-1 → Start
-entry c = c.before.before.before
 
 pub loop-rung-init : goal.loop-rung-init
 unfolding held
 loop-rung-init c =
-    let s = entry c in
-    let h = s.requires.1 in
-    (folded-none _ _ _ _ _ h _ (limits-none h.few (record { amount = omega arith; day = omega arith })), s.requires.3)
+    let h = c.requires.1 in
+    (folded-none _ _ _ _ _ h _ (limits-none h.few (record { amount = omega arith; day = omega arith })), c.requires.3)
 
 -- in a turn
 module _ (c : In-loop-rung) where
   abbrev start : Start
-  start = entry c.before.before.before
+  start = c.before.before.before
 
   here : RungLimits start.args.ladder.now c.loop-rung.rung × LegLimits (leg_at start.args.id start.args.ladder.now c.loop-rung.rung.schedule)
   here = rung-limits c.loop-rung.invariant.0 start.requires.1 c.loop-rung-test.true
@@ -48,18 +45,16 @@ with_flow-valuing-requires c =
     (limits-less (omega arith) (rung-room loop.invariant.0 p.1 turn.loop-rung-test.true), p.0, limits c.before, p.2, loop.invariant.1)
 
 -- a turn's places: the flow valued, and the turn
-abbrev valued : After-next-rung → After-with_flow-valuing
-valued c = c.before.before.before
 
 pub loop-rung-smaller : goal.loop-rung-smaller
 loop-rung-smaller c =
-    let turn = (valued c).before.before.before in
+    let turn = c.before.before.before in
     fewer-left turn.loop-rung.inv.0 (start turn).requires.1 turn.loop-rung-test.taken c.next-rung.ensures
 
 pub loop-rung-preserved : goal.loop-rung-preserved
 loop-rung-preserved c =
-    let more = (valued c).with_flow-valuing.ensures in
-    let at = (valued c).before.before in
+    let more = c.with_flow-valuing.ensures in
+    let at = c.before.before in
     let turn = at.before in (
       rw more.0.held
           (folded-next turn.loop-rung.inv.0 (start turn).requires.1 turn.loop-rung-test.taken at.payment-f.ensures c.next-rung.ensures more.0.limits),
@@ -68,13 +63,11 @@ loop-rung-preserved c =
 
 pub finished-requires : goal.finished-requires
 finished-requires c =
-    let head = c.before.before in
-    (limits-less (omega arith) head.loop-rung.invariant.0.room, (entry head.before).requires.0)
+    (limits-less (omega arith) c.loop-rung.invariant.0.room, c.requires.0)
 
 pub shape_of-factors : goal.shape_of-factors
 shape_of-factors c =
-    let head = c.before.before.before in
-    head.loop-rung.invariant.1.places ∙ sym (entry head.before).requires.3.places
+    c.loop-rung.invariant.1.places ∙ sym c.requires.3.places
 
 pub returns : goal.returns
 returns c =

@@ -28,21 +28,16 @@ factors-both-requires c =
 
 -- the factors of both days
 module _ (c : After-factors-both) where
-  abbrev start : Start
-  start = let after-rate-at = c.before.before in after-rate-at.before.before
-
   abbrev nodes : List Node
-  nodes = nodes_of start.args.curve
+  nodes = nodes_of c.args.curve
 
-  first : c.factors-both.result.first.0 ≡ factor (rate_at nodes start.args.f.day) start.args.f.day
-  first = c.factors-both.ensures.0 ∙ ap (λ (r : ℕ). factor r start.args.f.day) c.rate_at.ensures
+  first : c.factors-both.result.first.0 ≡ factor (rate_at nodes c.args.f.day) c.args.f.day
+  first = c.factors-both.ensures.0 ∙ ap (λ (r : ℕ). factor r c.args.f.day) c.rate_at.ensures
 
-  second : c.factors-both.result.second.0 ≡ factor (rate_at nodes start.args.g.day) start.args.g.day
-  second = c.factors-both.ensures.2 ∙ ap (λ (r : ℕ). factor r start.args.g.day) c.rate_at-2.ensures
+  second : c.factors-both.result.second.0 ≡ factor (rate_at nodes c.args.g.day) c.args.g.day
+  second = c.factors-both.ensures.2 ∙ ap (λ (r : ℕ). factor r c.args.g.day) c.rate_at-2.ensures
 
 -- where they are kept
-abbrev found : After-struct_known-2-1 → After-factors-both
-found c = let after-second = c.before.before in after-second.before.before
 
 pub overflow_mul-factors : goal.overflow_mul-factors
 unfolding unit
@@ -50,29 +45,28 @@ overflow_mul-factors c = let at = c.before.before.before in omega (arith, at.fac
 
 pub overflow_mul-factors-2 : goal.overflow_mul-factors-2
 unfolding unit
-overflow_mul-factors-2 c = omega (arith, (found c).factors-both.ensures.3)
+overflow_mul-factors-2 c = omega (arith, c.factors-both.ensures.3)
 
 pub bounds-factors-other : goal.bounds-factors-other
-bounds-factors-other c = let s = start (found c) in simp length-set (omega (arith, s.requires.3.day, s.requires.4.places))
+bounds-factors-other c = let s = c in simp length-set (omega (arith, s.requires.3.day, s.requires.4.places))
 
 -- the values added are those of the flows
-one : (c : After-discounted) → let s = start (found c.before) in c.discounted.result ≡ flow_value (rate_at (nodes_of s.args.curve)) s.args.f
-one c = let known = found c.before in c.discounted.ensures ∙ at-factor _ (start known).args.f (first known)
+one : (c : After-discounted) → let s = c.before in c.discounted.result ≡ flow_value (rate_at (nodes_of s.args.curve)) s.args.f
+one c = let known = c.before in c.discounted.ensures ∙ at-factor _ known.args.f (first known)
 
-other : (c : After-discounted-2) → let s = start (found c.before.before.before) in c.discounted-2.result ≡ flow_value (rate_at (nodes_of s.args.curve)) s.args.g
+other : (c : After-discounted-2) → let s = c.before.before.before in c.discounted-2.result ≡ flow_value (rate_at (nodes_of s.args.curve)) s.args.g
 other c =
-    let known = found c.before.before.before in
-    c.discounted-2.ensures ∙ at-factor _ (start known).args.g (second known)
+    let known = c.before.before.before in
+    c.discounted-2.ensures ∙ at-factor _ known.args.g (second known)
 
 pub with_flow-one-requires : goal.with_flow-one-requires
 with_flow-one-requires c =
-    let s = start (found c.before) in
-    (total-less (omega arith) s.requires.0, s.requires.2, rw (one c) (value-most _ s.args.f s.requires.2))
+    (total-less (omega arith) c.requires.0, c.requires.2, rw (one c) (value-most _ c.args.f c.requires.2))
 
 pub with_flow-requires : goal.with_flow-requires
 with_flow-requires c =
     let at = c.before.before in
-    let s = start (found at.before) in (
+    let s = at.before in (
       rw c.with_flow-one.ensures (total-next (rw (one at) (value-most _ s.args.f s.requires.2)) s.requires.2 s.requires.0),
       s.requires.3,
       rw (other c) (value-most _ s.args.g s.requires.3),
@@ -85,5 +79,5 @@ added t f g d e p q = rw (q, p, d, e)
 pub returns : goal.returns
 returns c =
     let at = c.before.before.before in
-    let known = found at.before in
-    let a = (start known).args in record { value = added a.total a.f a.g (one at) (other c.before) c.with_flow-one.ensures c.with_flow.ensures; kept_factors = kept-with _ _ (kept-with _ _ (start known).requires.4 (factor-kept _ _ (first known))) (factor-kept _ _ (second known)) }
+    let known = at.before in
+    let a = known.args in record { value = added a.total a.f a.g (one at) (other c.before) c.with_flow-one.ensures c.with_flow.ensures; kept_factors = kept-with _ _ (kept-with _ _ known.requires.4 (factor-kept _ _ (first known))) (factor-kept _ _ (second known)) }

@@ -26,29 +26,26 @@ slice_bounds-copy_in-end c = sym (length-take-le _ _ (search rules))
 
 -- the text fits
 module _ (c : Else-breaks_space) where
-  abbrev start : Start
-  start = let wrote = c.before.before.before in let text = wrote.before in text.before.before.before
-
   abbrev whole : List ℕ
-  whole = list_text start.args.book.now start.args.used
+  whole = list_text c.args.book.now c.args.used
 
   length-is : c.put_listing-n.result ≡ length whole
   length-is = c.put_listing-n.ensures.value
 
-  spacious : breaks_space (length whole) (length start.args.out.now) ≡ false
+  spacious : breaks_space (length whole) (length c.args.out.now) ≡ false
   spacious = rw length-is at (sym c.breaks_space.ensures ∙ c.if-breaks_space.false)
 
 pub copy_in-requires : goal.copy_in-requires
 copy_in-requires c =
     let free = c.before.before in
-    simp length-take (omega (arith, length-is free, text-fits (whole free) (start free).args.out.now (spacious free)))
+    simp length-take (omega (arith, length-is free, text-fits (whole free) free.args.out.now (spacious free)))
 
 pub returns : goal.returns
 unfolding list_answer list_bytes
 returns c =
     let written = c.before.before in
     let free = written.before.before.before in
-    let out = (start free).args.out.now in
+    let out = free.args.out.now in
     let rest : List ℕ = drop free.put_listing-n.result (replicate 1481 0) in
     let put = text-copied (whole free) out rest (length-is free) free.put_listing-n.ensures.out_after (text-fits (whole free) out (spacious free)) written.copy_in.ensures in
     let p = text_in-front (whole free) out (spacious free) (length-is free) put in

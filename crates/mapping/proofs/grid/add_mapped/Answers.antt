@@ -12,13 +12,10 @@ add_flow-requires c =
 
 -- what the nets are after the first flow, and after the second
 module _ (c : After-add_flow) where
-  abbrev start : Start
-  start = c.before.before.before
-
 pub add_flow-requires-2 : goal.add_flow-requires-2
 add_flow-requires-2 c =
     let after-add = c.before.before.before in
-    let s = start after-add in
+    let s = after-add in
     let f = s.args.f in
     let k = s.args.k in
     let nets = s.args.nets.now in
@@ -30,7 +27,7 @@ add_flow-requires-3 c =
     let after-add2 = c.before.before.before in
     let after_last = after-add2.before in
     let after-add = after_last.before.before.before in
-    let s = start after-add in
+    let s = after-add in
     let f = s.args.f in
     let k = s.args.k in
     let nets = s.args.nets.now in

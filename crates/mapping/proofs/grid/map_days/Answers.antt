@@ -19,45 +19,42 @@ pub loop-i-init : goal.loop-i-init
 loop-i-init c =
     mapping-first _ _ _ _ c.requires.1 _ c.requires.2 (none-length _ c.requires.2)
 
--- a turn
+-- a c
 module _ (c : After-shared_slice_known-in-loop-i-1) where
-  abbrev turn : In-loop-i
-  turn = c.before
+  abbrev c : At-loop-i
+  c = c.before
 
-  abbrev at-loop : At-loop-i
-  at-loop = turn.before
-
-  abbrev start : Start
-  start = at-loop.before.before.before
+  abbrev c : Start
+  c = c.before.before.before
 
   abbrev day : ℕ
-  day = get_or start.args.days.now at-loop.loop-i.i 0
+  day = get_or c.args.days.now c.loop-i.i 0
 
   within : day < 10951
-  within = mapping-day _ _ _ _ _ _ at-loop.loop-i.inv turn.loop-i-test.taken
+  within = mapping-day _ _ _ _ _ _ c.loop-i.inv c.loop-i-test.taken
 
   abbrev net : ℤ
-  net = net_on start.args.nets.now day
+  net = net_on c.args.nets.now day
 
 pub bucket_in-k-requires : goal.bucket_in-k-requires
-bucket_in-k-requires c = let g = (start c).requires.0 in (g.limits, g.places, g.few)
+bucket_in-k-requires c = let g = c.requires.0 in (g.limits, g.places, g.few)
 
 pub bounds-nets-at : goal.bounds-nets-at
-bounds-nets-at c = let k = c.before.before in omega (arith, within k, (start k).requires.1.places)
+bounds-nets-at c = let k = c.before.before in omega (arith, within k, k.requires.1.places)
 
 pub net_flow-requires : goal.net_flow-requires
 net_flow-requires c =
     let k = c.before.before.before in
-    rw (back (net k) c.net_flow-arg-1.given) (omega (arith, (flow-limits _ _ _ _ _ _ (at-loop k).loop-i.invariant (turn k).loop-i-test.true).amount))
+    rw (back (net k) c.net_flow-arg-1.given) (omega (arith, (flow-limits _ _ _ _ _ _ k.loop-i.invariant k.loop-i-test.true).amount))
 
 pub add_mapped-requires : goal.add_mapped-requires
 add_mapped-requires c =
     let after-bucket = c.before.before.before in
     let k = after-bucket.before in
-    let inv = (at-loop k).loop-i.invariant in
-    let h = (turn k).loop-i-test.true in
+    let inv = k.loop-i.invariant in
+    let h = k.loop-i-test.true in
     rw (c.net_flow.ensures, back (net k) c.net_flow-arg-1.given, after-bucket.bucket_in-k.ensures)
-    (mapping-room _ _ _ _ _ _ inv h, flow-limits _ _ _ _ _ _ inv h, bucket-limits _ _ _ _ _ _ inv h (start k).requires.0)
+    (mapping-room _ _ _ _ _ _ inv h, flow-limits _ _ _ _ _ _ inv h, bucket-limits _ _ _ _ _ _ inv h k.requires.0)
 
 pub loop-i-preserved : goal.loop-i-preserved
 loop-i-preserved c =
@@ -66,7 +63,7 @@ loop-i-preserved c =
     let after-bucket = after-flow.before.before.before in
     let k = after-bucket.before in
     rw (after-add.add_mapped.ensures, after-flow.net_flow.ensures, back (net k) after-flow.net_flow-arg-1.given, after-bucket.bucket_in-k.ensures)
-    (mapping-next _ _ _ _ _ _ (at-loop k).loop-i.invariant (turn k).loop-i-test.true (start k).requires.0)
+    (mapping-next _ _ _ _ _ _ k.loop-i.invariant k.loop-i-test.true k.requires.0)
 
 pub shape_of-mapped : goal.shape_of-mapped
 shape_of-mapped c =

@@ -13,22 +13,17 @@ list_segments-requires c =
 
 -- the segments listed
 module _ (c : After-list_segments) where
-  abbrev start : Start
-  start = c.before.before.before
-
   places : length c.list_segments.new.1.1.0 ≡ 100
   places = c.list_segments.ensures.kept ∙ length-replicate {A = ℕ} 100 0
 
 pub map_days-requires : goal.map_days-requires
 map_days-requires c =
     let after_List = c.before.before.before.before in
-    let s = start after_List in
-    (grid s.args.curve s.requires.0 s.args.components _ (places after_List) after_List.list_segments.ensures.each, s.requires.2, s.requires.3)
+    (grid after_List.args.curve after_List.requires.0 after_List.args.components _ (places after_List) after_List.list_segments.ensures.each, after_List.requires.2, after_List.requires.3)
 
 pub returns : goal.returns
 returns c =
     let After-map = c.before in
     let after_List = After-map.before.before.before.before.before in
-    let s = start after_List in
     rw After-map.map_days.ensures
-    (mapped-low s.args.curve s.requires.0 s.args.components _ (places after_List) after_List.list_segments.ensures.each _ _ s.requires.2)
+    (mapped-low after_List.args.curve after_List.requires.0 after_List.args.components _ (places after_List) after_List.list_segments.ensures.each _ _ after_List.requires.2)

@@ -13,28 +13,25 @@ use Rattle.mapping.proofs.grid.size_of.Goals.{After-shared_slice_known-in-loop-i
 pub loop-i-init : goal.loop-i-init
 loop-i-init c = let p = c.requires in adding-first _ _ p.list p.places
 
--- a turn
+-- a c
 module _ (c : After-shared_slice_known-in-loop-i-1) where
-  abbrev turn : In-loop-i
-  turn = c.before
+  abbrev c : At-loop-i
+  c = c.before
 
-  abbrev at-loop : At-loop-i
-  at-loop = turn.before
-
-  abbrev start : Start
-  start = at-loop.before.before
+  abbrev c : Start
+  c = c.before.before
 
   abbrev day : ℕ
-  day = get_or start.args.days.now at-loop.loop-i.i 0
+  day = get_or c.args.days.now c.loop-i.i 0
 
   within : day < 10951
-  within = adding-day _ _ _ _ at-loop.loop-i.inv turn.loop-i-test.taken
+  within = adding-day _ _ _ _ c.loop-i.inv c.loop-i-test.taken
 
   abbrev net : ℤ
-  net = net_on start.args.nets.now day
+  net = net_on c.args.nets.now day
 
-  most : at-loop.loop-i.sum + nat_abs net ≤ 140000000000000000
-  most = omega (arith, adding-most _ _ _ _ at-loop.loop-i.inv turn.loop-i-test.taken, size-most _ _ start.requires)
+  most : c.loop-i.sum + nat_abs net ≤ 140000000000000000
+  most = omega (arith, adding-most _ _ _ _ c.loop-i.inv c.loop-i-test.taken, size-most _ _ c.requires)
 
 pub size-sum-requires : goal.size-sum-requires
 size-sum-requires c = let k = c.before in rw (back (net k) c.size-arg-1.given) (omega (arith, most k))
@@ -48,7 +45,7 @@ pub loop-i-preserved : goal.loop-i-preserved
 loop-i-preserved c =
     let k = c.before.before in
     rw (c.size-sum.ensures, back (net k) c.size-arg-1.given)
-    (adding-next _ _ _ _ (at-loop k).loop-i.invariant (turn k).loop-i-test.true)
+    (adding-next _ _ _ _ k.loop-i.invariant k.loop-i-test.true)
 
 pub returns : goal.returns
 returns c = adding-all _ _ _ _ c.loop-i.invariant c.loop-i-test.false
@@ -60,4 +57,4 @@ pub offset_bounds-nets-at : goal.offset_bounds-nets-at
 offset_bounds-nets-at c = omega (arith, within c)
 
 pub bounds-nets-at : goal.bounds-nets-at
-bounds-nets-at c = omega (arith, within c, (start c).requires.places)
+bounds-nets-at c = omega (arith, within c, c.requires.places)

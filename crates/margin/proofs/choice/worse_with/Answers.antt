@@ -13,8 +13,6 @@ use Rattle.margin.proofs.choice.worse_with.Goals as goal
 use Rattle.margin.proofs.choice.worse_with.Goals.{After-curve_in, After-loss_of, Start}
 
 -- the entry's record
-abbrev start : After-curve_in → Start
-start c = let given = c.before in given.before.before.before
 
 pub curve_in-requires : goal.curve_in-requires
 curve_in-requires c =
@@ -22,34 +20,30 @@ curve_in-requires c =
     (p.0.limits.proper, p.0.limits.stress, p.2)
 
 pub curve_in-requires-2 : goal.curve_in-requires-2
-curve_in-requires-2 c = let p = (start c).requires in (p.0.limits.proper, p.0.limits.stress, p.1.within)
+curve_in-requires-2 c = let p = c.requires in (p.0.limits.proper, p.0.limits.stress, p.1.within)
 
 -- both curves are the curve stressed
 pub same_rates-requires : goal.same_rates-requires
 unfolding stressed_curve
 same_rates-requires c =
-    let here = c.before in
-    let proper = (start here).requires.0.limits.proper in (
-      rw here.curve_in.ensures (proper-stressed _ _ proper),
+    let proper = c.requires.0.limits.proper in (
+      rw c.curve_in.ensures (proper-stressed _ _ proper),
       rw c.curve_in-2.ensures (proper-stressed _ _ proper),
-      rw (here.curve_in.ensures, c.curve_in-2.ensures),
+      rw (c.curve_in.ensures, c.curve_in-2.ensures),
     )
 
 pub returns-then-same_rates : goal.returns-then-same_rates
 returns-then-same_rates c =
-    let there = c.before.before in
-    let here = there.before in
-    let s = start here in
-    let a = s.args in
-    let e = rw (c.same_rates.ensures, here.curve_in.ensures, there.curve_in-2.ensures) at c.if-same_rates.true in
-    same-worse a.valued.position a.ladder.now s.requires.0.limits a.worst s.requires.1 a.s e
+    let a = c.args in
+    let e = rw (c.same_rates.ensures, c.curve_in.ensures, c.curve_in-2.ensures) at c.if-same_rates.true in
+    same-worse a.valued.position a.ladder.now c.requires.0.limits a.worst c.requires.1 a.s e
 
 pub loss_of-requires : goal.loss_of-requires
-loss_of-requires c = let p = (start c.before.before.before).requires in (p.0, p.2)
+loss_of-requires c = let p = c.requires in (p.0, p.2)
 
 module _ (c : After-loss_of) where
   abbrev entry : Start
-  entry = let tested = c.before.before in start tested.before.before
+  entry = let tested = c.before.before in tested.before.before
 
   -- the loss, read back from its bits
   loss-is : read c.loss_of.result ≡ loss_at flow_value (exposure_of entry.args.valued.position entry.args.ladder.now) entry.args.s

@@ -18,21 +18,18 @@ use Rattle.margin.proofs.choice.worst_estimated.Goals as goal
 use Rattle.margin.proofs.choice.worst_estimated.Goals.{After-least_of-least, After-scenario_count, Start}
 
 -- the entry's record
-abbrev start : After-scenario_count → Start
-start c = let given = c.before.before in given.before.before.before
 
 pub scenario_count-requires : goal.scenario_count-requires
 scenario_count-requires c = let given = c.before in given.requires.0.limits.stress
 
 pub least_of-least-requires : goal.least_of-least-requires
 least_of-least-requires c =
-    let s = start c in
-    let x = s.args.valued.position.components-1 in
-    rw c.scenario_count.ensures (scenarios-some x, omega (arith, s.requires.1.places, scenarios-most x s.requires.0.limits.stress))
+    let x = c.args.valued.position.components-1 in
+    rw c.scenario_count.ensures (scenarios-some x, omega (arith, c.requires.1.places, scenarios-most x c.requires.0.limits.stress))
 
 module _ (c : After-least_of-least) where
   abbrev entry : Start
-  entry = start c.before
+  entry = c.before
 
   abbrev lowest : ℤ
   lowest = get_or entry.args.values.now c.least_of-least.result (pos 0)

@@ -24,59 +24,48 @@ use Rattle.margin.proofs.choice.worst_kept.Goals as goal
 use Rattle.margin.proofs.choice.worst_kept.Goals.{After-first_kept-first, After-scenario_count-count, At-loop-s, In-loop-s, Start}
 
 -- the entry's record, and where the scenarios are counted
-abbrev start : After-scenario_count-count → Start
-start c = let given = c.before.before in given.before.before.before
-
-abbrev counted : At-loop-s → After-scenario_count-count
-counted l = l.before.before.before
 
 -- the first that is kept, at the limit itself
-first : (c : After-first_kept-first) → FirstKept (start c.before).args.values.now (start c.before).args.limit c.first_kept-first.result
+first : (c : After-first_kept-first) → FirstKept c.args.values.now c.args.limit c.first_kept-first.result
 first c =
-    let s = start c.before in
-    rw (back s.args.limit s.ranges.limit.sfits) at c.first_kept-first.ensures.0
+    rw (back c.args.limit c.ranges.limit.sfits) at c.first_kept-first.ensures.0
 
 -- in a turn, s is a scenario, and a place of the values
-within : (c : In-loop-s) → c.loop-s.s < scenario_count (start (counted c.before)).args.valued.position.components-1
-within c = omega (arith, c.loop-s-test.true, (counted c.before).scenario_count-count.ensures)
+within : (c : In-loop-s) → c.loop-s.s < scenario_count c.args.valued.position.components-1
+within c = omega (arith, c.loop-s-test.true, c.scenario_count-count.ensures)
 
-index : (c : In-loop-s) → c.loop-s.s < length (start (counted c.before)).args.values.now
+index : (c : In-loop-s) → c.loop-s.s < length c.args.values.now
 index c =
-    let s = start (counted c.before) in
-    omega (arith, s.requires.1, scenarios-most _ s.requires.0.limits.stress, within c)
+    omega (arith, c.requires.1, scenarios-most _ c.requires.0.limits.stress, within c)
 
 pub scenario_count-count-requires : goal.scenario_count-count-requires
 scenario_count-count-requires c = let given = c.before in given.requires.0.limits.stress
 
 pub first_kept-first-requires : goal.first_kept-first-requires
 first_kept-first-requires c =
-    let s = start c in
-    rw (c.scenario_count-count.ensures, back s.args.limit s.ranges.limit.sfits)
-    (omega (arith, s.requires.1, scenarios-most _ s.requires.0.limits.stress), s.requires.2)
+    rw (c.scenario_count-count.ensures, back c.args.limit c.ranges.limit.sfits)
+    (omega (arith, c.requires.1, scenarios-most _ c.requires.0.limits.stress), c.requires.2)
 
 pub loss_of-requires : goal.loss_of-requires
-loss_of-requires c = ((start c.before).requires.0, omega (arith, c.first_kept-first.ensures.1, c.scenario_count-count.ensures))
+loss_of-requires c = (c.requires.0, omega (arith, c.first_kept-first.ensures.1, c.scenario_count-count.ensures))
 
 pub overflow_add-s : goal.overflow_add-s
 overflow_add-s c =
-    let n = c.before.before in
-    let most = scenarios-most _ (start n).requires.0.limits.stress in
-    omega (arith, c.first_kept-first.ensures.1, n.scenario_count-count.ensures, most)
+    let most = scenarios-most _ c.requires.0.limits.stress in
+    omega (arith, c.first_kept-first.ensures.1, c.scenario_count-count.ensures, most)
 
 pub loop-s-init : goal.loop-s-init
 loop-s-init c =
-    let n = c.before.before in
-    let s = start n in
     let k = c.first_kept-first.result in
-    let loss = loss-read _ _ s.requires.0.limits k _ c.loss_of.ensures in
-    rw (back s.args.limit s.ranges.limit.sfits)
-    (kept-first _ _ _ k (first c.before) _ (ap (λ (z : ℤ). record { amount = z; scenario = k }) loss), omega (arith, c.first_kept-first.ensures.1, n.scenario_count-count.ensures))
+    let loss = loss-read _ _ c.requires.0.limits k _ c.loss_of.ensures in
+    rw (back c.args.limit c.ranges.limit.sfits)
+    (kept-first _ _ _ k (first c.before) _ (ap (λ (z : ℤ). record { amount = z; scenario = k }) loss), omega (arith, c.first_kept-first.ensures.1, c.scenario_count-count.ensures))
 
 pub worse_with-worst-requires : goal.worse_with-worst-requires
 worse_with-worst-requires c =
     let turn = c.before.before in
     let l = turn.loop-s in (
-      (start (counted turn.before)).requires.0,
+      turn.requires.0,
       record { within = omega (arith, l.invariant.0.within, l.invariant.1); loss = ap (λ (z : ℤ). record { amount = z; scenario = l.worst.scenario }) l.invariant.0.amount },
       within turn,
     )
@@ -84,14 +73,12 @@ worse_with-worst-requires c =
 pub loop-s-preserved : goal.loop-s-preserved
 loop-s-preserved c =
     let turn = c.before.before in
-    let l = turn.before in
-    let s = start (counted l) in
-    let values = s.args.values.now in
-    let v = get_or values l.loop-s.s (pos 0) in
-    let limit = s.args.limit in
+    let values = turn.args.values.now in
+    let v = get_or values turn.loop-s.s (pos 0) in
+    let limit = turn.args.limit in
     let fv = c.t17-1.given in
-    let fl = s.ranges.limit.sfits in
-    let h = rw (back limit fl) at l.loop-s.invariant.0 in
+    let fl = turn.ranges.limit.sfits in
+    let h = rw (back limit fl) at turn.loop-s.invariant.0 in
     rw (back limit fl) (
       ⊎_elim
           (λ w. rw (w.2, w.1.ensures) (kept_next _ values limit _ _ h _ refl))
@@ -105,10 +92,8 @@ passed loss values limit w s n e h = rw e at h
 
 pub returns : goal.returns
 returns c =
-    let n = counted c.before in
-    let s = start n in
-    let e : c.loop-s.s ≡ scenario_count s.args.valued.position.components-1 = omega (arith, c.loop-s.invariant.1, c.loop-s-test.false, n.scenario_count-count.ensures) in
-    passed _ _ _ _ _ _ e (rw (back s.args.limit s.ranges.limit.sfits) at c.loop-s.invariant.0)
+    let e : c.loop-s.s ≡ scenario_count c.args.valued.position.components-1 = omega (arith, c.loop-s.invariant.1, c.loop-s-test.false, c.scenario_count-count.ensures) in
+    passed _ _ _ _ _ _ e (rw (back c.args.limit c.ranges.limit.sfits) at c.loop-s.invariant.0)
 
 pub offset_bounds-values-s : goal.offset_bounds-values-s
 offset_bounds-values-s c = omega (arith, index c)

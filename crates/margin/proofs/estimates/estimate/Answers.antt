@@ -18,8 +18,6 @@ abbrev flows : Start → List Flow
 flows s = let p = s.args.position in ladder_flows p.id s.args.ladder.now p.schedules
 
 -- the entry's record
-abbrev start : After-net_days → Start
-start c = let lent = c.before.before in lent.before.before
 
 pub net_days-requires : goal.net_days-requires
 net_days-requires c =
@@ -30,25 +28,20 @@ net_days-requires c =
 pub screen-requires : goal.screen-requires
 screen-requires c =
     let netted = c.before.before.before in
-    let s = start netted in
-    let p = s.args.position in
-    let h = s.requires.0 in
+    let p = netted.args.position in
+    let h = netted.requires.0 in
     let e = netted.net_days.ensures in (
       h.proper,
       h.stress,
-      s.requires.1,
-      rw e (nets-length (flows s) (replicate 10951 (pos 0)) ∙ length-replicate {A = ℤ} 10951 (pos 0)),
-      rw e (nets-size (flows s) (ladder-limits p.id s.args.ladder.now p.schedules h.schedules) h.schedules.few),
-      s.requires.2,
+      netted.requires.1,
+      rw e (nets-length (flows netted) (replicate 10951 (pos 0)) ∙ length-replicate {A = ℤ} 10951 (pos 0)),
+      rw e (nets-size (flows netted) (ladder-limits p.id netted.args.ladder.now p.schedules h.schedules) h.schedules.few),
+      netted.requires.2,
     )
 
 pub returns : goal.returns
 returns c =
-    let v = c.before.before in
-    let lent = v.before.before.before in
-    let netted = lent.before in
-    let s = start netted in
-    estimates _ _ s.requires.0 _ _ _ netted.net_days.ensures c.deviation_of.ensures (v.screen.ensures.kept ∙ s.requires.2) v.screen.ensures.each
+    estimates _ _ c.requires.0 _ _ _ c.net_days.ensures c.deviation_of.ensures (c.screen.ensures.kept ∙ c.requires.2) c.screen.ensures.each
 
 pub deviation_of-requires : goal.deviation_of-requires
-deviation_of-requires c = let v = c.before in let lent = v.before.before.before in (start lent.before).requires.0.schedules
+deviation_of-requires c = let v = c.before in let lent = v.before.before.before in lent.requires.0.schedules

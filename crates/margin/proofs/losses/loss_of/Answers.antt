@@ -23,17 +23,14 @@ value_of-total-requires c =
 
 -- the code's difference is the loss
 module _ (c : After-struct_told-2-1) where
-  abbrev stressed : After-value_of-total
-  stressed = let told = c.before.before in told.before.before
+  abbrev c : Start
+  c = let given = c.before.before in given.before.before.before
 
-  abbrev start : Start
-  start = let given = stressed.before.before in given.before.before.before
+  loss-is : read c.args.valued.base -ℤ read c.value_of_lem.result.sum ≡ loss_at flow_value (exposure_of c.args.valued.position c.args.ladder.now) c.args.s
+  loss-is = code-loss _ _ c.requires.0.limits _ _ _ _ c.requires.0.value c.curve_in-stressed.ensures c.value_of_lem.ensures
 
-  loss-is : read start.args.valued.base -ℤ read stressed.value_of_lem.result.sum ≡ loss_at flow_value (exposure_of start.args.valued.position start.args.ladder.now) start.args.s
-  loss-is = code-loss _ _ start.requires.0.limits _ _ _ _ start.requires.0.value stressed.curve_in-stressed.ensures stressed.value_of_lem.ensures
-
-  loss-fit : nat_abs (loss_at flow_value (exposure_of start.args.valued.position start.args.ladder.now) start.args.s) < 2 ^ 63
-  loss-fit = losses-fit _ _ start.requires.0.limits _
+  loss-fit : nat_abs (loss_at flow_value (exposure_of c.args.valued.position c.args.ladder.now) c.args.s) < 2 ^ 63
+  loss-fit = losses-fit _ _ c.requires.0.limits _
 
 pub overflow_sub-result : goal.overflow_sub-result
 overflow_sub-result c = rw (loss-is c) (fits _ (loss-fit c))

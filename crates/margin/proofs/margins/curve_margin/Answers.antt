@@ -8,27 +8,21 @@ use Rattle.margin.proofs.margins.curve_margin.Goals as goal
 use Rattle.margin.proofs.margins.curve_margin.Goals.{After-fill, Start}
 
 -- the entry's record
-abbrev start : After-fill → Start
-start c = c.before.before.before
 
 pub value_of-total-requires : goal.value_of-total-requires
 value_of-total-requires c =
-    let filled = c.before.before in
-    ((start filled).requires.proper, (start filled).requires.schedules, filled.fill.ensures)
+    (c.requires.proper, c.requires.schedules, c.fill.ensures)
 
 pub worst_of-worst-requires : goal.worst_of-worst-requires
 worst_of-worst-requires c =
     let v = c.before.before in
     let filled = v.before.before.before in
-    record { limits = (start filled).requires; filled = filled.fill.ensures; value = base-is _ _ (start filled).requires _ v.value_of_lem.ensures }
+    record { limits = filled.requires; filled = filled.fill.ensures; value = base-is _ _ filled.requires _ v.value_of_lem.ensures }
 
 pub returns : goal.returns
 unfolding curve_margin
 returns c =
-    let told = c.before.before.before in
-    let v = told.before in
-    let filled = v.before.before.before in
-    figures-are _ _ (start filled).requires _ v.value_of_lem.ensures _ _ c.worst_of-worst.ensures
+    figures-are _ _ c.requires _ c.value_of_lem.ensures _ _ c.worst_of-worst.ensures
 
 pub fill-requires : goal.fill-requires
 fill-requires c = length-replicate {A = ℕ} 3694 0

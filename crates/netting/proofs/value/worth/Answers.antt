@@ -32,27 +32,24 @@ scaled-lifted-requires c = rw (sum-read c) (sum-size c, c.requires.1)
 
 -- what it is worth, and what is taken off again
 module _ (c : After-scaled-lifted) where
-  abbrev start : Start
-  start = c.before
-
-  value-is : c.scaled-lifted.result ≡ nat_abs (start.args.net +ℤ pos lift) * start.args.factor / whole
-  value-is = c.scaled-lifted.ensures ∙ ap (λ (n : ℕ). n * start.args.factor / whole) (sum-read start)
+  value-is : c.scaled-lifted.result ≡ nat_abs (c.args.net +ℤ pos lift) * c.args.factor / whole
+  value-is = c.scaled-lifted.ensures ∙ ap (λ (n : ℕ). n * c.args.factor / whole) (sum-read c)
 
   value-size : c.scaled-lifted.result ≤ 500000000000000000
   unfolding whole
   value-size =
-      let amount : ℕ = nat_abs (start.args.net +ℤ pos lift) in
-      let most : amount * start.args.factor / 2147483648 ≤ amount = div-le_of_le-mul 2147483648 (omega (arith, mul-le-mul_left amount start.requires.1)) in
-      omega (arith, value-is, most, sum-size start)
+      let amount : ℕ = nat_abs (c.args.net +ℤ pos lift) in
+      let most : amount * c.args.factor / 2147483648 ≤ amount = div-le_of_le-mul 2147483648 (omega (arith, mul-le-mul_left amount c.requires.1)) in
+      omega (arith, value-is, most, sum-size c)
 
   value-cast : cast c.scaled-lifted.result ≡ pos c.scaled-lifted.result
   value-cast = cast_is c.scaled-lifted.result (omega (arith, value-size))
 
-  taken-cast : cast (wholes * start.args.factor) ≡ pos (wholes * start.args.factor)
-  taken-cast = cast_is (wholes * start.args.factor) (omega (arith, start.requires.1))
+  taken-cast : cast (wholes * c.args.factor) ≡ pos (wholes * c.args.factor)
+  taken-cast = cast_is (wholes * c.args.factor) (omega (arith, c.requires.1))
 
-  left-size : nat_abs (pos c.scaled-lifted.result -ℤ pos (wholes * start.args.factor)) < 2 ^ 63
-  left-size = omega (arith, abs-sub (pos c.scaled-lifted.result) (pos (wholes * start.args.factor)), value-size, start.requires.1)
+  left-size : nat_abs (pos c.scaled-lifted.result -ℤ pos (wholes * c.args.factor)) < 2 ^ 63
+  left-size = omega (arith, abs-sub (pos c.scaled-lifted.result) (pos (wholes * c.args.factor)), value-size, c.requires.1)
 
 pub overflow_cast-result : goal.overflow_cast-result
 overflow_cast-result c = fits _ (omega (arith, value-size c))

@@ -19,38 +19,32 @@ returns-then-days-count c = record { kept = refl; low = λ e. absurd (false≢tr
 
 -- the grid's days as they are listed
 module _ (c : After-list_days-count) where
-  abbrev mapping : After-map_nets
-  mapping = let after-mapped = c.before.before in after-mapped.before.before
-
-  abbrev start : Start
-  start = let after-mapped = mapping.before in after-mapped.before.before.before
+  abbrev c : Start
+  c = let after-mapped = c.before in after-mapped.before.before.before
 
   abbrev mapped : List ℤ
-  mapped = mapping.map_nets.last.1.1.1.1.0
+  mapped = c.map_nets.last.1.1.1.1.0
 
   room : c.list_days-count.result ≤ length c.list_days-count.new.1.0
   room =
       let e = c.list_days-count.ensures in
-      omega (arith, e.0, e.1.0, mapping.map_nets.ensures.places, length-replicate {A = ℕ} 10951 0)
+      omega (arith, e.0, e.1.0, c.map_nets.ensures.places, length-replicate {A = ℕ} 10951 0)
 
   grid-listed : Listed mapped (take c.list_days-count.result c.list_days-count.new.1.0)
   unfolding most_size
   grid-listed =
-      let low = mapping.map_nets.ensures in
+      let low = c.map_nets.ensures in
       record { places = low.places; list = c.list_days-count.ensures.list.1; size = low.size }
 
 -- the values filled in
 module _ (c : After-fill_values) where
-  abbrev listing : After-list_days-count
-  listing = let after-grid = c.before.before.before in after-grid.before.before.before
-
   abbrev entry : Start
-  entry = start listing
+  entry = c
 
 pub fill_values-requires : goal.fill_values-requires
 fill_values-requires c =
     let l = let after-grid = c.before.before in after-grid.before.before.before in
-    let p = (start l).requires in
+    let p = l.requires in
     (p.0, p.1, grid-listed l, p.3, omega (arith, scenarios-most _ p.1, p.5))
 
 pub lower-requires : goal.lower-requires
@@ -59,7 +53,7 @@ lower-requires c =
     let s = entry f in
     let n = c.scenario_count.ensures in
     let most = scenarios-most s.args.components s.requires.1 in
-    let low = (mapping (listing f)).map_nets.ensures in
+    let low = f.map_nets.ensures in
     (omega (arith, n, most, f.fill_values.ensures.kept, s.requires.5), counted _ _ n (filled-small s.args.curve s.args.components _ low.size _ f.fill_values.ensures.each), rw s.requires.4 (omega (arith, spare-most _ _ s.requires.2)), omega (arith, n, most))
   where
     counted : (n m : ℕ) {P : ℕ → Type 0} → n ≡ m → ((s : ℕ) → s < m → P s) → (s : ℕ) → s < n → P s
@@ -71,7 +65,7 @@ returns c =
     let counted = after_lower.before in
     let f = counted.before.before.before in
     let s = entry f in
-    let low = (mapping (listing f)).map_nets.ensures in
+    let low = f.map_nets.ensures in
     let lowered = rw (counted.scenario_count.ensures, s.requires.4) at after_lower.lower.ensures.each in
     record { kept = after_lower.lower.ensures.kept ∙ f.fill_values.ensures.kept; low = λ e. (low-none-above s.args.curve s.args.components _ _ _ low _ _ f.fill_values.ensures.each lowered, low_small s.args.curve s.args.components _ _ _ low _ _ f.fill_values.ensures.each lowered (spare-most _ _ s.requires.2)) }
 

@@ -12,30 +12,25 @@ use Rattle.screening.proofs.low.lower.Goals.{At-loop-s, In-loop-s, Start}
 
 -- a turn
 module _ (c : In-loop-s) where
-  abbrev at-loop : At-loop-s
-  at-loop = c.before
-
-  abbrev start : Start
-  start = at-loop.before
+  abbrev c : Start
+  c = c.before
 
   abbrev value : ℤ
-  value = get_or at-loop.loop-s.values at-loop.loop-s.s (pos 0)
+  value = get_or c.loop-s.values c.loop-s.s (pos 0)
 
   small : Small value
-  small = rw (at-loop.loop-s.inv.1.rest at-loop.loop-s.s (omega arith)) (start.requires.1 at-loop.loop-s.s c.loop-s-test.true)
+  small = rw (c.loop-s.inv.1.rest c.loop-s.s (omega arith)) (c.requires.1 c.loop-s.s c.loop-s-test.true)
 
 pub lowered-requires : goal.lowered-requires
 lowered-requires c =
     let turn = c.before in
-    (rw (back (value turn) c.lowered-arg-1.given) (small turn), (start turn).requires.2)
+    (rw (back (value turn) c.lowered-arg-1.given) (small turn), turn.requires.2)
 
 pub loop-s-preserved : goal.loop-s-preserved
 loop-s-preserved c =
     let turn = c.before.before in
-    let l = at-loop turn in
-    let s = start turn in
     let found = rw (back (value turn) c.lowered-arg-1.given) at c.lowered.ensures in
-    (omega (arith, turn.loop-s-test.true), lowering-next _ _ _ _ l.loop-s.inv.1 (omega (arith, turn.loop-s-test.true, s.requires.0)) _ (kept _ (value turn) s.args.spare found (small turn) s.requires.2))
+    (omega (arith, turn.loop-s-test.true), lowering-next _ _ _ _ turn.loop-s.inv.1 (omega (arith, turn.loop-s-test.true, turn.requires.0)) _ (kept _ (value turn) turn.args.spare found (small turn) turn.requires.2))
   where
     kept : (z v : ℤ) (t : ℕ) → z ≡ v -ℤ pos t → Small v → t ≤ 1000000000000000000 → read z ≡ v -ℤ pos t
     kept z v t e h k = rw e (read_is (v -ℤ pos t) (omega (arith, abs-sub v (pos t))))
@@ -49,19 +44,19 @@ pub loop-s-init : goal.loop-s-init
 loop-s-init c = (omega arith, lowering-none _ _)
 
 pub offset_bounds-values-at : goal.offset_bounds-values-at
-offset_bounds-values-at c = omega (arith, c.loop-s-test.true, (start c).requires.3)
+offset_bounds-values-at c = omega (arith, c.loop-s-test.true, c.requires.3)
 
 pub slice_copy_out-lowered : goal.slice_copy_out-lowered
-slice_copy_out-lowered c = omega (arith, c.loop-s-test.true, (start c).requires.0, (at-loop c).loop-s.invariant.1.places)
+slice_copy_out-lowered c = omega (arith, c.loop-s-test.true, c.requires.0, c.loop-s.invariant.1.places)
 
 pub offset_bounds-values-at-in-loop-s : goal.offset_bounds-values-at-in-loop-s
-offset_bounds-values-at-in-loop-s c = let turn = c.before.before in omega (arith, turn.loop-s-test.true, (start turn).requires.3)
+offset_bounds-values-at-in-loop-s c = let turn = c.before.before in omega (arith, turn.loop-s-test.true, turn.requires.3)
 
 pub bounds-values-at : goal.bounds-values-at
-bounds-values-at c = let turn = c.before.before in omega (arith, turn.loop-s-test.true, (start turn).requires.0, (at-loop turn).loop-s.invariant.1.places)
+bounds-values-at c = let turn = c.before.before in omega (arith, turn.loop-s-test.true, turn.requires.0, turn.loop-s.invariant.1.places)
 
 pub overflow_add-s : goal.overflow_add-s
-overflow_add-s c = let turn = c.before.before in omega (arith, turn.loop-s-test.true, (start turn).requires.3)
+overflow_add-s c = let turn = c.before.before in omega (arith, turn.loop-s-test.true, turn.requires.3)
 
 pub loop-s-smaller : goal.loop-s-smaller
 loop-s-smaller c = omega (arith, c.loop-s-test.true)

@@ -19,11 +19,6 @@ use Rattle.screening.proofs.refine.refine.Goals as goal
 use Rattle.screening.proofs.refine.refine.Goals.{After-fill_ends, After-value_in-limit, At-loop-s, In-loop-s, Joined-v-limit, Start}
 
 -- the entry, and what is found before the loop
-abbrev filled : After-value_in-limit → After-fill_ends
-filled c = let after-least = c.before.before.before in let after-count = after-least.before.before in after-count.before.before
-
-abbrev start : After-fill_ends → Start
-start c = let after-ends = c.before in after-ends.before.before.before
 
 pub fill_ends-requires : goal.fill_ends-requires
 fill_ends-requires c =
@@ -32,90 +27,77 @@ fill_ends-requires c =
 
 pub least_of-least-requires : goal.least_of-least-requires
 least_of-least-requires c =
-    let s = start c.before.before.before in
     let n = c.scenario_count-n.ensures in
-    (omega (arith, n, scenarios-some s.args.components), omega (arith, n, s.requires.4))
+    (omega (arith, n, scenarios-some c.args.components), omega (arith, n, c.requires.4))
 
 pub scenario-requires : goal.scenario-requires
 scenario-requires c =
-    let after-count = c.before.before in
-    ((start after-count.before.before).requires.1, omega (arith, c.least_of-least.ensures.within, after-count.scenario_count-n.ensures))
+    (c.requires.1, omega (arith, c.least_of-least.ensures.within, c.scenario_count-n.ensures))
 
 pub value_in-limit-requires : goal.value_in-limit-requires
 value_in-limit-requires c =
-    let after-least = c.before.before in
-    let after-count = after-least.before.before in
-    let after-fill = after-count.before.before in
-    let p = (start after-fill).requires in
-    (p.0, rw c.scenario.ensures (scenario-limits _ _ (omega (arith, after-least.least_of-least.ensures.within, after-count.scenario_count-n.ensures)) p.1), after-fill.fill_ends.ensures, p.2, p.3)
+    let p = c.requires in
+    (p.0, rw c.scenario.ensures (scenario-limits _ _ (omega (arith, c.least_of-least.ensures.within, c.scenario_count-n.ensures)) p.1), c.fill_ends.ensures, p.2, p.3)
 
 pub loop-s-init : goal.loop-s-init
 loop-s-init c = (omega arith, refining-none _ _ _ _ _)
 
--- a turn
+-- a c
 module _ (c : In-loop-s) where
-  abbrev at-loop : At-loop-s
-  at-loop = c.before
-
   abbrev entry : Start
-  entry = start (filled at-loop.before)
+  entry = c.before
 
-  within : at-loop.loop-s.s < scenario_count entry.args.components
+  within : c.loop-s.s < scenario_count entry.args.components
   within =
-      omega (arith, c.loop-s-test.true, at-loop.scenario_count-n.ensures)
+      omega (arith, c.loop-s-test.true, c.scenario_count-n.ensures)
 
   abbrev value : ℤ
-  value = get_or at-loop.loop-s.values at-loop.loop-s.s (pos 0)
+  value = get_or c.loop-s.values c.loop-s.s (pos 0)
 
-  fits-place : at-loop.loop-s.s < 343
+  fits-place : c.loop-s.s < 343
   fits-place = omega (arith, within, scenarios-most _ entry.requires.1)
 
 pub scenario-requires-then-v-limit : goal.scenario-requires-then-v-limit
-scenario-requires-then-v-limit c = let turn = c.before.before in ((entry turn).requires.1, within turn)
+scenario-requires-then-v-limit c = let c = c.before.before in ((entry c).requires.1, within c)
 
 pub value_in-v-requires : goal.value_in-v-requires
 value_in-v-requires c =
     let after-scenario = c.before in
-    let turn = after-scenario.before.before.before in
-    let p = (entry turn).requires in
-    (p.0, rw after-scenario.scenario-then-v-limit.ensures (scenario-limits _ _ (within turn) p.1), (filled (at-loop turn).before).fill_ends.ensures, p.2, p.3)
+    let c = after-scenario.before.before.before in
+    let p = (entry c).requires in
+    (p.0, rw after-scenario.scenario-then-v-limit.ensures (scenario-limits _ _ (within c) p.1), (c.before).fill_ends.ensures, p.2, p.3)
 
 -- what is written
 module _ (c : Joined-v-limit) where
-  abbrev turn : In-loop-s
-  turn = c.before.before
-
   abbrev here : Start
-  here = entry turn
+  here = entry c
 
   abbrev limit : ℤ
-  limit = (at-loop turn).value_in-limit.result
+  limit = c.value_in-limit.result
 
-  written : to_z w64 c.if-v-limit.v ≡ refined_value here.args.curve here.args.components here.args.nets.now (read limit) (at-loop turn).loop-s.s (value turn)
+  written : to_z w64 c.if-v-limit.v ≡ refined_value here.args.curve here.args.components here.args.nets.now (read limit) c.loop-s.s (value c)
   written =
       let x = here.args.components in
       let nets = here.args.nets.now in
-      let s = (at-loop turn).loop-s.s in
-      let same = back (value turn) c.v-1.given in
+      let s = c.loop-s.s in
+      let same = back (value c) c.v-1.given in
       ⊎_elim
       (λ w.
       ap (to_z w64) w.4 ∙ scenario-read here.args.curve x nets _ s here.requires.2 _ _ w.1.ensures w.3.ensures
-      ∙ sym (refined-kept here.args.curve x nets (read limit) s (value turn) (rw same at w.0.taken)))
-      (λ w. ap (to_z w64) w.1 ∙ same ∙ sym (refined-left here.args.curve x nets (read limit) s (value turn) (rw same at w.0.left)))
+      ∙ sym (refined-kept here.args.curve x nets (read limit) s (value c) (rw same at w.0.taken)))
+      (λ w. ap (to_z w64) w.1 ∙ same ∙ sym (refined-left here.args.curve x nets (read limit) s (value c) (rw same at w.0.left)))
       c.if-v-limit.branch
 
 pub loop-s-preserved : goal.loop-s-preserved
 loop-s-preserved c =
-    let t = turn c in
-    let l = at-loop t in
-    (omega (arith, t.loop-s-test.taken), refining-next _ _ _ _ _ _ _ l.loop-s.inv.1 (omega (arith, within t, (entry t).requires.4)) _ (written c))
+    (omega (arith, c.loop-s-test.taken), refining-next _ _ _ _ _ _ _ c.loop-s.inv.1 (omega (arith, within c, (entry c).requires.4)) _ (written c))
 
 pub returns : goal.returns
 returns c =
     let l = c.before in
     let after-value = l.before in
     let n = after-value.scenario_count-n.ensures in
-    let s = start (filled after-value) in
+    let s = after-value in
     let e : l.loop-s.s ≡ scenario_count s.args.components = omega (arith, c.loop-s-test.false, l.loop-s.invariant.0, n) in
     let m : after-value.least_of-least.result < scenario_count s.args.components = omega (arith, after-value.least_of-least.ensures.within, n) in
     let found = scenario-read s.args.curve s.args.components _ _ after-value.least_of-least.result s.requires.2 _ _ after-value.scenario.ensures after-value.value_in-limit.ensures in
@@ -125,13 +107,13 @@ pub offset_bounds-values-at : goal.offset_bounds-values-at
 offset_bounds-values-at c = omega (arith, fits-place c)
 
 pub slice_copy_out-v : goal.slice_copy_out-v
-slice_copy_out-v c = omega (arith, within c, (entry c).requires.4, (at-loop c).loop-s.invariant.1.places)
+slice_copy_out-v c = omega (arith, within c, (entry c).requires.4, c.loop-s.invariant.1.places)
 
 pub offset_bounds-values-at-in-loop-s : goal.offset_bounds-values-at-in-loop-s
 offset_bounds-values-at-in-loop-s c = omega (arith, fits-place c.before.before)
 
 pub bounds-values-at : goal.bounds-values-at
-bounds-values-at c = let turn = c.before.before in omega (arith, within turn, (entry turn).requires.4, (at-loop turn).loop-s.invariant.1.places)
+bounds-values-at c = let c = c.before.before in omega (arith, within c, (entry c).requires.4, c.loop-s.invariant.1.places)
 
 pub overflow_add-s : goal.overflow_add-s
 overflow_add-s c = omega (arith, fits-place c.before.before)

@@ -12,20 +12,17 @@ use Rattle.screening.proofs.screen.pays.Goals.{After-outermost-few, After-scenar
 abbrev outer : After-scenario_count-n → After-outermost-few
 outer c = let after-low = let else = c.before in else.before.before in after-low.before.before
 
-abbrev start : After-outermost-few → Start
-start c = c.before.before.before
-
 pub least_of-least-requires : goal.least_of-least-requires
 least_of-least-requires c =
     let counted = c.before in
     let n = counted.scenario_count-n.ensures in
     let o = outer counted in
     let after-low = let else = counted.before in else.before.before in
-    (omega (arith, n, scenarios-some o.outermost-few.result), omega (arith, n, scenarios-most _ o.outermost-few.ensures, after-low.low_values.ensures.kept, (start o).requires.6))
+    (omega (arith, n, scenarios-some o.outermost-few.result), omega (arith, n, scenarios-most _ o.outermost-few.ensures, after-low.low_values.ensures.kept, o.requires.6))
 
 pub fill_ends-requires : goal.fill_ends-requires
 fill_ends-requires c =
-    let p = (start (outer c.before.before.before)).requires in
+    let p = (outer c.before.before.before).requires in
     (p.0, rising-listed _ _ p.2, omega (arith, p.0.most, length-replicate {A = ℕ} 24 0))
 
 pub value_in-limit-requires : goal.value_in-limit-requires
@@ -35,24 +32,19 @@ value_in-limit-requires c =
     let after-least = after-fill.before.before in
     let counted = after-least.before.before in
     let o = outer counted in
-    let p = (start o).requires in
+    let p = o.requires in
     (p.0, rw after-scenario.scenario.ensures (scenario-limits _ _ (omega (arith, after-least.least_of-least.ensures.within, counted.scenario_count-n.ensures)) o.outermost-few.ensures), after-fill.fill_ends.ensures, p.2, p.4)
 
 -- the scenarios counted, from behind the value of one of them
-abbrev counting : After-value_in-limit → After-scenario_count-n
-counting c =
-    let after-fill = c.before.before.before.before in
-    let after-least = after-fill.before.before in
-    after-least.before.before
 
 pub kept_of-requires : goal.kept_of-requires
 kept_of-requires c =
-    let counted = counting c.before in
+    let counted = c.before in
     let o = outer counted in
     let after-low = let else = counted.before in else.before.before in
-    omega (arith, counted.scenario_count-n.ensures, scenarios-most _ o.outermost-few.ensures, after-low.low_values.ensures.kept, (start o).requires.6)
+    omega (arith, counted.scenario_count-n.ensures, scenarios-most _ o.outermost-few.ensures, after-low.low_values.ensures.kept, o.requires.6)
 
 pub overflow_mul-result : goal.overflow_mul-result
 overflow_mul-result c =
-    let counted = counting c.before.before in
+    let counted = c.before.before in
     omega (arith, c.kept_of.ensures, counted.scenario_count-n.ensures, scenarios-most _ (outer counted).outermost-few.ensures)

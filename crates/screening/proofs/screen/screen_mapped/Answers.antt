@@ -11,13 +11,10 @@ use Rattle.screening.proofs.Refining.{filled-screened}
 use Rattle.screening.proofs.screen.screen_mapped.Goals as goal
 use Rattle.screening.proofs.screen.screen_mapped.Goals.{After-low_values, After-pays, Start}
 
-abbrev start : After-pays → Start
-start c = let after-arg = c.before in after-arg.before.before.before
-
 pub fill_values-requires : goal.fill_values-requires
 fill_values-requires c =
     let after-pays = let then = c.before in then.before.before in
-    let p = (start after-pays).requires in
+    let p = after-pays.requires in
     (p.0, p.1, p.2, p.4, omega (arith, scenarios-most _ p.1, after-pays.pays.ensures, p.6))
 
 pub returns-then-not-pays : goal.returns-then-not-pays
@@ -28,26 +25,23 @@ returns-then-not-pays c =
 
 -- with the values of mapped amounts
 module _ (c : After-low_values) where
-  abbrev paid : After-pays
-  paid = let else = c.before.before in else.before.before
-
   places : length c.low_values.new.1.1.1.1.1.1.0 ≡ 343
-  places = c.low_values.ensures.kept ∙ paid.pays.ensures ∙ (start paid).requires.6
+  places = c.low_values.ensures.kept ∙ c.pays.ensures ∙ c.requires.6
 
-  few : scenario_count (start paid).args.components ≤ length c.low_values.new.1.1.1.1.1.1.0
-  few = omega (arith, scenarios-most _ (start paid).requires.1, places)
+  few : scenario_count c.args.components ≤ length c.low_values.new.1.1.1.1.1.1.0
+  few = omega (arith, scenarios-most _ c.requires.1, places)
 
 pub fill_values-requires-then-not-low_values : goal.fill_values-requires-then-not-low_values
 fill_values-requires-then-not-low_values c =
     let after-low = let then = c.before in then.before.before in
-    let p = (start (paid after-low)).requires in
+    let p = after-low.requires in
     (p.0, p.1, p.2, p.4, few after-low)
 
 pub returns-then-not-low_values : goal.returns-then-not-low_values
 returns-then-not-low_values c =
     let after-fill = c.before in
     let after-low = let then = after-fill.before.before in then.before.before in
-    record { kept = after-fill.fill_values-then-not-low_values.ensures.kept ∙ after-low.low_values.ensures.kept ∙ (paid after-low).pays.ensures; each = filled-screened _ _ _ _ after-fill.fill_values-then-not-low_values.ensures.each }
+    record { kept = after-fill.fill_values-then-not-low_values.ensures.kept ∙ after-low.low_values.ensures.kept ∙ after-low.pays.ensures; each = filled-screened _ _ _ _ after-fill.fill_values-then-not-low_values.ensures.each }
 
 held : (t : Bool) → not t ≡ false → t ≡ true
 held true e = refl
@@ -57,6 +51,6 @@ pub refine-requires : goal.refine-requires
 refine-requires c =
     let else = c.before in
     let after-low = else.before.before in
-    let p = (start (paid after-low)).requires in
+    let p = after-low.requires in
     let low = after-low.low_values.ensures.low (held _ else.if-not-low_values.false) in
     (p.0, p.1, p.2, p.4, few after-low, low.0, low.1)

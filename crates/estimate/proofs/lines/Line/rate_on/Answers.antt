@@ -14,17 +14,14 @@ overflow_mul-result c =
     (fits _ (omega (arith, moved-size a.self.slope a.t c.requires.slope c.requires.day)))
 
 module _ (c : After-struct_told-2-1) where
-  abbrev start : Start
-  start = let told = c.before.before in told.before.before
-
 pub overflow_add-result : goal.overflow_add-result
-overflow_add-result c = let d = (start c).requires in rw (code-stands _ _ d) (fits _ (omega (arith, stands-size _ _ d)))
+overflow_add-result c = let d = c.requires in rw (code-stands _ _ d) (fits _ (omega (arith, stands-size _ _ d)))
 
 pub overflow_cast-result-2 : goal.overflow_cast-result-2
 overflow_cast-result-2 c =
-    let d = (start c).requires in
+    let d = c.requires in
     rw (code-stands _ _ d) (to-u64 _ d.above (omega (arith, stands-size _ _ d)))
 
 pub returns : goal.returns
 unfolding rate_on line_scale
-returns c = let d = (start c).requires in rw (code-stands _ _ d, stands_read _ _ d)
+returns c = let d = c.requires in rw (code-stands _ _ d, stands_read _ _ d)

@@ -14,8 +14,6 @@ use Rattle.estimate.proofs.parts.Part.along.Goals as goal
 use Rattle.estimate.proofs.parts.Part.along.Goals.{After-day_value-value, After-shared_slice_known-in-loop-i-1, After-struct_told-1, At-loop-i, In-loop-i, Start}
 
 -- the entry's record
-abbrev start : After-struct_told-1 → Start
-start c = c.before.before.before
 
 -- the value of the part that comes in, read back from its bits
 value_read : (s : Start) → read s.args.self.value ≡ s.args.self.value
@@ -24,28 +22,24 @@ value_read s = read_is s.args.self.value (omega (arith, s.requires.0.size))
 
 pub loop-i-init : goal.loop-i-init
 loop-i-init c =
-    let s = start c in
-    rw (value_read s) (going-first _ _ _ _ _ s.requires.0)
+    rw (value_read c) (going-first _ _ _ _ _ c.requires.0)
 
 pub bounds-days-i : goal.bounds-days-i
 bounds-days-i c = omega (arith, c.loop-i-test.true, c.loop-i.invariant.ready.most)
 
--- the day of a turn
+-- the day of a c
 module _ (c : After-shared_slice_known-in-loop-i-1) where
-  abbrev turn : In-loop-i
-  turn = c.before
-
-  abbrev at : At-loop-i
-  at = turn.before
+  abbrev c : At-loop-i
+  c = c.before
 
   abbrev entry : Start
-  entry = start at.before
+  entry = c.before
 
   abbrev day : ℕ
-  day = get_or entry.args.days.now at.loop-i.i 0
+  day = get_or entry.args.days.now c.loop-i.i 0
 
   within : day < 10951
-  within = (going-day _ _ _ _ _ _ at.loop-i.inv turn.loop-i-test.taken).0
+  within = (going-day _ _ _ _ _ _ c.loop-i.inv c.loop-i-test.taken).0
 
 pub overflow_cast-day : goal.overflow_cast-day
 overflow_cast-day c = omega (arith, within c)
@@ -60,11 +54,11 @@ pub day_value-value-requires : goal.day_value-value-requires
 day_value-value-requires c =
     let e = c.before in
     let s = entry e in
-    let k = (turn e).loop-i-test.true in
+    let k = e.loop-i-test.true in
     let net = get_or s.args.nets.now (day e) (pos 0) in (
-      (going-day _ _ _ _ _ _ (at e).loop-i.invariant k).1,
+      (going-day _ _ _ _ _ _ e.loop-i.invariant k).1,
       s.requires.1,
-      rw (back net c.day_value-arg-1.given) (amount-most _ _ _ _ _ _ (at e).loop-i.invariant k),
+      rw (back net c.day_value-arg-1.given) (amount-most _ _ _ _ _ _ e.loop-i.invariant k),
     )
 
 -- a result, read back from its bits
@@ -73,40 +67,36 @@ read_as r z e h = rw e (read_is z h)
 
 -- what the day's amount is worth, and the sum with it, read back from their bits
 module _ (c : After-day_value-value) where
-  abbrev on : After-shared_slice_known-in-loop-i-1
-  on = c.before.before
-
   abbrev net : ℤ
-  net = get_or (entry on).args.nets.now (day on) (pos 0)
+  net = get_or (entry c).args.nets.now (day c) (pos 0)
 
   abbrev worth_now : ℤ
-  worth_now = worth (cheap_on (rate_on (entry on).args.line) (day on)) net
+  worth_now = worth (cheap_on (rate_on (entry c).args.line) (day c)) net
 
   abbrev sum : ℤ
-  sum = cast (at on).loop-i.value +ℤ worth_now
+  sum = cast c.loop-i.value +ℤ worth_now
 
   worth-read : read c.day_value-value.result ≡ worth_now
   unfolding most_size
   worth-read =
-      let most = amount-most _ _ _ _ _ _ (at on).loop-i.inv (turn on).loop-i-test.taken in
-      let rate = rate_on (entry on).args.line in
-      let is : c.day_value-value.result ≡ worth_now = c.day_value-value.ensures ∙ ap (worth (cheap_on rate (day on))) (back net c.day_value-arg-1.given) in
-      read_as _ worth_now is (omega (arith, most, cheap-worth rate (day on) net))
+      let most = amount-most _ _ _ _ _ _ c.loop-i.inv c.loop-i-test.taken in
+      let rate = rate_on (entry c).args.line in
+      let is : c.day_value-value.result ≡ worth_now = c.day_value-value.ensures ∙ ap (worth (cheap_on rate (day c))) (back net c.day_value-arg-1.given) in
+      read_as _ worth_now is (omega (arith, most, cheap-worth rate (day c) net))
 
   sum-most : nat_abs sum < 2 ^ 63
   unfolding most_size
-  sum-most = omega (arith, sum-size _ _ _ _ _ _ (at on).loop-i.inv (turn on).loop-i-test.taken)
+  sum-most = omega (arith, sum-size _ _ _ _ _ _ c.loop-i.inv c.loop-i-test.taken)
 
 pub overflow_add-value : goal.overflow_add-value
 overflow_add-value c = rw (worth-read c) (fits (sum c) (sum-most c))
 
 pub loop-i-preserved : goal.loop-i-preserved
 loop-i-preserved c =
-    let e = on c in
-    rw (worth-read c, read_is (sum c) (sum-most c)) (going_next _ _ _ _ _ _ (at e).loop-i.inv (turn e).loop-i-test.taken)
+    rw (worth-read c, read_is (sum c) (sum-most c)) (going_next _ _ _ _ _ _ c.loop-i.inv c.loop-i-test.taken)
 
 pub returns : goal.returns
 returns c =
     let l = c.before in
     let a = going_end _ _ _ _ _ _ l.loop-i.invariant c.loop-i-test.false in
-    rw (value_read (start l.before)) at a
+    rw (value_read l.before) a

@@ -10,29 +10,23 @@ use Rattle.ladder.proofs.valuing.Valuing.finished.Goals as goal
 use Rattle.ladder.proofs.valuing.Valuing.finished.Goals.{After-present_value-value, Start, Then-self}
 
 -- the entry's record
-abbrev start : Then-self → Start
-start c = c.before.before.before
 
 pub present_value-value-requires : goal.present_value-value-requires
 unfolding million
 present_value-value-requires c =
-    let s = start c.before in
-    (s.requires.0.flow.amount, rw c.rate_at.ensures (curve-rate-limit _ s.requires.1 _))
+    (c.requires.0.flow.amount, rw c.rate_at.ensures (curve-rate-limit _ c.requires.1 _))
 
 -- the value is the waiting flow's
-worth : (c : After-present_value-value) → let s = start c.before.before in c.present_value-value.result ≡ flow_value (rate_at (nodes_of s.args.curve)) s.args.self.flow
-worth c = let s = start c.before.before in at-rate _ s.args.self.flow c.rate_at.ensures c.present_value-value.ensures
+worth : (c : After-present_value-value) → let s = c.before.before in c.present_value-value.result ≡ flow_value (rate_at (nodes_of s.args.curve)) s.args.self.flow
+worth c = let s = c.before.before in at-rate _ s.args.self.flow c.rate_at.ensures c.present_value-value.ensures
 
 pub with_flow-requires : goal.with_flow-requires
 with_flow-requires c =
-    let waits = c.before.before in
-    let s = start waits in
-    (waiting-room s.args.self waits.if-self.true s.requires.0, s.requires.0.flow, rw (worth c) (value-most _ _ s.requires.0.flow))
+    (waiting-room c.args.self c.if-self.true c.requires.0, c.requires.0.flow, rw (worth c) (value-most _ _ c.requires.0.flow))
 
 pub returns-then-self : goal.returns-then-self
 returns-then-self c =
-    let waits = c.before.before.before in
-    held-waiting _ (start waits).args.self waits.if-self.true (worth c.before) c.with_flow.ensures
+    held-waiting _ c.args.self c.if-self.true (worth c.before) c.with_flow.ensures
 
 pub returns : goal.returns
 returns c = held-total _ c.args.self c.if-self.false

@@ -10,15 +10,13 @@ use Rattle.ladder.proofs.valuing.Valuing.with_flow.Goals as goal
 use Rattle.ladder.proofs.valuing.Valuing.with_flow.Goals.{After-known_value-found, After-slice_known-2-1, Start, Then-found}
 
 -- the call that asks for the flow's value, and the entry's record
-abbrev asked : After-slice_known-2-1 → After-known_value-found
-asked c = c.before.before
 
 abbrev start : After-slice_known-2-1 → Start
-start c = let after-total = (asked c).before.before.before in after-total.before.before.before
+start c = let after-total = c.before.before.before in after-total.before.before.before
 
 -- a value that is known is the flow's
-known : (c : Then-found) → let s = start c.before in (asked c.before).known_value-found.result.value ≡ flow_value (rate_at (nodes_of s.args.curve)) s.args.f
-known c = (asked c.before).known_value-found.ensures.value_value c.if-found.true
+known : (c : Then-found) → let s = start c.before in c.known_value-found.result.value ≡ flow_value (rate_at (nodes_of s.args.curve)) s.args.f
+known c = c.known_value-found.ensures.value_value c.if-found.true
 
 pub with_flow-requires : goal.with_flow-requires
 with_flow-requires c =
@@ -29,7 +27,7 @@ pub returns-then-found : goal.returns-then-found
 returns-then-found c =
     let at = c.before.before in
     let s = start at in
-    (with-known _ s.args.self s.args.f s.requires.2 (known c.before) c.with_flow.ensures, (asked at).known_value-found.ensures.kept_factors)
+    (with-known _ s.args.self s.args.f s.requires.2 (known c.before) c.with_flow.ensures, at.known_value-found.ensures.kept_factors)
 
 pub with_two-requires : goal.with_two-requires
 with_two-requires c =
@@ -37,7 +35,7 @@ with_two-requires c =
     let at = two.before.before in
     let s = start at in
     let p = s.requires in
-    (waiting-room s.args.self two.if-self.true p.0, p.1, p.0.flow, p.2, (asked at).known_value-found.ensures.kept_factors)
+    (waiting-room s.args.self two.if-self.true p.0, p.1, p.0.flow, p.2, at.known_value-found.ensures.kept_factors)
 
 pub returns-then-self : goal.returns-then-self
 returns-then-self c =
@@ -50,4 +48,4 @@ pub returns : goal.returns
 returns c =
     let at = c.before.before in
     let s = start at in
-    (waiting _ s.args.self s.args.f s.requires.2 c.if-self.false, (asked at).known_value-found.ensures.kept_factors)
+    (waiting _ s.args.self s.args.f s.requires.2 c.if-self.false, at.known_value-found.ensures.kept_factors)
