@@ -24,18 +24,16 @@ shape_of-tables c =
 pub returns : goal.returns
 unfolding middle_base upper_base
 returns c =
-    let rows = c.powers-2.ensures.1 in
-    let later = rows.1.1 in
-    let middle-rows = c.powers.ensures.1 in
-    let earlier = middle-rows.1.1 in
+    let later = c.powers-2.ensures in
+    let earlier = c.powers.ensures in
     record {
       places = c.powers-2.ensures.kept ∙ c.powers.ensures.kept ∙ c.logs.ensures.kept ∙ c.requires;
-      logs = λ k l. later.0 k (omega arith) ∙ earlier.0 k (omega arith) ∙ c.logs.ensures.rows k l;
-      slopes = λ k l. later.0 (489 + k) (omega arith) ∙ earlier.0 (489 + k) (omega arith) ∙ c.logs.ensures.slopes k l;
-      middles = λ k l. later.0 (978 + k) (omega arith) ∙ middle-rows.0 k (omega arith);
-      uppers = λ k l. rows.0 k (omega arith);
-      short_middles = λ k l. later.1 (2336 + k) (omega arith) (omega arith) ∙ middle-rows.1.0 k (omega arith);
-      short_uppers = λ k l. rows.1.0 k (omega arith);
+      logs = λ k l. later.before k (omega arith) ∙ earlier.before k (omega arith) ∙ c.logs.ensures.rows k l;
+      slopes = λ k l. later.before (489 + k) (omega arith) ∙ earlier.before (489 + k) (omega arith) ∙ c.logs.ensures.slopes k l;
+      middles = λ k l. later.before (978 + k) (omega arith) ∙ earlier.rows k (omega arith);
+      uppers = λ k l. later.rows k (omega arith);
+      short_middles = λ k l. later.between (2336 + k) (omega arith) (omega arith) ∙ earlier.shorts k (omega arith);
+      short_uppers = λ k l. later.shorts k (omega arith);
     }
 
 pub logs-requires : goal.logs-requires

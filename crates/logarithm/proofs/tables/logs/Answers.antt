@@ -71,4 +71,9 @@ pub shape_of-tables : goal.shape_of-tables
 shape_of-tables c = c.loop-i.invariant.1
 
 pub returns : goal.returns
-returns c = (c.loop-i.invariant.1, (λ k l. c.loop-i.invariant.4 k (omega (arith, c.loop-i-test.false)), λ k l. c.loop-i.invariant.5 k (omega (arith, c.loop-i-test.false))))
+returns c =
+    record {
+      kept = c.loop-i.invariant.1;
+      rows = λ k l. c.loop-i.invariant.4 k (omega (arith, c.loop-i-test.false));
+      slopes = λ k l. c.loop-i.invariant.5 k (omega (arith, c.loop-i-test.false));
+    }

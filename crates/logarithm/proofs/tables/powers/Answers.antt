@@ -68,16 +68,14 @@ returns c =
     let inv = c.loop-i.invariant in
     let from = c.args.from in
     let same : (k : ℕ) → from + k - from ≡ k = λ k. omega arith in
-    let place : (k : ℕ) → 1358 + (from + k) ≡ 1358 + from + k = λ k. omega arith in (
-      inv.2,
-      (
-        (λ k l. rw same at (inv.4 (from + k) (omega (arith, c.loop-i-test.false)) (omega arith))),
-        (
-          (λ k l. rw (same, place) at (inv.5 (from + k) (omega (arith, c.loop-i-test.false)) (omega arith))),
-          (inv.6, inv.7),
-        ),
-      ),
-    )
+    let place : (k : ℕ) → 1358 + (from + k) ≡ 1358 + from + k = λ k. omega arith in
+    record {
+      kept = inv.2;
+      rows = λ k l. rw same at (inv.4 (from + k) (omega (arith, c.loop-i-test.false)) (omega arith));
+      shorts = λ k l. rw (same, place) at (inv.5 (from + k) (omega (arith, c.loop-i-test.false)) (omega arith));
+      before = inv.6;
+      between = inv.7;
+    }
 
 pub bounds-tables-i : goal.bounds-tables-i
 bounds-tables-i c = omega (arith, room c)
