@@ -25,23 +25,19 @@ module _ (c : After-or_if-v) where
 pub returns-then-not-is_accepted : goal.returns-then-not-is_accepted
 unfolding curve_verdict
 returns-then-not-is_accepted c =
-    let v = c.before.before in
-    let a = v.args in
+    let a = c.args in
     let rules = curve_rules a.b.now a.k in
-    stopped a.k (drop 3 rules) (so_far v) (sym c.is_accepted.ensures ∙ c.if-not-is_accepted.true) ∙ in-turn Accepted a.k rules
+    stopped a.k (drop 3 rules) (so_far (goal.at.returns-then-not-is_accepted c).After-or_if-v) (sym c.is_accepted.ensures ∙ c.if-not-is_accepted.true) ∙ in-turn Accepted a.k rules
 
 pub breaks_node-requires : goal.breaks_node-requires
 breaks_node-requires c =
-    let v = c.before.before in
-    let b = v.args.b.now in
-    let k = v.args.k in
-    let kept = passed k (take 3 (curve_rules b k)) (so_far v) (sym c.is_accepted.ensures ∙ c.if-not-is_accepted.false) in
-    (v.requires, count_most b k (numbers-kept b k (kept 2)))
+    let b = c.args.b.now in
+    let k = c.args.k in
+    let kept = passed k (take 3 (curve_rules b k)) (so_far (goal.at.breaks_node-requires c).After-or_if-v) (sym c.is_accepted.ensures ∙ c.if-not-is_accepted.false) in
+    (c.requires, count_most b k (numbers-kept b k (kept 2)))
 
 pub returns : goal.returns
 unfolding curve_verdict
 returns c =
-    let node = c.before in
-    let v = node.before.before.before in
-    let a = v.args in
-    also Node a.k (so_far v) node.breaks_node.ensures c.or_if-3.ensures ∙ in-turn Accepted a.k (curve_rules a.b.now a.k)
+    let a = c.args in
+    also Node a.k (so_far (goal.at.returns c).After-or_if-v) c.breaks_node.ensures c.or_if-3.ensures ∙ in-turn Accepted a.k (curve_rules a.b.now a.k)

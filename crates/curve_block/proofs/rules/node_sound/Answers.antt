@@ -22,10 +22,7 @@ fits-third s = search rules
 pub returns : goal.returns
 unfolding node_sound
 returns c =
-    let after-struct-told2 = c.before.before.before in
-    let after-struct-known3 = after-struct-told2.before.before.before in
-    let s = after-struct-known3.before.before.before in
-    let first : read s.args.n.first ≡ s.args.n.first = to_z-of_z (fits-first s) in
-    let second : read s.args.n.second ≡ s.args.n.second = to_z-of_z (fits-second s) in
-    let third : read s.args.n.third ≡ s.args.n.third = to_z-of_z (fits-third s) in
+    let first : read c.args.n.first ≡ c.args.n.first = to_z-of_z (fits-first (goal.at.returns c).Start) in
+    let second : read c.args.n.second ≡ c.args.n.second = to_z-of_z (fits-second (goal.at.returns c).Start) in
+    let third : read c.args.n.third ≡ c.args.n.third = to_z-of_z (fits-third (goal.at.returns c).Start) in
     cc

@@ -21,7 +21,7 @@ withholding_on-withholding-requires c = interest c
 
 pub overflow_add-result : goal.overflow_add-result
 unfolding unit
-overflow_add-result c = omega (arith, interest c.before, c.requires.0)
+overflow_add-result c = omega (arith, interest (goal.at.overflow_add-result c).After-interest_on-interest, c.requires.0)
 
 pub overflow_sub-result : goal.overflow_sub-result
 overflow_sub-result c = omega (arith, c.withholding_on-withholding.ensures, withholding-bound c.interest_on-interest.result)

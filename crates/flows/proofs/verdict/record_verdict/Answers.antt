@@ -13,9 +13,6 @@ use Rattle.flows.proofs.verdict.record_verdict.Goals as goal
 use Rattle.flows.proofs.verdict.record_verdict.Goals.{After-breaks_form, After-or_if-v, Start}
 
 module _ (c : After-or_if-v) where
-  abbrev c : Start
-  c = c.before.before.before.before
-
   -- the rules 8 to 11
   so_far : c.or_if-v.result ≡ in_turn Accepted c.args.block (take 4 (record_rules c.args.curves c.args.f))
   so_far =
@@ -31,26 +28,20 @@ module _ (c : After-or_if-v) where
 pub returns-then-not-is_accepted : goal.returns-then-not-is_accepted
 unfolding record_verdict
 returns-then-not-is_accepted c =
-    let v = c.before.before in
-    let a = v.args in
+    let a = c.args in
     let rules = record_rules a.curves a.f in
-    stopped a.block (drop 4 rules) (so_far v) (sym c.is_accepted.ensures ∙ c.if-not-is_accepted.true) ∙ in-turn Accepted a.block rules
+    stopped a.block (drop 4 rules) (so_far (goal.at.returns-then-not-is_accepted c).After-or_if-v) (sym c.is_accepted.ensures ∙ c.if-not-is_accepted.true) ∙ in-turn Accepted a.block rules
 
 -- the rules 8, 9 and 10 were tested before, so that no amount overflows
 pub breaks_flow_limit-requires : goal.breaks_flow_limit-requires
 breaks_flow_limit-requires c =
-    let told = c.before.before in
-    let v = told.before in
-    let a = v.args in
-    let kept = passed a.block (take 4 (record_rules a.curves a.f)) (so_far v) (sym told.is_accepted.ensures ∙ c.if-not-is_accepted.false) in
+    let a = c.args in
+    let kept = passed a.block (take 4 (record_rules a.curves a.f)) (so_far (goal.at.breaks_flow_limit-requires c).After-or_if-v) (sym c.is_accepted.ensures ∙ c.if-not-is_accepted.false) in
     rw c.trade_of.ensures (trade-limits a.f (sound-record a.curves a.f (kept 0) (kept 1) (kept 2)))
 
 pub returns : goal.returns
 unfolding record_verdict
 returns c =
-    let limit = c.before in
-    let told = limit.before.before.before in
-    let v = told.before in
-    let a = v.args in
-    also FlowLimit a.block (so_far v) (limit.breaks_flow_limit.ensures ∙ ap breaks_flow_limit limit.trade_of.ensures) c.or_if-4.ensures
+    let a = c.args in
+    also FlowLimit a.block (so_far (goal.at.returns c).After-or_if-v) (c.breaks_flow_limit.ensures ∙ ap breaks_flow_limit c.trade_of.ensures) c.or_if-4.ensures
     ∙ in-turn Accepted a.block (record_rules a.curves a.f)
