@@ -39,9 +39,9 @@ module _ (c : After-header_verdict-first) where
 
 pub returns-then-not-is_accepted : goal.returns-then-not-is_accepted
 returns-then-not-is_accepted c =
-    let c = c.before.before in
+    let judged = judged (goal.at.returns-then-not-is_accepted c).After-header_verdict-first in
     let stop = rw judged at (sym c.is_accepted.ensures ∙ c.if-not-is_accepted.true) in
-    judged ∙ sym (verdict-blocks _ _ (kept c) ∙ header-stops _ _ (omega arith) stop)
+    judged ∙ sym (verdict-blocks _ _ (kept (goal.at.returns-then-not-is_accepted c).Else-breaks_length) ∙ header-stops _ _ (omega arith) stop)
 
 -- past the second
 module _ (c : Else-not-is_accepted) where
@@ -49,19 +49,18 @@ module _ (c : Else-not-is_accepted) where
   told = sym c.is_accepted.ensures ∙ c.if-not-is_accepted.false
 
   heads : Headed (block_at c.args.book.now 0) (c.args.used / 512)
-  heads = (header-accepted _ _ (sym (judged c) ∙ is-accepted _ told)).counts
+  heads = (header-accepted _ _ (sym (judged c.before.before) ∙ is-accepted _ told)).counts
 
 pub curves_of-requires : goal.curves_of-requires
 curves_of-requires c =
-    let l = fits c in
-    let h = heads c in
+    let l = fits (goal.at.curves_of-requires c).Else-breaks_length in
+    let h = heads (goal.at.curves_of-requires c).Else-not-is_accepted in
     omega (arith, head-curves c.args.book.now)
 
 pub block_by_block-requires : goal.block_by_block-requires
-block_by_block-requires c = let l = fits c.before in record { n_bound = (omega arith, omega arith); curves_value = c.curves_of.ensures }
+block_by_block-requires c = let l = fits (goal.at.block_by_block-requires c).Else-breaks_length in record { n_bound = (omega arith, omega arith); curves_value = c.curves_of.ensures }
 
 pub returns : goal.returns
 returns c =
-    let passed = c.before.before in
-    let l = fits passed in
-    c.block_by_block.ensures ∙ sym (verdict-blocks _ _ (kept passed) ∙ header-passes _ _ (omega arith) (rw (judged passed) at (told passed)))
+    let l = fits (goal.at.returns c).Else-breaks_length in
+    c.block_by_block.ensures ∙ sym (verdict-blocks _ _ (kept (goal.at.returns c).Else-breaks_length) ∙ header-passes _ _ (omega arith) (rw (judged (goal.at.returns c).After-header_verdict-first) at (told (goal.at.returns c).Else-not-is_accepted)))

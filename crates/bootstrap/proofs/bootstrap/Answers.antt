@@ -37,19 +37,18 @@ module _ (c : In-Add-2) where
       omega (arith, b.lent)
 
 pub overflow_mul-at : goal.overflow_mul-at
-overflow_mul-at c = omega (arith, fits c.before.before)
+overflow_mul-at c = omega (arith, fits (goal.at.overflow_mul-at c).In-Add-2)
 
 pub overflow_add-at : goal.overflow_add-at
-overflow_add-at c = omega (arith, fits c.before.before)
+overflow_add-at c = omega (arith, fits (goal.at.overflow_add-at c).In-Add-2)
 
 pub slice_bounds-add_node-end : goal.slice_bounds-add_node-end
-slice_bounds-add_node-end c = omega (arith, fits c.before.before)
+slice_bounds-add_node-end c = omega (arith, fits (goal.at.slice_bounds-add_node-end c).In-Add-2)
 
 pub add_node-requires : goal.add_node-requires
 add_node-requires c =
-    let d = c.before.before.before in
-    let s = d.args.book.now in
-    rw add-sub_cancel_left (length_part s (d.args.q.curve * 512) 512 (fits d), node-room s d.args.used d.args.day d.args.q (accepted d))
+    let s = c.args.book.now in
+    rw add-sub_cancel_left (length_part s (c.args.q.curve * 512) 512 (fits (goal.at.add_node-requires c).In-Add-2), node-room s c.args.used c.args.day c.args.q (accepted (goal.at.add_node-requires c).In-Add-2))
 
 pub returns-in-Refused : goal.returns-in-Refused
 unfolding bootstrapped
@@ -60,10 +59,7 @@ returns-in-Refused c =
 pub returns-in-Add : goal.returns-in-Add
 unfolding bootstrapped
 returns-in-Add c =
-    let added-node = c.before.before in
-    let place = added-node.before.before in
-    let d = place.before.before in
-    let s = d.args.book.now in
-    let q = d.args.q in
-    let left = rw add-sub_cancel_left at added-node.add_node.ensures in
-    record { value = sym (accepted d); book_after = rw (accepted d, add-sub_cancel_left) (node-left s q.curve (fits d) (told d).1 left) }
+    let s = c.args.book.now in
+    let q = c.args.q in
+    let left = rw add-sub_cancel_left at c.add_node.ensures in
+    record { value = sym (accepted (goal.at.returns-in-Add c).In-Add-2); book_after = rw (accepted (goal.at.returns-in-Add c).In-Add-2, add-sub_cancel_left) (node-left s q.curve (fits (goal.at.returns-in-Add c).In-Add-2) (told (goal.at.returns-in-Add c).In-Add-2).1 left) }

@@ -11,7 +11,7 @@ seal-requires c = simp length-set (omega arith)
 
 pub shape_of-b : goal.shape_of-b
 shape_of-b c =
-    c.seal.auto.0 ∙ rw length-set c.put_node.auto.0
+    c.seal.auto.b ∙ rw length-set c.put_node.auto.b
 
 pub returns : goal.returns
 unfolding with_node

@@ -20,7 +20,7 @@ here : (s : Start) → Sound s.args.book.now s.requires.0.used
 here s = sound s.args.book.now s.requires.0.used s.requires.0.accepted
 
 pub trade_count-count-requires : goal.trade_count-count-requires
-trade_count-count-requires c = let b = here c.before.before in omega (arith, b.blocks, b.lent)
+trade_count-count-requires c = let b = here (goal.at.trade_count-count-requires c).Start in omega (arith, b.blocks, b.lent)
 
 pub loop-i-init : goal.loop-i-init
 loop-i-init c = (omega arith, refl, collected-none _ _ _)
@@ -40,7 +40,7 @@ fields_of-requires c =
     let c = c.before.before in
     let after-slice-known = c.before.before.before in
     let c = after-slice-known.before.before in
-    ap length c.record_at-r.ensures ∙ length-record_at c.args.book.now c.requires.0.used (here c) c.loop-i.i (at c)
+    ap length c.record_at-r.ensures ∙ length-record_at c.args.book.now c.requires.0.used (here (goal.at.fields_of-requires c).Start) c.loop-i.i (at (goal.at.fields_of-requires c).In-loop-i)
 
 -- after the trade is read: it is the one at the position
 module _ (c : After-trade_of) where
@@ -60,11 +60,9 @@ legs_of-legs-requires c = rw (trade-is c) (trade-sound c)
 pub push_legs-schedules-requires : goal.push_legs-schedules-requires
 unfolding breaks_flow_limit
 push_legs-schedules-requires c =
-    let legs = c.before in
-    let read = legs.before in
-    let inv = read.loop-i.invariant in (
-      omega (arith, inv.1, inv.2.few, at read, read.requires.1),
-      record { reach = legs.legs_of-legs.ensures.limits; within = rw (legs.legs_of-legs.ensures.flows, trade-is read) (trade-sound read).within },
+    let inv = c.loop-i.invariant in (
+      omega (arith, inv.1, inv.2.few, at (goal.at.push_legs-schedules-requires c).In-loop-i, c.requires.1),
+      record { reach = c.legs_of-legs.ensures.limits; within = rw (c.legs_of-legs.ensures.flows, trade-is (goal.at.push_legs-schedules-requires c).After-trade_of) (trade-sound (goal.at.push_legs-schedules-requires c).After-trade_of).within },
     )
 
 pub overflow_add-i : goal.overflow_add-i
@@ -75,13 +73,10 @@ loop-i-smaller c = omega arith
 
 pub loop-i-preserved : goal.loop-i-preserved
 loop-i-preserved c =
-    let pushed = c.before.before in
-    let legs = pushed.before.before in
-    let read = legs.before in
-    let inv = read.loop-i.invariant in (
+    let inv = c.loop-i.invariant in (
       omega arith,
       search rules,
-      collected-next _ _ legs.legs_of-legs.result inv.2 (legs.legs_of-legs.ensures.flows ∙ ap flows_of (trade-is read)) pushed.push_legs-schedules.ensures,
+      collected-next _ _ c.legs_of-legs.result inv.2 (c.legs_of-legs.ensures.flows ∙ ap flows_of (trade-is (goal.at.loop-i-preserved c).After-trade_of)) c.push_legs-schedules.ensures,
     )
 
 pub returns : goal.returns
@@ -92,4 +87,4 @@ returns c =
     let inv = c.loop-i.invariant in
     let e : c.loop-i.i ≡ trade_count s = omega (arith, c.trade_count-count.ensures) in
     let all : Collected s c.args.curve c.loop-i.ladder c.loop-i.schedules (trade_count s) = rw (sym e) inv.2 in
-    record { flows = all.flows; limits = collected-all s c.requires.0.used (here c) c.args.curve c.loop-i.ladder c.loop-i.schedules (omega (arith, inv.1, c.requires.1)) all }
+    record { flows = all.flows; limits = collected-all s c.requires.0.used (here (goal.at.returns c).Start) c.args.curve c.loop-i.ladder c.loop-i.schedules (omega (arith, inv.1, c.requires.1)) all }

@@ -21,13 +21,6 @@ fits-total s = search rules
 pub returns : goal.returns
 unfolding currency_figures ascii
 returns c =
-    let total = c.before.before in
-    let after-put-signed-arg5 = total.before.before.before in
-    let variation = after-put-signed-arg5.before.before.before in
-    let after-put-signed-arg3 = variation.before.before.before in
-    let initial = after-put-signed-arg3.before.before.before in
-    let after-put-signed-arg = initial.before.before.before in
-    let s = after-put-signed-arg.before.before in
-    let opened = rw (code_read _ (fits-initial s)) at initial.put_signed-variation.ensures.text_written in
-    let varied = and_then opened (rw (code_read _ (fits-variation s)) at variation.put_signed-total.ensures.text_written) in
-    record { text_written = and_then varied (rw (code_read _ (fits-total s)) at total.put_signed.ensures.text_written); upper_bound = search rules }
+    let opened = rw (code_read _ (fits-initial (goal.at.returns c).Start)) at c.put_signed-variation.ensures.text_written in
+    let varied = and_then opened (rw (code_read _ (fits-variation (goal.at.returns c).Start)) at c.put_signed-total.ensures.text_written) in
+    record { text_written = and_then varied (rw (code_read _ (fits-total (goal.at.returns c).Start)) at c.put_signed.ensures.text_written); upper_bound = search rules }

@@ -41,21 +41,16 @@ module _ (c : In-loop-i) where
 
 pub put_currency_part-next-requires : goal.put_currency_part-next-requires
 put_currency_part-next-requires c =
-    let has = c.before.before in
-    let turn = has.before in
-    let long = length_part (i turn + 1) (this turn) (turn.requires.count_bound.1.each (i turn) (below turn)) (has_currency (i turn + 1) (curves turn)) in
+    let long = length_part (i (goal.at.put_currency_part-next-requires c).In-loop-i + 1) (this (goal.at.put_currency_part-next-requires c).In-loop-i) (c.requires.count_bound.1.each (i (goal.at.put_currency_part-next-requires c).In-loop-i) (below (goal.at.put_currency_part-next-requires c).In-loop-i)) (has_currency (i (goal.at.put_currency_part-next-requires c).In-loop-i + 1) (curves (goal.at.put_currency_part-next-requires c).In-loop-i)) in
     let room =
-    text-room (currency_part_of (curves turn) (i turn + 1) (this turn)) (lines_of (currency_part_of (curves turn)) (i turn + 1 + 1) (drop (i turn + 1) turn.args.t5))
-    (rw (next turn) at turn.loop-i.invariant.2) turn.requires.currencies_in_bounds in
-    rw has.has_currency-has.ensures (omega (arith, long, room))
+    text-room (currency_part_of (curves (goal.at.put_currency_part-next-requires c).In-loop-i) (i (goal.at.put_currency_part-next-requires c).In-loop-i + 1) (this (goal.at.put_currency_part-next-requires c).In-loop-i)) (lines_of (currency_part_of (curves (goal.at.put_currency_part-next-requires c).In-loop-i)) (i (goal.at.put_currency_part-next-requires c).In-loop-i + 1 + 1) (drop (i (goal.at.put_currency_part-next-requires c).In-loop-i + 1) c.args.t5))
+    (rw (next (goal.at.put_currency_part-next-requires c).In-loop-i) at c.loop-i.invariant.2) c.requires.currencies_in_bounds in
+    rw c.has_currency-has.ensures (omega (arith, long, room))
 
 pub loop-i-preserved : goal.loop-i-preserved
 loop-i-preserved c =
-    let wrote = c.before.before in
-    let has = wrote.before.before.before in
-    let turn = has.before in
-    let part = rw has.has_currency-has.ensures at wrote.put_currency_part-next.ensures in
-    (search rules, turn.loop-i.invariant.1, text-next (rw (next turn) at turn.loop-i.invariant.2) part)
+    let part = rw c.has_currency-has.ensures at c.put_currency_part-next.ensures in
+    (search rules, c.loop-i.invariant.1, text-next (rw (next (goal.at.loop-i-preserved c).In-loop-i) at c.loop-i.invariant.2) part)
 
 pub returns : goal.returns
 returns c =

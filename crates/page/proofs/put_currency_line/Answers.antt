@@ -27,16 +27,6 @@ fits-total s = search rules
 pub returns : goal.returns
 unfolding currency_line
 returns c =
-    let end = c.before.before in
-    let after-put-text-arg = end.before.before in
-    let after-out3 = after-put-text-arg.before.before in
-    let amounts = after-out3.before in
-    let after-struct-told = amounts.before.before.before in
-    let after-out2 = after-struct-told.before.before.before in
-    let filled = after-out2.before in
-    let after-out = filled.before.before.before in
-    let left = after-out.before in
-    let s = left.before.before.before in
-    let gap : 11 ≡ 80 - 22 * 3 - length (letters s.args.currency) = omega (arith, length-letters s.args.currency) in
-    let three = rw (code_read _ (fits-initial s), code_read _ (fits-variation s), code_read _ (fits-total s)) at amounts.put_amounts-end.ensures.text_written in
-    line-written (letters s.args.currency) (s.args.m.initial ∷ s.args.m.variation ∷ s.args.m.total ∷ []) 11 gap left.put_letters-left.ensures.text_written filled.put_blanks-initial.ensures three end.put_text.ensures
+    let gap : 11 ≡ 80 - 22 * 3 - length (letters c.args.currency) = omega (arith, length-letters c.args.currency) in
+    let three = rw (code_read _ (fits-initial (goal.at.returns c).Start), code_read _ (fits-variation (goal.at.returns c).Start), code_read _ (fits-total (goal.at.returns c).Start)) at c.put_amounts-end.ensures.text_written in
+    line-written (letters c.args.currency) (c.args.m.initial ∷ c.args.m.variation ∷ c.args.m.total ∷ []) 11 gap c.put_letters-left.ensures.text_written c.put_blanks-initial.ensures three c.put_text.ensures

@@ -40,17 +40,7 @@ put_text-requires c =
 pub returns : goal.returns
 unfolding curve_line
 returns c =
-    let end = c.before.before in
-    let after-put-text-arg = end.before.before in
-    let after-out3 = after-put-text-arg.before.before in
-    let amounts = after-out3.before in
-    let after-struct-known = amounts.before.before.before in
-    let after-slice-known3 = after-struct-known.before.before in
-    let filled = after-slice-known3.before.before in
-    let after-out = filled.before.before.before in
-    let left = after-out.before in
-    let s = left.before.before.before in
-    let text = curve_left s.args.id s.args.m in
-    let gap : s.args.at + 14 - left.put_curve_left-left.result ≡ 80 - 22 * 3 - length text = omega (arith, left.put_curve_left-left.ensures.text_written.place) in
-    let three = rw (code_read _ (fits-base s), code_read _ (fits-loss s), cast_is s.args.m.tolerance s.requires.1.1.tolerance) at amounts.put_amounts-end.ensures.text_written in
-    line-written text (s.args.m.base ∷ s.args.m.worstloss ∷ pos s.args.m.tolerance ∷ []) _ gap left.put_curve_left-left.ensures.text_written filled.put_blanks-base.ensures three end.put_text.ensures
+    let text = curve_left c.args.id c.args.m in
+    let gap : c.args.at + 14 - c.put_curve_left-left.result ≡ 80 - 22 * 3 - length text = omega (arith, c.put_curve_left-left.ensures.text_written.place) in
+    let three = rw (code_read _ (fits-base (goal.at.returns c).Start), code_read _ (fits-loss (goal.at.returns c).Start), cast_is c.args.m.tolerance c.requires.1.1.tolerance) at c.put_amounts-end.ensures.text_written in
+    line-written text (c.args.m.base ∷ c.args.m.worstloss ∷ pos c.args.m.tolerance ∷ []) _ gap c.put_curve_left-left.ensures.text_written c.put_blanks-base.ensures three c.put_text.ensures

@@ -19,24 +19,15 @@ module _ (s : Start) where
   short-scenario = length-scenario s.args.id s.args.m s.requires.1.0 s.requires.1.1
 
 pub put_digits-scenario-requires : goal.put_digits-scenario-requires
-put_digits-scenario-requires c = let s = c.before.before in omega (arith, s.requires.0, short-id s)
+put_digits-scenario-requires c = let s = c.before.before in omega (arith, s.requires.0, short-id (goal.at.put_digits-scenario-requires c).Start)
 
 pub put_number-currency-requires : goal.put_number-currency-requires
 put_number-currency-requires c =
-    let after-out = c.before.before.before in
-    let id = after-out.before in
-    let s = id.before.before.before in
-    omega (arith, s.requires.0, short-id s, id.put_digits-scenario.ensures.place)
+    omega (arith, c.requires.0, short-id (goal.at.put_number-currency-requires c).Start, c.put_digits-scenario.ensures.place)
 
 pub put_currency-requires : goal.put_currency-requires
 put_currency-requires c =
-    let after-out2 = c.before.before.before in
-    let scenario = after-out2.before in
-    let after-put-number-arg = scenario.before.before in
-    let after-out = after-put-number-arg.before.before in
-    let id = after-out.before in
-    let s = id.before.before.before in
-    omega (arith, s.requires.0, short-id s, id.put_digits-scenario.ensures.place, scenario.put_number-currency.ensures.upper_bound)
+    omega (arith, c.requires.0, short-id (goal.at.put_currency-requires c).Start, c.put_digits-scenario.ensures.place, c.put_number-currency.ensures.upper_bound)
 
 pub returns : goal.returns
 unfolding curve_left ascii
@@ -48,4 +39,4 @@ returns c =
     let after-put-number-arg = scenario.before.before in
     let after-out = after-put-number-arg.before.before in
     let id = after-out.before in
-    let s = id.before.before.before in record { text_written = and_then (and_then id.put_digits-scenario.ensures scenario.put_number-currency.ensures.text_written) currency.put_currency.ensures.text_written; upper_bound = omega (arith, short-id s, short-scenario s, id.put_digits-scenario.ensures.place, scenario.put_number-currency.ensures.text_written.place, currency.put_currency.ensures.value) }
+    let s = id.before.before.before in record { text_written = and_then (and_then id.put_digits-scenario.ensures scenario.put_number-currency.ensures.text_written) currency.put_currency.ensures.text_written; upper_bound = omega (arith, short-id (goal.at.returns c).Start, short-scenario (goal.at.returns c).Start, id.put_digits-scenario.ensures.place, scenario.put_number-currency.ensures.text_written.place, currency.put_currency.ensures.value) }

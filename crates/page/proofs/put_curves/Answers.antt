@@ -35,20 +35,17 @@ module _ (c : In-loop-i) where
 
 pub put_curve-next-requires : goal.put_curve-next-requires
 put_curve-next-requires c =
-    let turn = c.before.before in
-    let few : i turn + 1 ≤ 8 = omega (arith, below turn, turn.requires.0.most) in
-    let limits = turn.requires.0.each (i turn) (below turn) in
-    let long = length-curve-line (i turn + 1) (get_or turn.args.t3 (i turn) no_curve) few limits in
+    let few : i (goal.at.put_curve-next-requires c).In-loop-i + 1 ≤ 8 = omega (arith, below (goal.at.put_curve-next-requires c).In-loop-i, c.requires.0.most) in
+    let limits = c.requires.0.each (i (goal.at.put_curve-next-requires c).In-loop-i) (below (goal.at.put_curve-next-requires c).In-loop-i) in
+    let long = length-curve-line (i (goal.at.put_curve-next-requires c).In-loop-i + 1) (get_or c.args.t3 (i (goal.at.put_curve-next-requires c).In-loop-i) no_curve) few limits in
     let room =
-    text-room (curve_line (i turn + 1) (get_or turn.args.t3 (i turn) no_curve)) (lines_of curve_line (i turn + 1 + 1) (drop (i turn + 1) (take turn.args.count turn.args.t3)))
-    (rw (next turn) at turn.loop-i.invariant.2) turn.requires.1 in
+    text-room (curve_line (i (goal.at.put_curve-next-requires c).In-loop-i + 1) (get_or c.args.t3 (i (goal.at.put_curve-next-requires c).In-loop-i) no_curve)) (lines_of curve_line (i (goal.at.put_curve-next-requires c).In-loop-i + 1 + 1) (drop (i (goal.at.put_curve-next-requires c).In-loop-i + 1) (take c.args.count c.args.t3)))
+    (rw (next (goal.at.put_curve-next-requires c).In-loop-i) at c.loop-i.invariant.2) c.requires.1 in
     (omega (arith, long, room), (few, limits))
 
 pub loop-i-preserved : goal.loop-i-preserved
 loop-i-preserved c =
-    let wrote = c.before.before in
-    let turn = wrote.before.before.before in
-    (search rules, turn.loop-i.invariant.1, text-next (rw (next turn) at turn.loop-i.invariant.2) wrote.put_curve-next.ensures)
+    (search rules, c.loop-i.invariant.1, text-next (rw (next (goal.at.loop-i-preserved c).In-loop-i) at c.loop-i.invariant.2) c.put_curve-next.ensures)
 
 pub returns : goal.returns
 returns c =

@@ -49,13 +49,13 @@ module _ (c : In-Accepted) where
   given = admitted s c.args.used c.args.r c.args.day ok
 
 pub slice_bounds-copy_in-end-in-Accepted : goal.slice_bounds-copy_in-end-in-Accepted
-slice_bounds-copy_in-end-in-Accepted c = let b = sound _ _ (given c.before).accepted in omega (arith, b.lent)
+slice_bounds-copy_in-end-in-Accepted c = let b = sound _ _ (given (goal.at.slice_bounds-copy_in-end-in-Accepted c).In-Accepted).accepted in omega (arith, b.lent)
 
 pub copy_in-requires : goal.copy_in-requires
 copy_in-requires c =
     let c = c.before.before in
     let a = c.args in
-    copy-fits zeros zeros-room a.book.now a.used a.r (given c) (a.used - 0) (omega arith)
+    copy-fits zeros zeros-room a.book.now a.used a.r (given (goal.at.copy_in-requires c).In-Accepted) (a.used - 0) (omega arith)
 
 -- from the copy on
 module _ (c : After-copy_in) where
@@ -71,25 +71,22 @@ module _ (c : After-copy_in) where
   admits-record = copy-admits-record zeros zeros-room (s c) used c.args.r (given c) c.copy_in.new.0 is-copy (bytes c)
 
 pub add-requires : goal.add-requires
-add-requires c = let w = admits-record c.before.before in (w.accepted, record-taken _ _ _ w)
+add-requires c = let w = admits-record (goal.at.add-requires c).After-copy_in in (w.accepted, record-taken _ _ _ w)
 
 pub fill_report-requires : goal.fill_report-requires
 fill_report-requires c =
-    let with-record = c.before.before.before in
-    let copy = with-record.before.before.before in
-    let a = copy.args in
+    let a = c.args in
     record {
       used = _;
-      accepted = copy-accepted-with-record zeros zeros-room a.book.now a.used a.r (given copy) _ (is-copy copy) (bytes copy) (record-long copy) _ _
-          with-record.add.ensures.value with-record.add.ensures.book_after;
+      accepted = copy-accepted-with-record zeros zeros-room a.book.now a.used a.r (given (goal.at.fill_report-requires c).In-Accepted) _ (is-copy (goal.at.fill_report-requires c).After-copy_in) (bytes (goal.at.fill_report-requires c).In-Accepted) (record-long (goal.at.fill_report-requires c).Start) _ _
+          c.add.ensures.value c.add.ensures.book_after;
     }
 
 pub returns-in-Accepted : goal.returns-in-Accepted
 returns-in-Accepted c =
     let filled = c.before.before in
     let with-record = let arg = filled.before in arg.before.before.before in
-    let copy = with-record.before.before.before in
-    let a = copy.args in
-    let p = copy-shown zeros zeros-room a.book.now a.used a.r (given copy) _ (is-copy copy) (bytes copy) (record-long copy) _ _
-    with-record.add.ensures.value with-record.add.ensures.book_after a.day (ok copy) a.out-1.now filled.fill_report.ensures.value filled.fill_report.ensures.out_after in
+    let a = with-record.args in
+    let p = copy-shown zeros zeros-room a.book.now a.used a.r (given (goal.at.returns-in-Accepted c).In-Accepted) _ (is-copy (goal.at.returns-in-Accepted c).After-copy_in) (bytes (goal.at.returns-in-Accepted c).In-Accepted) (record-long (goal.at.returns-in-Accepted c).Start) _ _
+    with-record.add.ensures.value with-record.add.ensures.book_after a.day (ok (goal.at.returns-in-Accepted c).In-Accepted) a.out-1.now filled.fill_report.ensures.value filled.fill_report.ensures.out_after in
     (p.0, (p.1, preview-bounded a.book.now a.used a.day a.r a.out-1.now p.0 p.1))

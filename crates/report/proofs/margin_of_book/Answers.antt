@@ -12,7 +12,7 @@ here : (s : Start) → Sound s.args.book.now s.requires.used
 here s = sound s.args.book.now s.requires.used s.requires.accepted
 
 pub trade_count-requires : goal.trade_count-requires
-trade_count-requires c = let b = here c.before in omega (arith, b.blocks, b.lent)
+trade_count-requires c = let b = here (goal.at.trade_count-requires c).Start in omega (arith, b.blocks, b.lent)
 
 pub margin_with-requires : goal.margin_with-requires
 margin_with-requires c =
@@ -20,6 +20,4 @@ margin_with-requires c =
 
 pub margin_with-requires-2 : goal.margin_with-requires-2
 margin_with-requires-2 c =
-    let counted = c.before.before in
-    let s = counted.before.before in
-    (s.requires, omega (arith, trade-count-most _ _ (here s), length-replicate {A = ℕ} 20412 0))
+    (c.requires, omega (arith, trade-count-most _ _ (here (goal.at.margin_with-requires-2 c).Start), length-replicate {A = ℕ} 20412 0))

@@ -20,7 +20,7 @@ here : (s : Start) → Sound s.args.book.now s.requires.0.used
 here s = sound s.args.book.now s.requires.0.used s.requires.0.accepted
 
 pub curve_count-count-requires : goal.curve_count-count-requires
-curve_count-count-requires c = let b = here c.before.before in omega (arith, b.blocks, b.lent)
+curve_count-count-requires c = let b = here (goal.at.curve_count-count-requires c).Start in omega (arith, b.blocks, b.lent)
 
 pub loop-k-init : goal.loop-k-init
 loop-k-init c = (omega arith, refl, record { places = refl; each = λ i l. absurd (omega arith) })
@@ -43,7 +43,7 @@ below c =
 
 pub loop-k-preserved : goal.loop-k-preserved
 loop-k-preserved c =
-    (omega arith, search rules, placed-next _ _ _ c.loop-k.inv.2 c.curve_figures-m.result (below c) c.curve_figures-m.ensures)
+    (omega arith, search rules, placed-next _ _ _ c.loop-k.invariant.2 c.curve_figures-m.result (below (goal.at.loop-k-preserved c).In-loop-k) c.curve_figures-m.ensures)
 
 -- behind the loop: every curve has its place
 module _ (c : After-loop-k) where
@@ -66,21 +66,20 @@ pub account-requires : goal.account-requires
 account-requires c = let b = here (start c) in omega (arith, b.blocks, b.lent)
 
 pub margin_of-requires : goal.margin_of-requires
-margin_of-requires c = limits c.before
+margin_of-requires c = limits (goal.at.margin_of-requires c).After-loop-k
 
 pub returns : goal.returns
 unfolding margin_in
 returns c =
-    let end = c.before.before in
     c.margin_of.ensures
-    ∙ margin-of end.loop-k.curves end.curve_count-count.result (exposures (start end).args.book.now) (all end) c.account.result
-    ∙ ap (λ (a : ℕ). margin_of a (exposures (start end).args.book.now)) c.account.ensures.value
+    ∙ margin-of c.loop-k.curves c.curve_count-count.result (exposures (start (goal.at.returns c).After-loop-k).args.book.now) (all (goal.at.returns c).After-loop-k) c.account.result
+    ∙ ap (λ (a : ℕ). margin_of a (exposures (start (goal.at.returns c).After-loop-k).args.book.now)) c.account.ensures.value
 
 pub no_curve-curves-requires : goal.no_curve-curves-requires
 no_curve-curves-requires c = tt
 
 pub offset_bounds-curves-k : goal.offset_bounds-curves-k
-offset_bounds-curves-k c = omega (arith, below c)
+offset_bounds-curves-k c = omega (arith, below (goal.at.offset_bounds-curves-k c).In-loop-k)
 
 pub bounds-curves-k : goal.bounds-curves-k
-bounds-curves-k c = below c
+bounds-curves-k c = below (goal.at.bounds-curves-k c).In-loop-k

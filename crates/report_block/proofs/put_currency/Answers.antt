@@ -19,14 +19,7 @@ fits-total s = search rules
 
 pub returns : goal.returns
 returns c =
-    let third = c.before.before in
-    let after-slice-known3 = third.before.before.before in
-    let second = after-slice-known3.before.before in
-    let after-slice-known2 = second.before.before.before in
-    let first = after-slice-known2.before.before in
-    let after-slice-known = first.before.before.before in
-    let s = after-slice-known.before in
-    currency-put _ _ _ _ _ s.args.m
-    (first.put_signed.ensures ∙ read_back _ _ 8 s.args.m.initial (fits-initial s))
-    (second.put_signed-2.ensures ∙ read_back _ _ 8 s.args.m.variation (fits-variation s))
-    (third.put_signed-3.ensures ∙ read_back _ _ 8 s.args.m.total (fits-total s))
+    currency-put _ _ _ _ _ c.args.m
+    (c.put_signed.ensures ∙ read_back _ _ 8 c.args.m.initial (fits-initial (goal.at.returns c).Start))
+    (c.put_signed-2.ensures ∙ read_back _ _ 8 c.args.m.variation (fits-variation (goal.at.returns c).Start))
+    (c.put_signed-3.ensures ∙ read_back _ _ 8 c.args.m.total (fits-total (goal.at.returns c).Start))

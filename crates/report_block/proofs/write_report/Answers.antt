@@ -10,8 +10,4 @@ places s = record { curves = search (rules, length-mapped); currencies = search 
 
 pub returns : goal.returns
 returns c =
-    let sealed = c.before.before in
-    let after-out = sealed.before.before.before in
-    let fields = after-out.before in
-    let s = fields.before.before.before in
-    rw sealed.seal.ensures (report-put s.args.out.now _ s.args.m (places s) s.requires fields.put_fields.ensures)
+    rw c.seal.ensures (report-put c.args.out.now _ c.args.m (places (goal.at.returns c).Start) c.requires c.put_fields.ensures)

@@ -17,25 +17,18 @@ here s = sound s.args.book.now s.requires.used s.requires.accepted
 
 pub trade_count-requires : goal.trade_count-requires
 trade_count-requires c =
-    let after-slice-known = c.before.before in
-    let s = after-slice-known.before.before in
-    let b = here s in
+    let b = here (goal.at.trade_count-requires c).Start in
     omega (arith, b.blocks, b.lent)
 
 pub curve_count-requires : goal.curve_count-requires
 curve_count-requires c =
-    let made = c.before.before in
-    let s = made.before.before.before in
-    let b = here s in
+    let b = here (goal.at.curve_count-requires c).Start in
     omega (arith, b.blocks, b.lent)
 
 pub page_length-needed-requires : goal.page_length-needed-requires
 page_length-needed-requires c =
-    let trades = c.before in
-    let made = trades.before.before in
-    let s = made.before.before.before in
-    let b = here s in
-    (omega (arith, trades.trade_count.ensures, trade-count-most _ _ b), omega (arith, c.curve_count.ensures.value, b.most))
+    let b = here (goal.at.page_length-needed-requires c).Start in
+    (omega (arith, c.trade_count.ensures, trade-count-most _ _ b), omega (arith, c.curve_count.ensures.value, b.most))
 
 -- the length is that of the page
 module _ (c : After-page_length-needed) where
@@ -46,9 +39,8 @@ module _ (c : After-page_length-needed) where
 
 pub returns-then-breaks_space : goal.returns-then-breaks_space
 returns-then-breaks_space c =
-    let asked = c.before in
-    let a = asked.args in
-    let p = text-too-long (page_of a.book.now) a.out-1.now (rw (needed asked.before) at (sym asked.breaks_space.ensures ∙ c.if-breaks_space.true)) in
+    let a = c.args in
+    let p = text-too-long (page_of a.book.now) a.out-1.now (rw (needed (goal.at.returns-then-breaks_space c).After-page_length-needed) at (sym c.breaks_space.ensures ∙ c.if-breaks_space.true)) in
     record { value = p.answer; out_after = p.bytes }
 
 -- there is text-fits
@@ -57,13 +49,10 @@ spacious c = rw (needed c.before.before) at (sym c.breaks_space.ensures ∙ c.if
 
 pub write_page-requires : goal.write_page-requires
 write_page-requires c =
-    let free = c.before in
-    record { starts_with_book = (free.requires, free.margin_of_book-m.ensures); book_in_bounds = text-fits (page_of free.args.book.now) free.args.out.now (spacious free) }
+    record { starts_with_book = (c.requires, c.margin_of_book-m.ensures); book_in_bounds = text-fits (page_of c.args.book.now) c.args.out.now (spacious (goal.at.write_page-requires c).Else-breaks_space) }
 
 pub returns : goal.returns
 returns c =
-    let written = c.before.before in
-    let free = written.before.before in
-    let a = free.args in
-    let p = text_in-front (page_of a.book.now) a.out-1.now (spacious free) written.write_page.ensures.value written.write_page.ensures.out_after in
+    let a = c.args in
+    let p = text_in-front (page_of a.book.now) a.out-1.now (spacious (goal.at.returns c).Else-breaks_space) c.write_page.ensures.value c.write_page.ensures.out_after in
     record { value = p.answer; out_after = p.bytes }

@@ -23,7 +23,7 @@ here : (s : Start) → Sound s.args.book.now s.requires.starts_with_book.used
 here s = sound s.args.book.now s.requires.starts_with_book.used s.requires.starts_with_book.accepted
 
 pub trade_count-count-requires : goal.trade_count-count-requires
-trade_count-count-requires c = let b = here c.before.before in omega (arith, b.blocks, b.lent)
+trade_count-count-requires c = let b = here (goal.at.trade_count-count-requires c).Start in omega (arith, b.blocks, b.lent)
 
 pub loop-i-init : goal.loop-i-init
 loop-i-init c = (omega arith, text-all _ _ _)
@@ -49,14 +49,12 @@ module _ (c : In-loop-i) where
 
 pub record_at-r-requires : goal.record_at-r-requires
 record_at-r-requires c =
-    let b = here c in
+    let b = here (goal.at.record_at-r-requires c).Start in
     omega (arith, (place-held (book c) _ b (i c) (below c)).0, b.blocks, b.lent)
 
 pub fields_of-requires : goal.fields_of-requires
 fields_of-requires c =
-    let read = c.before.before in
-    let turn = read.before in
-    ap length read.record_at-r.ensures ∙ length-record_at (book turn) _ (here turn) (i turn) (below turn)
+    ap length c.record_at-r.ensures ∙ length-record_at (book (goal.at.fields_of-requires c).In-loop-i) _ (here (goal.at.fields_of-requires c).Start) (i (goal.at.fields_of-requires c).In-loop-i) (below (goal.at.fields_of-requires c).In-loop-i)
 
 -- after the record is read: it is the one at the position
 fields-is : (c : After-fields_of) → let read = c.before.before.before in c.fields_of.result ≡ fields_of (record_at (book read.before) (i read.before))
@@ -64,21 +62,15 @@ fields-is c = let read = c.before.before.before in c.fields_of.ensures ∙ ap fi
 
 pub put_trade-next-requires : goal.put_trade-next-requires
 put_trade-next-requires c =
-    let read = c.before.before.before in
-    let turn = read.before in
-    let limits = record-limits (book turn) _ (here turn) (i turn) (below turn) in
-    let long = length-trade-line (i turn) (fields_of (record_at (book turn) (i turn))) limits in
-    let room = text-room (record_line (i turn) (record_at (book turn) (i turn))) (rest turn) (rw (next turn) at turn.loop-i.invariant.1) turn.requires.book_in_bounds in
+    let limits = record-limits (book (goal.at.put_trade-next-requires c).In-loop-i) _ (here (goal.at.put_trade-next-requires c).Start) (i (goal.at.put_trade-next-requires c).In-loop-i) (below (goal.at.put_trade-next-requires c).In-loop-i) in
+    let long = length-trade-line (i (goal.at.put_trade-next-requires c).In-loop-i) (fields_of (record_at (book (goal.at.put_trade-next-requires c).In-loop-i) (i (goal.at.put_trade-next-requires c).In-loop-i))) limits in
+    let room = text-room (record_line (i (goal.at.put_trade-next-requires c).In-loop-i) (record_at (book (goal.at.put_trade-next-requires c).In-loop-i) (i (goal.at.put_trade-next-requires c).In-loop-i))) (rest (goal.at.put_trade-next-requires c).In-loop-i) (rw (next (goal.at.put_trade-next-requires c).In-loop-i) at c.loop-i.invariant.1) c.requires.book_in_bounds in
     (omega (arith, long, room), rw (fields-is c) limits)
 
 pub loop-i-preserved : goal.loop-i-preserved
 loop-i-preserved c =
-    let wrote = c.before.before in
-    let made = wrote.before in
-    let read = made.before.before.before in
-    let turn = read.before in
-    let line = rw (fields-is made) at wrote.put_trade-next.ensures in
-    (omega arith, text-next (rw (next turn) at turn.loop-i.invariant.1) line)
+    let line = rw (fields-is (goal.at.loop-i-preserved c).After-fields_of) at c.put_trade-next.ensures in
+    (omega arith, text-next (rw (next (goal.at.loop-i-preserved c).In-loop-i) at c.loop-i.invariant.1) line)
 
 pub returns : goal.returns
 returns c =

@@ -42,64 +42,31 @@ module _ (s : Start) where
   room = omega (arith, ap length whole, length-parts-of (curve_count book) m (records book), s.requires.book_in_bounds)
 
 pub curve_count-count-requires : goal.curve_count-count-requires
-curve_count-count-requires c = let b = here c.before.before in omega (arith, b.blocks, b.lent)
+curve_count-count-requires c = let b = here (goal.at.curve_count-count-requires c).Start in omega (arith, b.blocks, b.lent)
 
 pub put_title-first-requires : goal.put_title-first-requires
 put_title-first-requires c =
-    let counted = c.before.before.before in
-    let s = counted.before.before.before in
-    omega (arith, room s, length-title-line (m s).account)
+    omega (arith, room (goal.at.put_title-first-requires c).Start, length-title-line (m (goal.at.put_title-first-requires c).Start).account)
 
 pub put_trades-second-requires : goal.put_trades-second-requires
 put_trades-second-requires c =
-    let after-out = c.before.before in
-    let title = after-out.before in
-    let after-currencies = title.before.before in
-    let counted = after-currencies.before.before in
-    let s = counted.before.before.before in
-    record { starts_with_book = s.requires.starts_with_book.0; book_in_bounds = omega (arith, room s, title.put_title-first.ensures.place) }
+    record { starts_with_book = c.requires.starts_with_book.0; book_in_bounds = omega (arith, room (goal.at.put_trades-second-requires c).Start, c.put_title-first.ensures.place) }
 
 pub put_curves-third-requires : goal.put_curves-third-requires
 put_curves-third-requires c =
-    let after-out2 = c.before.before in
-    let trades = after-out2.before in
-    let after-out = trades.before.before.before in
-    let title = after-out.before in
-    let after-currencies = title.before.before in
-    let counted = after-currencies.before.before in
-    let s = counted.before.before.before in
-    let e = counted.curve_count-count.ensures.value in
-    rw e ((limits s).curves-1, omega (arith, room s, title.put_title-first.ensures.place, trades.put_trades-second.ensures.place))
+    let e = c.curve_count-count.ensures.value in
+    rw e ((limits (goal.at.put_curves-third-requires c).Start).curves-1, omega (arith, room (goal.at.put_curves-third-requires c).Start, c.put_title-first.ensures.place, c.put_trades-second.ensures.place))
 
 pub put_currencies-requires : goal.put_currencies-requires
 put_currencies-requires c =
-    let after-out3 = c.before.before in
-    let curves = after-out3.before in
-    let after-out2 = curves.before.before.before in
-    let trades = after-out2.before in
-    let after-out = trades.before.before.before in
-    let title = after-out.before in
-    let after-currencies = title.before.before in
-    let counted = after-currencies.before.before in
-    let s = counted.before.before.before in
-    let e = counted.curve_count-count.ensures.value in
-    let third = rw e at curves.put_curves-third.ensures in
-    rw e record { count_bound = ((limits s).curves-1.most, (limits s).currencies-1); currencies_in_bounds = omega (arith, room s, title.put_title-first.ensures.place, trades.put_trades-second.ensures.place, third.place) }
+    let e = c.curve_count-count.ensures.value in
+    let third = rw e at c.put_curves-third.ensures in
+    rw e record { count_bound = ((limits (goal.at.put_currencies-requires c).Start).curves-1.most, (limits (goal.at.put_currencies-requires c).Start).currencies-1); currencies_in_bounds = omega (arith, room (goal.at.put_currencies-requires c).Start, c.put_title-first.ensures.place, c.put_trades-second.ensures.place, third.place) }
 
 pub returns : goal.returns
 unfolding page
 returns c =
-    let currencies = c.before.before in
-    let after-out3 = currencies.before.before.before in
-    let curves = after-out3.before in
-    let after-out2 = curves.before.before.before in
-    let trades = after-out2.before in
-    let after-out = trades.before.before.before in
-    let title = after-out.before in
-    let after-currencies = title.before.before in
-    let counted = after-currencies.before.before in
-    let s = counted.before.before.before in
-    let e = counted.curve_count-count.ensures.value in
-    let first = and_then (and_then title.put_title-first.ensures trades.put_trades-second.ensures) (rw e at curves.put_curves-third.ensures) in
-    let parts = and_then first (rw e at currencies.put_currencies.ensures) in
-    written_as (page_of (book s)) parts (whole s) s.requires.book_in_bounds
+    let e = c.curve_count-count.ensures.value in
+    let first = and_then (and_then c.put_title-first.ensures c.put_trades-second.ensures) (rw e at c.put_curves-third.ensures) in
+    let parts = and_then first (rw e at c.put_currencies.ensures) in
+    written_as (page_of (book (goal.at.returns c).Start)) parts (whole (goal.at.returns c).Start) c.requires.book_in_bounds

@@ -25,10 +25,9 @@ whole s =
 
 pub value_of_two-sum-requires : goal.value_of_two-sum-requires
 value_of_two-sum-requires c =
-    let in-loop = c.before.before in
-    let s = start in-loop.before in
-    let f = payment-kept s.requires.1 c.payment-f.ensures (omega (arith, in-loop.loop-k-test.true, s.requires.3)) in
-    let g = payment-kept s.requires.1 c.payment-g.ensures (omega (arith, in-loop.loop-k-test.true, s.requires.3)) in
+    let s = start (goal.at.value_of_two-sum-requires c).At-loop-k in
+    let f = payment-kept s.requires.1 c.payment-f.ensures (omega (arith, c.loop-k-test.true, s.requires.3)) in
+    let g = payment-kept s.requires.1 c.payment-g.ensures (omega (arith, c.loop-k-test.true, s.requires.3)) in
     (s.requires.0, f.0, g.0, f.1, g.1, s.requires.4)
 
 -- a turn: the value of the payments left is that of two, and of those behind them
@@ -42,15 +41,14 @@ turn c =
 pub overflow_add-sum : goal.overflow_add-sum
 unfolding unit
 overflow_add-sum c =
-    let in-loop = c.before.before.before in
-    omega (arith, turn c, whole (start in-loop.before))
+    omega (arith, turn c, whole (start (goal.at.overflow_add-sum c).At-loop-k))
 
 pub loop-k-preserved : goal.loop-k-preserved
 loop-k-preserved c = (search rules, omega (arith, turn c))
 
 pub value_of-requires : goal.value_of-requires
 value_of-requires c =
-    let s = start c.before.before.before in
+    let s = start (goal.at.value_of-requires c).At-loop-k in
     let f = payment-kept s.requires.1 c.payment-f-then-k-to.ensures (omega (arith, c.if-k-to.true, s.requires.3)) in
     (s.requires.0, f.0, f.1, s.requires.4)
 
@@ -65,14 +63,12 @@ last c =
 pub overflow_add-result : goal.overflow_add-result
 unfolding unit
 overflow_add-result c =
-    let after-loop = c.before.before.before in
-    omega (arith, last c, whole (start after-loop.before))
+    omega (arith, last c, whole (start (goal.at.overflow_add-result c).At-loop-k))
 
 pub returns-then-k-to : goal.returns-then-k-to
 returns-then-k-to c = omega (arith, last c)
 
 pub returns : goal.returns
 returns c =
-    let at-loop = c.before.before in
-    let a = (start at-loop).args in
-    omega (arith, value_none (nodes_of a.c) a.l at-loop.loop-k.k a.to c.if-k-to.false)
+    let a = (start (goal.at.returns c).At-loop-k).args in
+    omega (arith, value_none (nodes_of a.c) a.l c.loop-k.k a.to c.if-k-to.false)

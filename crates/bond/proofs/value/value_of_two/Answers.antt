@@ -28,8 +28,7 @@ module _ (c : Then-first-second) where
 pub overflow_add-result : goal.overflow_add-result
 unfolding unit
 overflow_add-result c =
-    let known = c.before.before in
-    omega (arith, first known, second known, two-most (nodes_of known.args.c) known.args.f known.args.g known.requires.1 known.requires.2)
+    omega (arith, first (goal.at.overflow_add-result c).Then-first-second, second (goal.at.overflow_add-result c).Then-first-second, two-most (nodes_of c.args.c) c.args.f c.args.g c.requires.1 c.requires.2)
 
 pub returns-then-first-second : goal.returns-then-first-second
-returns-then-first-second c = omega (arith, first c.before.before, second c.before.before)
+returns-then-first-second c = omega (arith, first (goal.at.returns-then-first-second c).Then-first-second, second (goal.at.returns-then-first-second c).Then-first-second)

@@ -15,16 +15,12 @@ curves-counted s = ap (λ (x : Curves). x.count) s.requires.curves_value ∙ cur
 
 pub returns-then-number-curves : goal.returns-then-number-curves
 returns-then-number-curves c =
-    let block = c.before.before.before in
-    let start = block.before.before in
-    let count = curves-counted start in
-    rw (curve-place start.args.book.now start.args.n start.args.k (omega arith) (omega arith), ← block.block_at-b.ensures.result_value)
+    let count = curves-counted (goal.at.returns-then-number-curves c).Start in
+    rw (curve-place c.args.book.now c.args.n c.args.k (omega arith) (omega arith), ← c.block_at-b.ensures.result_value)
     c.curve_verdict.ensures
 
 pub returns : goal.returns
 returns c =
-    let block = c.before.before.before in
-    let start = block.before.before in
-    let count = curves-counted start in
-    rw (trade-place start.args.book.now start.args.n start.args.k (omega arith) (omega arith), ← block.block_at-b.ensures.result_value, ← start.requires.curves_value)
+    let count = curves-counted (goal.at.returns c).Start in
+    rw (trade-place c.args.book.now c.args.n c.args.k (omega arith) (omega arith), ← c.block_at-b.ensures.result_value, ← c.requires.curves_value)
     c.trades_verdict.ensures

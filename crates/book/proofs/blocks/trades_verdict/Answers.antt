@@ -26,20 +26,17 @@ module _ (c : After-or_if-v) where
 pub returns-then-not-is_accepted : goal.returns-then-not-is_accepted
 unfolding trades_verdict
 returns-then-not-is_accepted c =
-    let v = c.before.before in
-    let e = so_far v in
+    let e = so_far (goal.at.returns-then-not-is_accepted c).After-or_if-v in
     e ∙ sym (stops _ _ (rw e at (sym c.is_accepted.ensures ∙ c.if-not-is_accepted.true)))
 
 pub records_verdict-requires : goal.records_verdict-requires
 records_verdict-requires c =
-    let v = c.before.before in
-    let a = v.args in
-    let accepted = sym (so_far v) ∙ is-accepted _ (sym c.is_accepted.ensures ∙ c.if-not-is_accepted.false) in
+    let a = c.args in
+    let accepted = sym (so_far (goal.at.records_verdict-requires c).After-or_if-v) ∙ is-accepted _ (sym c.is_accepted.ensures ∙ c.if-not-is_accepted.false) in
     (search rules, (traded _ _ (unbroken a.k (trades_rules a.b.now a.k a.last) accepted 2)).count.most)
 
 pub returns : goal.returns
 unfolding trades_verdict
 returns c =
-    let told = c.before.before in
-    let accepted = sym (so_far told.before) ∙ is-accepted _ (sym told.is_accepted.ensures ∙ c.if-not-is_accepted.false) in
+    let accepted = sym (so_far (goal.at.returns c).After-or_if-v) ∙ is-accepted _ (sym c.is_accepted.ensures ∙ c.if-not-is_accepted.false) in
     c.records_verdict.ensures ∙ rw accepted

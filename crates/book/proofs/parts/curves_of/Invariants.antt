@@ -15,7 +15,7 @@ use Rattle.book.proofs.Places.{length-curve_blocks}
 use Rattle.book.proofs.parts.curves_of.Given as goal
 
 abbrev pub invariant-loop-k : goal.invariant-loop-k
-invariant-loop-k l = (l.k ≤ 8) × (length l.currency ≡ 8) × ((j : ℕ) → j < l.k → get_or l.currency j 0 ≡ currency l.book j)
+invariant-loop-k l = (l.k ≤ 8) × (length l.currency ≡ 8) × ((j : ℕ) → j < l.k → get_or l.currency j 0 ≡ currency_of (get_or (curve_blocks l.book) j []))
 
 abbrev pub decreases-loop-k : goal.decreases-loop-k
 decreases-loop-k l = 8 - l.k

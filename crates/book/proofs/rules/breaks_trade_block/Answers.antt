@@ -21,7 +21,7 @@ pub record_place-requires : goal.record_place-requires
 record_place-requires c = (few c).most
 
 pub zeros-requires : goal.zeros-requires
-zeros-requires c = let f = few c.before in (omega arith, omega arith)
+zeros-requires c = let f = few (goal.at.zeros-requires c).Else-not-count_fits in (omega arith, omega arith)
 
 pub returns : goal.returns
 unfolding breaks_trade_block

@@ -19,6 +19,5 @@ capped_legs-l-requires c = rw (trade-is c) c.requires.0.limits
 
 pub returns : goal.returns
 returns c =
-    let made = c.before.before in
-    ap (λ (l : Legs). l.payments-1) (c.capped_legs-l.ensures ∙ ap (λ (t : Trade). capped_legs (counted_legs t)) (trade-is made) ∙ ap capped_legs (all-counted made.args.q))
-    ∙ payments-capped made.args.q made.requires.0 made.requires.1
+    ap (λ (l : Legs). l.payments-1) (c.capped_legs-l.ensures ∙ ap (λ (t : Trade). capped_legs (counted_legs t)) (trade-is (goal.at.returns c).After-trade_of) ∙ ap capped_legs (all-counted c.args.q))
+    ∙ payments-capped c.args.q c.requires.0 c.requires.1

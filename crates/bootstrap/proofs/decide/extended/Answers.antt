@@ -15,7 +15,7 @@ end_is c = c.breaks_curve_end.ensures ∙ rw c.open_node-n.ensures
 
 pub returns-then-breaks_curve_end : goal.returns-then-breaks_curve_end
 unfolding extension_verdict
-returns-then-breaks_curve_end c = rw (sym (end_is c.before) ∙ c.if-breaks_curve_end.true)
+returns-then-breaks_curve_end c = rw (sym (end_is (goal.at.returns-then-breaks_curve_end c).After-breaks_curve_end) ∙ c.if-breaks_curve_end.true)
 
 pub priced-requires : goal.priced-requires
 priced-requires c =
@@ -24,16 +24,14 @@ priced-requires c =
     let node = later.before.before in
     let s = node.before.before in (
       rw (node.open_node-n.ensures, node.payments_of-l.ensures)
-          (extends s.args.c s.args.q s.requires.0 s.requires.1 (sym (end_is later.before) ∙ later.if-breaks_curve_end.false)),
+          (extends s.args.c s.args.q s.requires.0 s.requires.1 (sym (end_is (goal.at.priced-requires c).After-breaks_curve_end) ∙ later.if-breaks_curve_end.false)),
       filled.fill.ensures,
     )
 
 pub returns : goal.returns
 unfolding extension_verdict new_node
 returns c =
-    let filled = c.before.before.before in
-    let later = filled.before.before in
-    c.priced.ensures ∙ rw (later.open_node-n.ensures, later.payments_of-l.ensures, sym (end_is later.before) ∙ later.if-breaks_curve_end.false)
+    c.priced.ensures ∙ rw (c.open_node-n.ensures, c.payments_of-l.ensures, sym (end_is (goal.at.returns c).After-breaks_curve_end) ∙ c.if-breaks_curve_end.false)
 
 pub fill-requires : goal.fill-requires
 fill-requires c = length-replicate {A = ℕ} 3694 0

@@ -25,18 +25,16 @@ limits : (s : Start) → PaymentLimits s.args.l
 limits s = rw s.requires.1 s.requires.0.payments
 
 pub overflow_sub-result : goal.overflow_sub-result
-overflow_sub-result c = omega (arith, (limits c.before).some)
+overflow_sub-result c = omega (arith, (limits (goal.at.overflow_sub-result c).Start).some)
 
 pub overflow_mul-result : goal.overflow_mul-result
-overflow_mul-result c = omega (arith, (limits c.before.before).reach)
+overflow_mul-result c = omega (arith, (limits (goal.at.overflow_mul-result c).Start).reach)
 
 pub overflow_add-result : goal.overflow_add-result
-overflow_add-result c = omega (arith, (limits c.before.before.before).reach)
+overflow_add-result c = omega (arith, (limits (goal.at.overflow_add-result c).Start).reach)
 
 pub returns : goal.returns
 returns c =
-    let struct = c.before.before in
-    let s = struct.before.before in
-    let q = s.args.q in
-    rw (to_z-of_z (fits-first s), to_z-of_z (fits-second s), to_z-of_z (fits-third s))
-    (ap (λ (l : Leg). record { day = last_payment l; rate = 0; first = q.first; second = q.second; third = q.third }) s.requires.1)
+    let q = c.args.q in
+    rw (to_z-of_z (fits-first (goal.at.returns c).Start), to_z-of_z (fits-second (goal.at.returns c).Start), to_z-of_z (fits-third (goal.at.returns c).Start))
+    (ap (λ (l : Leg). record { day = last_payment l; rate = 0; first = q.first; second = q.second; third = q.third }) c.requires.1)

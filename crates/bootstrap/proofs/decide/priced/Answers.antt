@@ -25,7 +25,7 @@ range-is c =
     c.breaks_rate_range.ensures ∙ is-of (λ k n l. breaks_rate_range (nodes_of k) n (leg_flows l) cash) c.before
 
 pub returns-then-breaks_rate_range : goal.returns-then-breaks_rate_range
-returns-then-breaks_rate_range c = rw (sym (range-is c.before) ∙ c.if-breaks_rate_range.true)
+returns-then-breaks_rate_range c = rw (sym (range-is (goal.at.returns-then-breaks_rate_range c).After-breaks_rate_range) ∙ c.if-breaks_rate_range.true)
 
 pub rate_for-requires : goal.rate_for-requires
 rate_for-requires c =
@@ -37,4 +37,4 @@ returns c =
     let range = found.before.before in
     let a = range.args in
     let rate = found.rate_for.ensures.value ∙ is-of (λ k n l. rate_for (nodes_of k) n (leg_flows l) a.cash) range.before in
-    rw (sym (range-is range) ∙ found.if-breaks_rate_range.false) (ap Add (c.at_rate.ensures ∙ ap (at_rate a.n) rate))
+    rw (sym (range-is (goal.at.returns c).After-breaks_rate_range) ∙ found.if-breaks_rate_range.false) (ap Add (c.at_rate.ensures ∙ ap (at_rate a.n) rate))

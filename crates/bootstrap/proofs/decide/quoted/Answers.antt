@@ -33,19 +33,15 @@ block_at-requires c = let b = book c in omega (arith, b.blocks, b.lent, (id c).h
 
 pub extended-requires : goal.extended-requires
 extended-requires c =
-    let told = c.before.before in
-    let curve = (curve-sound told.args.book.now told.requires.used (book told) told.args.q.curve (id told).low (id told).high).curve in
-    (rw (c.curve_of.ensures, c.block_at.ensures.result_value) curve, quote-kept _ told.args.q (accepted told))
+    let curve = (curve-sound c.args.book.now c.requires.used (book (goal.at.extended-requires c).In-Accepted) c.args.q.curve (id (goal.at.extended-requires c).In-Accepted).low (id (goal.at.extended-requires c).In-Accepted).high).curve in
+    (rw (c.curve_of.ensures, c.block_at.ensures.result_value) curve, quote-kept _ c.args.q (accepted (goal.at.extended-requires c).In-Accepted))
 
 pub returns-in-Refused : goal.returns-in-Refused
 unfolding in_book_verdict
 returns-in-Refused c =
-    let v = c.before in
-    rw (sym (judged v.before.before) ∙ v.in-Refused.is)
+    rw (sym (judged (goal.at.returns-in-Refused c).After-quote_verdict-v) ∙ c.in-Refused.is)
 
 pub returns-in-Accepted : goal.returns-in-Accepted
 unfolding in_book_verdict
 returns-in-Accepted c =
-    let curve = c.before in
-    let told = curve.before.before in
-    rw (accepted told, c.extended.ensures, curve.curve_of.ensures, curve.block_at.ensures.result_value)
+    rw (accepted (goal.at.returns-in-Accepted c).In-Accepted, c.extended.ensures, c.curve_of.ensures, c.block_at.ensures.result_value)

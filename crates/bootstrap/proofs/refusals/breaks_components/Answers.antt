@@ -20,14 +20,11 @@ fits-third s = search rules
 pub returns : goal.returns
 unfolding breaks_components
 returns c =
-    let second = c.before.before in
-    let first = second.before.before in
-    let s = first.before.before in
     rw (
       c.component_sound-3.ensures,
-      second.component_sound-2.ensures,
-      first.component_sound.ensures,
-      to_z-of_z (fits-first s),
-      to_z-of_z (fits-second s),
-      to_z-of_z (fits-third s),
+      c.component_sound-2.ensures,
+      c.component_sound.ensures,
+      to_z-of_z (fits-first (goal.at.returns c).Start),
+      to_z-of_z (fits-second (goal.at.returns c).Start),
+      to_z-of_z (fits-third (goal.at.returns c).Start),
     )

@@ -54,7 +54,7 @@ module _ (c : Start) where
   product_le = mul-le-mul log-few c.requires.2
 
 pub returns : goal.returns
-returns c = rw (log_is c.before.before) refl
+returns c = rw (log_is (goal.at.returns c).Start) refl
 
 pub bounds-tables-i : goal.bounds-tables-i
 bounds-tables-i c = omega (arith, c.requires.0.places, c.requires.1)
@@ -63,16 +63,16 @@ pub bounds-tables-i-2 : goal.bounds-tables-i-2
 bounds-tables-i-2 c = omega (arith, c.requires.0.places, c.requires.1)
 
 pub overflow_mul-rise : goal.overflow_mul-rise
-overflow_mul-rise c = omega (arith, rise-few c.before.before)
+overflow_mul-rise c = omega (arith, rise-few (goal.at.overflow_mul-rise c).Start)
 
 pub overflow_mul-bend : goal.overflow_mul-bend
-overflow_mul-bend c = omega (arith, square-few c.before.before, part-few c.before.before)
+overflow_mul-bend c = omega (arith, square-few (goal.at.overflow_mul-bend c).Start, part-few (goal.at.overflow_mul-bend c).Start)
 
 pub overflow_sub-result : goal.overflow_sub-result
-overflow_sub-result c = bend-few c.before.before
+overflow_sub-result c = bend-few (goal.at.overflow_sub-result c).Start
 
 pub overflow_add-result : goal.overflow_add-result
-overflow_add-result c = omega (arith, log-few c.before.before)
+overflow_add-result c = omega (arith, log-few (goal.at.overflow_add-result c).Start)
 
 pub overflow_mul-result : goal.overflow_mul-result
-overflow_mul-result c = omega (arith, product_le c.before.before)
+overflow_mul-result c = omega (arith, product_le (goal.at.overflow_mul-result c).Start)

@@ -40,11 +40,11 @@ module _ (c : Start) where
       mul-le-mul two line
 
 pub overflow_mul-two : goal.overflow_mul-two
-overflow_mul-two c = omega (arith, rows-le c.before.before)
+overflow_mul-two c = omega (arith, rows-le (goal.at.overflow_mul-two c).Start)
 
 pub overflow_mul-result : goal.overflow_mul-result
-overflow_mul-result c = omega (arith, last-le c.before.before)
+overflow_mul-result c = omega (arith, last-le (goal.at.overflow_mul-result c).Start)
 
 pub returns : goal.returns
 unfolding cheap_power
-returns c = rw (upper_is c.before.before, middle-is c.before.before) refl
+returns c = rw (upper_is (goal.at.returns c).Start, middle-is (goal.at.returns c).Start) refl

@@ -49,11 +49,7 @@ three c =
 
 pub loop-i-preserved : goal.loop-i-preserved
 loop-i-preserved c =
-    let g = c.before.before in
-    let f = g.before.before in
-    let e = f.before.before in
-    let t = e.before.before in
-    more t (at t + 3) _ (omega arith) (omega arith) (three g) c.t8-in-loop-i-3-1.given c.if-nets-i-ne0-4.false
+    more (goal.at.loop-i-preserved c).In-loop-i (at (goal.at.loop-i-preserved c).In-loop-i + 3) _ (omega arith) (omega arith) (three (goal.at.loop-i-preserved c).Else-nets-i-ne0-3) c.t8-in-loop-i-3-1.given c.if-nets-i-ne0-4.false
 
 pub loop-i-init : goal.loop-i-init
 loop-i-init c = empty-none _ _ c.requires.0
@@ -62,13 +58,13 @@ pub returns-then-nets-i-ne0 : goal.returns-then-nets-i-ne0
 returns-then-nets-i-ne0 c = c.loop-i.invariant
 
 pub returns-then-nets-i-ne0-2 : goal.returns-then-nets-i-ne0-2
-returns-then-nets-i-ne0-2 c = one c.before.before
+returns-then-nets-i-ne0-2 c = one (goal.at.returns-then-nets-i-ne0-2 c).Else-nets-i-ne0
 
 pub returns-then-nets-i-ne0-3 : goal.returns-then-nets-i-ne0-3
-returns-then-nets-i-ne0-3 c = two c.before.before
+returns-then-nets-i-ne0-3 c = two (goal.at.returns-then-nets-i-ne0-3 c).Else-nets-i-ne0-2
 
 pub returns-then-nets-i-ne0-4 : goal.returns-then-nets-i-ne0-4
-returns-then-nets-i-ne0-4 c = three c.before.before
+returns-then-nets-i-ne0-4 c = three (goal.at.returns-then-nets-i-ne0-4 c).Else-nets-i-ne0-3
 
 pub returns : goal.returns
 returns c = c.loop-i.invariant

@@ -25,21 +25,19 @@ overflow_mul-result-2 c =
 
 pub overflow_sub-result : goal.overflow_sub-result
 overflow_sub-result c =
-    let s = c.before.before in
-    let a = s.args in
-    rw (code-start a.slope a.a.day s.requires.2 s.requires.0.day (high s) (high-most s))
-    (fits _ (start-size a.slope a.a.day s.requires.2 s.requires.0.day (high s) (high-most s)))
+    let a = c.args in
+    rw (code-start a.slope a.a.day c.requires.2 c.requires.0.day (high (goal.at.overflow_sub-result c).Start) (high-most (goal.at.overflow_sub-result c).Start))
+    (fits _ (start-size a.slope a.a.day c.requires.2 c.requires.0.day (high (goal.at.overflow_sub-result c).Start) (high-most (goal.at.overflow_sub-result c).Start)))
 
 pub returns : goal.returns
 unfolding line_scale
 returns c =
-    let s = c.before.before in
-    let a = s.args in
-    let size = start-size a.slope a.a.day s.requires.2 s.requires.0.day (high s) (high-most s) in
-    rw (code-start a.slope a.a.day s.requires.2 s.requires.0.day (high s) (high-most s), read_is _ size, back a.slope s.ranges.slope.sfits)
+    let a = c.args in
+    let size = start-size a.slope a.a.day c.requires.2 c.requires.0.day (high (goal.at.returns c).Start) (high-most (goal.at.returns c).Start) in
+    rw (code-start a.slope a.a.day c.requires.2 c.requires.0.day (high (goal.at.returns c).Start) (high-most (goal.at.returns c).Start), read_is _ size, back a.slope c.ranges.slope.sfits)
 
 pub overflow_add-result : goal.overflow_add-result
-overflow_add-result c = omega (arith, high-most c.before)
+overflow_add-result c = omega (arith, high-most (goal.at.overflow_add-result c).Start)
 
 pub overflow_cast-result : goal.overflow_cast-result
-overflow_cast-result c = fits _ (omega (arith, high-most c.before))
+overflow_cast-result c = fits _ (omega (arith, high-most (goal.at.overflow_cast-result c).Start))

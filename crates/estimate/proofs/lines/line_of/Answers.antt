@@ -27,10 +27,9 @@ line_from-requires c = (c.requires.from, omega arith, rw (code_up _ (up-most c))
 pub returns-then-a-b : goal.returns-then-a-b
 unfolding line_of rising
 returns-then-a-b c =
-    let s = c.before in
-    let a = s.args in
-    rw (le-leb _ _ s.if-a-b.true)
-    (c.line_from.ensures ∙ ap (λ (z : ℤ). line_from a.a 0 z) (code_up _ (up-most s) ∙ ap pos s.slope-up.ensures))
+    let a = c.args in
+    rw (le-leb _ _ c.if-a-b.true)
+    (c.line_from.ensures ∙ ap (λ (z : ℤ). line_from a.a 0 z) (code_up _ (up-most (goal.at.returns-then-a-b c).After-slope-up) ∙ ap pos c.slope-up.ensures))
 
 -- it falls
 module _ (c : After-slope-down) where
@@ -52,10 +51,9 @@ line_from-requires-2 c =
 pub returns : goal.returns
 unfolding line_of falling line_scale
 returns c =
-    let s = c.before in
-    let a = s.args in
-    rw (lt-leb _ _ s.if-a-b.false)
-    (c.line_from-2.ensures ∙ ap (λ (z : ℤ). line_from a.a 134217727 z) (down-read _ (down-most s) ∙ ap (λ (n : ℕ). neg_ℤ (pos n)) s.slope-down.ensures))
+    let a = c.args in
+    rw (lt-leb _ _ c.if-a-b.false)
+    (c.line_from-2.ensures ∙ ap (λ (z : ℤ). line_from a.a 134217727 z) (down-read _ (down-most (goal.at.returns c).After-slope-down) ∙ ap (λ (n : ℕ). neg_ℤ (pos n)) c.slope-down.ensures))
 
 pub overflow_cast-up : goal.overflow_cast-up
 overflow_cast-up c = fits _ (omega (arith, up-most c))

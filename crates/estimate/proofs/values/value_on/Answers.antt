@@ -39,30 +39,26 @@ module _ (c : In-loop-i) where
 
 pub between-p-requires : goal.between-p-requires
 between-p-requires c =
-    let turn = c.before.before.before in
-    let h = turn.loop-i.invariant in
-    let k = turn.loop-i-test.true in
-    let p = (begin turn).requires in
+    let h = c.loop-i.invariant in
+    let k = c.loop-i-test.true in
+    let p = (begin (goal.at.between-p-requires c).In-loop-i).requires in
     (ahead _ p.0 _ h.some k, ready-next _ p.0 _ _ _ p.2 p.1 _ _ h k, p.3)
 
 pub bounds-ends-i : goal.bounds-ends-i
 bounds-ends-i c =
-    let turn = c.before.before.before in
-    omega (arith, turn.loop-i-test.true, (begin turn).requires.1.places)
+    omega (arith, c.loop-i-test.true, (begin (goal.at.bounds-ends-i c).In-loop-i).requires.1.places)
 
 pub overflow_add-i : goal.overflow_add-i
 overflow_add-i c =
-    let turn = c.before.before.before.before in
-    omega (arith, turn.loop-i-test.true, (begin turn).requires.0.most)
+    omega (arith, c.loop-i-test.true, (begin (goal.at.overflow_add-i c).In-loop-i).requires.0.most)
 
 pub loop-i-smaller : goal.loop-i-smaller
 loop-i-smaller c = let turn = c.before.before.before.before in omega (arith, turn.loop-i-test.true)
 
 pub loop-i-preserved : goal.loop-i-preserved
 loop-i-preserved c =
-    let turn = c.before.before.before.before in
-    let p = (begin turn).requires in
-    held_next _ p.0 _ _ _ p.2 p.1 _ _ turn.loop-i.invariant turn.loop-i-test.true _ c.between-p.ensures
+    let p = (begin (goal.at.loop-i-preserved c).In-loop-i).requires in
+    held_next _ p.0 _ _ _ p.2 p.1 _ _ c.loop-i.invariant c.loop-i-test.true _ c.between-p.ensures
 
 -- behind the loop
 module _ (c : After-loop-i) where
@@ -77,21 +73,18 @@ module _ (c : After-loop-i) where
 
 pub level-requires-2 : goal.level-requires-2
 level-requires-2 c =
-    let s = end c.before in
+    let s = end (goal.at.level-requires-2 c).After-loop-i in
     (s.requires.0.each (s.args.t1.count - 1) (omega (arith, s.requires.0.least))).rate
 
 pub along-p-requires-2 : goal.along-p-requires-2
 along-p-requires-2 c =
-    let l = c.before.before in
-    let p = (end l).requires in
-    (ready-last _ p.0 _ _ _ p.2 p.1 _ (all l) _ c.level-2.ensures, p.3)
+    let p = (end (goal.at.along-p-requires-2 c).After-loop-i).requires in
+    (ready-last _ p.0 _ _ _ p.2 p.1 _ (all (goal.at.along-p-requires-2 c).After-loop-i) _ c.level-2.ensures, p.3)
 
 pub returns : goal.returns
 returns c =
-    let level = c.before.before in
-    let l = level.before.before in
-    let p = (end l).requires in
-    let v = held_all _ p.0 _ _ _ p.2 p.1 _ (all l) _ level.level-2.ensures _ c.along-p-2.ensures in
+    let p = (end (goal.at.returns c).After-loop-i).requires in
+    let v = held_all _ p.0 _ _ _ p.2 p.1 _ (all (goal.at.returns c).After-loop-i) _ c.level-2.ensures _ c.along-p-2.ensures in
     value_read _ _ _ p.2 _ v
 
 pub overflow_sub-a : goal.overflow_sub-a

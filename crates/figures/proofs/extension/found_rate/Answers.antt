@@ -41,9 +41,8 @@ module _ (c : After-bootstrap-v) where
 pub returns-then-not-is_accepted : goal.returns-then-not-is_accepted
 unfolding rate_found
 returns-then-not-is_accepted c =
-    let called = c.before.before.before in
     let e : is_accepted (bootstrap_verdict known_book 1024 0 bond_quote) ≡ false =
-    ap is_accepted (sym (judged called)) ∙ sym c.is_accepted.ensures ∙ c.if-not-is_accepted.true in
+    ap is_accepted (sym (judged (goal.at.returns-then-not-is_accepted c).After-bootstrap-v)) ∙ sym c.is_accepted.ensures ∙ c.if-not-is_accepted.true in
     rw e
 
 pub returns : goal.returns

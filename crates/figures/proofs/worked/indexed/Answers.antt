@@ -23,8 +23,8 @@ told c =
 
 pub returns-in-Within : goal.returns-in-Within
 unfolding indexed_for
-returns-in-Within c = ap scaled_amount (sym c.in-Within.is ∙ told c.before.before.before)
+returns-in-Within c = ap scaled_amount (sym c.in-Within.is ∙ told (goal.at.returns-in-Within c).After-indexed_by-scaled)
 
 pub returns-in-Over : goal.returns-in-Over
 unfolding indexed_for
-returns-in-Over c = ap scaled_amount (sym c.in-Over.is ∙ told c.before.before)
+returns-in-Over c = ap scaled_amount (sym c.in-Over.is ∙ told (goal.at.returns-in-Over c).After-indexed_by-scaled)

@@ -12,4 +12,4 @@ same c = let a = c.args in c.bracket_of.ensures.same ∙ ap (bracket_of a.rate a
 
 pub returns : goal.returns
 returns c =
-    (same c, (c.bracket_of.ensures.limits, rw (same c) (fine-between c.args.rate c.args.day c.requires.1 c.requires.2)))
+    record { same = same c; limits = c.bracket_of.ensures.limits; between = rw (same c) (fine-between c.args.rate c.args.day c.requires.1 c.requires.2) }

@@ -54,13 +54,13 @@ pub overflow_add-spread-2 : goal.overflow_add-spread-2
 overflow_add-spread-2 c = omega (arith, all-le c)
 
 pub overflow_mul-short : goal.overflow_mul-short
-overflow_mul-short c = omega (arith, product_le c.before)
+overflow_mul-short c = omega (arith, product_le (goal.at.overflow_mul-short c).Start)
 
 pub overflow_add-short : goal.overflow_add-short
-overflow_add-short c = omega (arith, short-le c.before)
+overflow_add-short c = omega (arith, short-le (goal.at.overflow_add-short c).Start)
 
 pub overflow_add-short-2 : goal.overflow_add-short-2
-overflow_add-short-2 c = omega (arith, sum-le _ _ (short-le c.before) (under-le c.before _ c.lost-lost.ensures.1))
+overflow_add-short-2 c = omega (arith, sum-le _ _ (short-le (goal.at.overflow_add-short-2 c).Start) (under-le (goal.at.overflow_add-short-2 c).Start _ c.lost-lost.ensures.1))
 
 -- the upper end
 high_le : (s : Start) (n : ℕ) → n ≤ 1500 → s.args.c + (13 + 4398046511104 * n / 1000000000000) ≤ 5000000000000
@@ -76,5 +76,5 @@ returns c =
     let few = c.lost-lost.ensures.1 in record { same = rw (c.less-low.ensures.0, c.lost-lost.ensures.0) refl; limits = record {
         order = omega (arith, c.less-low.ensures.1);
         most = high_le s _ few;
-        width = wide _ _ _ _ c.less-low.ensures.0 (sum-le _ _ (short-le s) (under-le s _ few)) (over-le s _ few);
+        width = wide _ _ _ _ c.less-low.ensures.0 (sum-le _ _ (short-le (goal.at.returns c).Start) (under-le (goal.at.returns c).Start _ few)) (over-le (goal.at.returns c).Start _ few);
       } }

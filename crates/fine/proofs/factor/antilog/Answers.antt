@@ -28,13 +28,9 @@ module _ (c : Start) where
 
 pub multiply-requires : goal.multiply-requires
 multiply-requires c =
-    let start = c.before.before.before.before in
-    (upper-few start, middle-few start)
+    (upper-few (goal.at.multiply-requires c).Start, middle-few (goal.at.multiply-requires c).Start)
 
 pub returns : goal.returns
 unfolding antilog
 returns c =
-    let first = c.before in
-    let low = first.before in
-    let start = low.before.before.before.before in
-    (rw (c.multiply-2.ensures.0, first.multiply.ensures.0, low.low_power-lowest.ensures.0, upper_is start, middle-is start) refl, c.multiply-2.ensures.1)
+    (rw (c.multiply-2.ensures.0, c.multiply.ensures.0, c.low_power-lowest.ensures.0, upper_is (goal.at.returns c).Start, middle-is (goal.at.returns c).Start) refl, c.multiply-2.ensures.1)

@@ -30,10 +30,10 @@ pub bounds-tables-i : goal.bounds-tables-i
 bounds-tables-i c = omega (arith, c.requires.0.places, c.requires.1)
 
 pub overflow_add-result : goal.overflow_add-result
-overflow_add-result c = omega (arith, sum-le c.before.before.before _ c.step-more.ensures)
+overflow_add-result c = omega (arith, sum-le (goal.at.overflow_add-result c).Start _ c.step-more.ensures)
 
 pub overflow_mul-result : goal.overflow_mul-result
-overflow_mul-result c = omega (arith, product_le c.before.before.before _ c.step-more.ensures)
+overflow_mul-result c = omega (arith, product_le (goal.at.overflow_mul-result c).Start _ c.step-more.ensures)
 
 pub returns : goal.returns
-returns c = rw (log_is c.before.before.before _ c.step-more.ensures) refl
+returns c = rw (log_is (goal.at.returns c).Start _ c.step-more.ensures) refl

@@ -20,4 +20,4 @@ pub discounted-requires : goal.discounted-requires
 discounted-requires c = (c.requires.0, c.requires.1.factor (even c))
 
 pub returns : goal.returns
-returns c rate day k e = c.discounted.ensures ∙ value-of-factor c.args.amount rate day (k.factor (even c.before))
+returns c rate day k e = c.discounted.ensures ∙ value-of-factor c.args.amount rate day (k.factor (even (goal.at.returns c).Else-entry-eq1))

@@ -35,7 +35,7 @@ deviation-off-requires c = ((limits c).amount, (limits c).day)
 pub overflow_add-off : goal.overflow_add-off
 overflow_add-off c =
     let room = rung-room c.loop-rung.invariant c.requires c.loop-rung-test.true in
-    rw c.deviation-off.ensures (omega (arith, (deviation-next _ _ (limits c.before) room).fits))
+    rw c.deviation-off.ensures (omega (arith, (deviation-next _ _ (limits (goal.at.overflow_add-off c).After-payment-f) room).fits))
 
 pub loop-rung-smaller : goal.loop-rung-smaller
 loop-rung-smaller c =
@@ -43,9 +43,8 @@ loop-rung-smaller c =
 
 pub loop-rung-preserved : goal.loop-rung-preserved
 loop-rung-preserved c =
-    let at = c.before.before in
     rw c.deviation-off.ensures
-    (folded-next at.loop-rung.invariant at.requires at.loop-rung-test.true at.payment-f.ensures c.next-rung.ensures (λ n k. deviation-next _ _ (limits at) k))
+    (folded-next c.loop-rung.invariant c.requires c.loop-rung-test.true c.payment-f.ensures c.next-rung.ensures (λ n k. deviation-next _ _ (limits (goal.at.loop-rung-preserved c).After-payment-f) k))
 
 pub returns : goal.returns
 returns c = folded-all c.loop-rung.invariant c.loop-rung-test.false ∙ sum-fold flow_deviation 0 _ ∙ zero-add _
@@ -54,4 +53,4 @@ pub payment-f-requires : goal.payment-f-requires
 payment-f-requires c = here c
 
 pub next-rung-requires : goal.next-rung-requires
-next-rung-requires c = (here c.before.before).0
+next-rung-requires c = (here (goal.at.next-rung-requires c).In-loop-rung).0

@@ -47,8 +47,7 @@ module _ (c : After-payment-f) where
 
 pub net_with-requires : goal.net_with-requires
 net_with-requires c =
-    let at = c.before in
-    (rw (back (net_on at.loop-rung.nets at.payment-f.result.day) c.net_with-arg-1.given) (small at), amount at)
+    (rw (back (net_on c.loop-rung.nets c.payment-f.result.day) c.net_with-arg-1.given) (small (goal.at.net_with-requires c).After-payment-f), amount (goal.at.net_with-requires c).After-payment-f)
 
 pub loop-rung-smaller : goal.loop-rung-smaller
 loop-rung-smaller c =
@@ -60,8 +59,8 @@ loop-rung-preserved c =
     let at = c.before.before.before in
     let net = net_on at.loop-rung.nets at.payment-f.result.day in
     let fit = back net c.net_with-arg-1.given in
-    rw (net-read net at.payment-f.result (small at) (amount at) _ (rw fit at c.net_with.ensures))
-    (folded-next at.loop-rung.invariant at.requires.0 at.loop-rung-test.true at.payment-f.ensures c.next-rung.ensures (λ n k. nets-next _ _ (limits at) k))
+    rw (net-read net at.payment-f.result (small (goal.at.loop-rung-preserved c).After-payment-f) (amount (goal.at.loop-rung-preserved c).After-payment-f) _ (rw fit at c.net_with.ensures))
+    (folded-next at.loop-rung.invariant at.requires.0 at.loop-rung-test.true at.payment-f.ensures c.next-rung.ensures (λ n k. nets-next _ _ (limits (goal.at.loop-rung-preserved c).After-payment-f) k))
 
 pub shape_of-nets : goal.shape_of-nets
 shape_of-nets c =
@@ -80,10 +79,10 @@ pub slice_copy_out-net_with : goal.slice_copy_out-net_with
 slice_copy_out-net_with c = index c
 
 pub offset_bounds-nets-day-in-loop-rung : goal.offset_bounds-nets-day-in-loop-rung
-offset_bounds-nets-day-in-loop-rung c = omega (arith, (limits c.before.before).day)
+offset_bounds-nets-day-in-loop-rung c = omega (arith, (limits (goal.at.offset_bounds-nets-day-in-loop-rung c).After-payment-f).day)
 
 pub bounds-nets-day : goal.bounds-nets-day
-bounds-nets-day c = index c.before.before
+bounds-nets-day c = index (goal.at.bounds-nets-day c).After-payment-f
 
 pub next-rung-requires : goal.next-rung-requires
-next-rung-requires c = (here c.before.before.before).0
+next-rung-requires c = (here (goal.at.next-rung-requires c).In-loop-rung).0

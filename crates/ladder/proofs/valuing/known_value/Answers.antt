@@ -19,8 +19,7 @@ kept_value-requires c = (c.requires.1.amount, (kept c).limits)
 
 pub returns-then-entry-ne0 : goal.returns-then-entry-ne0
 returns-then-entry-ne0 c =
-    let at = c.before in
-    record { value_value = c.kept_value.ensures _ _ (kept at); kept_factors = at.requires.3 }
+    record { value_value = c.kept_value.ensures _ _ (kept (goal.at.returns-then-entry-ne0 c).Then-entry-ne0); kept_factors = c.requires.3 }
 
 pub bracket_at-b-requires : goal.bracket_at-b-requires
 bracket_at-b-requires c =

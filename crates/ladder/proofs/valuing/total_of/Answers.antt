@@ -39,17 +39,15 @@ limits c =
 
 pub with_flow-valuing-requires : goal.with_flow-valuing-requires
 with_flow-valuing-requires c =
-    let turn = c.before.before in
-    let loop = turn.loop-rung in
-    let p = (start turn).requires in
-    (limits-less (omega arith) (rung-room loop.invariant.0 p.1 turn.loop-rung-test.true), p.0, limits c.before, p.2, loop.invariant.1)
+    let loop = c.loop-rung in
+    let p = (start (goal.at.with_flow-valuing-requires c).In-loop-rung).requires in
+    (limits-less (omega arith) (rung-room loop.invariant.0 p.1 c.loop-rung-test.true), p.0, limits (goal.at.with_flow-valuing-requires c).After-payment-f, p.2, loop.invariant.1)
 
 -- a turn's places: the flow valued, and the turn
 
 pub loop-rung-smaller : goal.loop-rung-smaller
 loop-rung-smaller c =
-    let turn = c.before.before.before in
-    fewer-left turn.loop-rung.inv.0 (start turn).requires.1 turn.loop-rung-test.taken c.next-rung.ensures
+    fewer-left c.loop-rung.invariant.0 (start (goal.at.loop-rung-smaller c).In-loop-rung).requires.1 c.loop-rung-test.taken c.next-rung.ensures
 
 pub loop-rung-preserved : goal.loop-rung-preserved
 loop-rung-preserved c =
@@ -57,7 +55,7 @@ loop-rung-preserved c =
     let at = c.before.before in
     let turn = at.before in (
       rw more.0.held
-          (folded-next turn.loop-rung.inv.0 (start turn).requires.1 turn.loop-rung-test.taken at.payment-f.ensures c.next-rung.ensures more.0.limits),
+          (folded-next turn.loop-rung.invariant.0 (start (goal.at.loop-rung-preserved c).In-loop-rung).requires.1 turn.loop-rung-test.taken at.payment-f.ensures c.next-rung.ensures more.0.limits),
       more.1,
     )
 
@@ -77,4 +75,4 @@ pub payment-f-requires : goal.payment-f-requires
 payment-f-requires c = here c
 
 pub next-rung-requires : goal.next-rung-requires
-next-rung-requires c = let after-with-flow = c.before.before in (here after-with-flow.before.before.before).0
+next-rung-requires c = let after-with-flow = c.before.before in (here (goal.at.next-rung-requires c).In-loop-rung).0

@@ -67,7 +67,7 @@ pub with_flow-requires : goal.with_flow-requires
 with_flow-requires c =
     let at = c.before.before in
     let s = at.before in (
-      rw c.with_flow-one.ensures (total-next (rw (one at) (value-most _ s.args.f s.requires.2)) s.requires.2 s.requires.0),
+      rw c.with_flow-one.ensures (total-next (rw (one (goal.at.with_flow-requires c).After-discounted) (value-most _ s.args.f s.requires.2)) s.requires.2 s.requires.0),
       s.requires.3,
       rw (other c) (value-most _ s.args.g s.requires.3),
     )
@@ -78,6 +78,4 @@ added t f g d e p q = rw (q, p, d, e)
 
 pub returns : goal.returns
 returns c =
-    let at = c.before.before.before in
-    let known = at.before in
-    let a = known.args in record { value = added a.total a.f a.g (one at) (other c.before) c.with_flow-one.ensures c.with_flow.ensures; kept_factors = kept-with _ _ (kept-with _ _ known.requires.4 (factor-kept _ _ (first known))) (factor-kept _ _ (second known)) }
+    let a = c.args in record { value = added a.total a.f a.g (one (goal.at.returns c).After-discounted) (other (goal.at.returns c).After-discounted-2) c.with_flow-one.ensures c.with_flow.ensures; kept_factors = kept-with _ _ (kept-with _ _ c.requires.4 (factor-kept _ _ (first (goal.at.returns c).After-factors-both))) (factor-kept _ _ (second (goal.at.returns c).After-factors-both)) }

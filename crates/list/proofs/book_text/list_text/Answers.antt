@@ -37,16 +37,13 @@ module _ (c : Else-breaks_space) where
 
 pub copy_in-requires : goal.copy_in-requires
 copy_in-requires c =
-    let free = c.before.before in
-    simp length-take (omega (arith, length-is free, text-fits (whole free) free.args.out.now (spacious free)))
+    simp length-take (omega (arith, length-is (goal.at.copy_in-requires c).Else-breaks_space, text-fits (whole (goal.at.copy_in-requires c).Else-breaks_space) c.args.out.now (spacious (goal.at.copy_in-requires c).Else-breaks_space)))
 
 pub returns : goal.returns
 unfolding list_answer list_bytes
 returns c =
-    let written = c.before.before in
-    let free = written.before.before.before in
-    let out = free.args.out.now in
-    let rest : List ℕ = drop free.put_listing-n.result (replicate 1481 0) in
-    let put = text-copied (whole free) out rest (length-is free) free.put_listing-n.ensures.out_after (text-fits (whole free) out (spacious free)) written.copy_in.ensures in
-    let p = text_in-front (whole free) out (spacious free) (length-is free) put in
-    (p.answer, (p.bytes, omega (arith, length-is free, free.put_listing-n.ensures.upper_bound)))
+    let out = c.args.out.now in
+    let rest : List ℕ = drop c.put_listing-n.result (replicate 1481 0) in
+    let put = text-copied (whole (goal.at.returns c).Else-breaks_space) out rest (length-is (goal.at.returns c).Else-breaks_space) c.put_listing-n.ensures.out_after (text-fits (whole (goal.at.returns c).Else-breaks_space) out (spacious (goal.at.returns c).Else-breaks_space)) c.copy_in.ensures in
+    let p = text_in-front (whole (goal.at.returns c).Else-breaks_space) out (spacious (goal.at.returns c).Else-breaks_space) (length-is (goal.at.returns c).Else-breaks_space) put in
+    (p.answer, (p.bytes, omega (arith, length-is (goal.at.returns c).Else-breaks_space, c.put_listing-n.ensures.upper_bound)))

@@ -31,7 +31,7 @@ module _ (c : After-shared_slice_known-in-loop-i-1) where
   day = get_or c.args.days.now c.loop-i.i 0
 
   within : day < 10951
-  within = mapping-day _ _ _ _ _ _ c.loop-i.inv c.loop-i-test.taken
+  within = mapping-day _ _ _ _ _ _ c.loop-i.invariant c.loop-i-test.taken
 
   abbrev net : ℤ
   net = net_on c.args.nets.now day
@@ -40,30 +40,23 @@ pub bucket_in-k-requires : goal.bucket_in-k-requires
 bucket_in-k-requires c = let g = c.requires.0 in (g.limits, g.places, g.few)
 
 pub bounds-nets-at : goal.bounds-nets-at
-bounds-nets-at c = let k = c.before.before in omega (arith, within k, k.requires.1.places)
+bounds-nets-at c = let k = c.before.before in omega (arith, within (goal.at.bounds-nets-at c).After-shared_slice_known-in-loop-i-1, k.requires.1.places)
 
 pub net_flow-requires : goal.net_flow-requires
 net_flow-requires c =
-    let k = c.before.before.before in
-    rw (back (net k) c.net_flow-arg-1.given) (omega (arith, (flow-limits _ _ _ _ _ _ k.loop-i.invariant k.loop-i-test.true).amount))
+    rw (back (net (goal.at.net_flow-requires c).After-shared_slice_known-in-loop-i-1) c.net_flow-arg-1.given) (omega (arith, (flow-limits _ _ _ _ _ _ c.loop-i.invariant c.loop-i-test.true).amount))
 
 pub add_mapped-requires : goal.add_mapped-requires
 add_mapped-requires c =
-    let after-bucket = c.before.before.before in
-    let k = after-bucket.before in
-    let inv = k.loop-i.invariant in
-    let h = k.loop-i-test.true in
-    rw (c.net_flow.ensures, back (net k) c.net_flow-arg-1.given, after-bucket.bucket_in-k.ensures)
-    (mapping-room _ _ _ _ _ _ inv h, flow-limits _ _ _ _ _ _ inv h, bucket-limits _ _ _ _ _ _ inv h k.requires.0)
+    let inv = c.loop-i.invariant in
+    let h = c.loop-i-test.true in
+    rw (c.net_flow.ensures, back (net (goal.at.add_mapped-requires c).After-shared_slice_known-in-loop-i-1) c.net_flow-arg-1.given, c.bucket_in-k.ensures)
+    (mapping-room _ _ _ _ _ _ inv h, flow-limits _ _ _ _ _ _ inv h, bucket-limits _ _ _ _ _ _ inv h c.requires.0)
 
 pub loop-i-preserved : goal.loop-i-preserved
 loop-i-preserved c =
-    let after-add = c.before in
-    let after-flow = after-add.before in
-    let after-bucket = after-flow.before.before.before in
-    let k = after-bucket.before in
-    rw (after-add.add_mapped.ensures, after-flow.net_flow.ensures, back (net k) after-flow.net_flow-arg-1.given, after-bucket.bucket_in-k.ensures)
-    (mapping-next _ _ _ _ _ _ k.loop-i.invariant k.loop-i-test.true k.requires.0)
+    rw (c.add_mapped.ensures, c.net_flow.ensures, back (net (goal.at.loop-i-preserved c).After-shared_slice_known-in-loop-i-1) c.net_flow-arg-1.given, c.bucket_in-k.ensures)
+    (mapping-next _ _ _ _ _ _ c.loop-i.invariant c.loop-i-test.true c.requires.0)
 
 pub shape_of-mapped : goal.shape_of-mapped
 shape_of-mapped c =
@@ -76,4 +69,4 @@ pub overflow_cast-day : goal.overflow_cast-day
 overflow_cast-day c = omega (arith, within c)
 
 pub offset_bounds-nets-at : goal.offset_bounds-nets-at
-offset_bounds-nets-at c = omega (arith, within c.before.before)
+offset_bounds-nets-at c = omega (arith, within (goal.at.offset_bounds-nets-at c).After-shared_slice_known-in-loop-i-1)

@@ -18,12 +18,9 @@ module _ (c : After-list_segments) where
 
 pub map_days-requires : goal.map_days-requires
 map_days-requires c =
-    let after_List = c.before.before.before.before in
-    (grid after_List.args.curve after_List.requires.0 after_List.args.components _ (places after_List) after_List.list_segments.ensures.each, after_List.requires.2, after_List.requires.3)
+    (grid c.args.curve c.requires.0 c.args.components _ (places (goal.at.map_days-requires c).After-list_segments) c.list_segments.ensures.each, c.requires.2, c.requires.3)
 
 pub returns : goal.returns
 returns c =
-    let After-map = c.before in
-    let after_List = After-map.before.before.before.before.before in
-    rw After-map.map_days.ensures
-    (mapped-low after_List.args.curve after_List.requires.0 after_List.args.components _ (places after_List) after_List.list_segments.ensures.each _ _ after_List.requires.2)
+    rw c.map_days.ensures
+    (mapped-low c.args.curve c.requires.0 c.args.components _ (places (goal.at.returns c).After-list_segments) c.list_segments.ensures.each _ _ c.requires.2)

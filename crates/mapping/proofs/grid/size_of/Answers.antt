@@ -25,27 +25,25 @@ module _ (c : After-shared_slice_known-in-loop-i-1) where
   day = get_or c.args.days.now c.loop-i.i 0
 
   within : day < 10951
-  within = adding-day _ _ _ _ c.loop-i.inv c.loop-i-test.taken
+  within = adding-day _ _ _ _ c.loop-i.invariant c.loop-i-test.taken
 
   abbrev net : ℤ
   net = net_on c.args.nets.now day
 
   most : c.loop-i.sum + nat_abs net ≤ 140000000000000000
-  most = omega (arith, adding-most _ _ _ _ c.loop-i.inv c.loop-i-test.taken, size-most _ _ c.requires)
+  most = omega (arith, adding-most _ _ _ _ c.loop-i.invariant c.loop-i-test.taken, size-most _ _ c.requires)
 
 pub size-sum-requires : goal.size-sum-requires
-size-sum-requires c = let k = c.before in rw (back (net k) c.size-arg-1.given) (omega (arith, most k))
+size-sum-requires c = let k = c.before in rw (back (net (goal.at.size-sum-requires c).After-shared_slice_known-in-loop-i-1) c.size-arg-1.given) (omega (arith, most (goal.at.size-sum-requires c).After-shared_slice_known-in-loop-i-1))
 
 pub overflow_add-sum : goal.overflow_add-sum
 overflow_add-sum c =
-    let k = c.before.before in
-    rw (c.size-sum.ensures, back (net k) c.size-arg-1.given) (omega (arith, most k))
+    rw (c.size-sum.ensures, back (net (goal.at.overflow_add-sum c).After-shared_slice_known-in-loop-i-1) c.size-arg-1.given) (omega (arith, most (goal.at.overflow_add-sum c).After-shared_slice_known-in-loop-i-1))
 
 pub loop-i-preserved : goal.loop-i-preserved
 loop-i-preserved c =
-    let k = c.before.before in
-    rw (c.size-sum.ensures, back (net k) c.size-arg-1.given)
-    (adding-next _ _ _ _ k.loop-i.invariant k.loop-i-test.true)
+    rw (c.size-sum.ensures, back (net (goal.at.loop-i-preserved c).After-shared_slice_known-in-loop-i-1) c.size-arg-1.given)
+    (adding-next _ _ _ _ c.loop-i.invariant c.loop-i-test.true)
 
 pub returns : goal.returns
 returns c = adding-all _ _ _ _ c.loop-i.invariant c.loop-i-test.false

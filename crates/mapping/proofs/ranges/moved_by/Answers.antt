@@ -28,16 +28,16 @@ module _ (s : Start) where
   product = mul-le-mul {n₂ = 10000} {m₂ = 2000000} (swing-most s.args.x s.requires.0) less
 
 pub overflow_sub-a : goal.overflow_sub-a
-overflow_sub-a c = rw (code c.before) (fits (distance c.before) (omega (arith, less c.before)))
+overflow_sub-a c = rw (code (goal.at.overflow_sub-a c).Start) (fits (distance (goal.at.overflow_sub-a c).Start) (omega (arith, less (goal.at.overflow_sub-a c).Start)))
 
 pub size-requires : goal.size-requires
-size-requires c = rw (same c.before) (omega (arith, less c.before))
+size-requires c = rw (same (goal.at.size-requires c).Start) (omega (arith, less (goal.at.size-requires c).Start))
 
 found : (c : After-size) → c.swing.result * c.size.result ≡ swing c.args.x * nat_abs (distance c.before.before)
 found c = rw (c.size.ensures, c.swing.ensures, same c.before.before)
 
 pub overflow_mul-result : goal.overflow_mul-result
-overflow_mul-result c = omega (arith, found c, product c.before.before)
+overflow_mul-result c = omega (arith, found c, product (goal.at.overflow_mul-result c).Start)
 
 pub returns : goal.returns
-returns c = (found c, omega (arith, found c, product c.before.before))
+returns c = (found c, omega (arith, found c, product (goal.at.returns c).Start))

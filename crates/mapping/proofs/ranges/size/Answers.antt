@@ -30,4 +30,4 @@ overflow_cast-result-2 c =
     to-u64 c.args.z (not_negative c.args.z (tested c.args.z (λ z. lt_z z (pos 0)) false c.ranges.z c.if-z-lt0.left)) (omega (arith, c.requires))
 
 pub returns : goal.returns
-returns c = rw (same c.before) refl
+returns c = rw (same (goal.at.returns c).Start) refl

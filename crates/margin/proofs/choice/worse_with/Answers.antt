@@ -57,4 +57,4 @@ worse-requires c =
     )
 
 pub returns : goal.returns
-returns c = rw (c.worse.ensures, loss-is c.before)
+returns c = rw (c.worse.ensures, loss-is (goal.at.returns c).After-loss_of)

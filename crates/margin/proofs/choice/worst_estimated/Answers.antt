@@ -50,23 +50,20 @@ module _ (c : After-least_of-least) where
   limit = limit-read entry.args.deviation entry.requires.1.small lowest size
 
 pub overflow_mul-limit : goal.overflow_mul-limit
-overflow_mul-limit c = let s = entry c.before in twice-fits s.args.deviation s.requires.1.small
+overflow_mul-limit c = let s = entry (goal.at.overflow_mul-limit c).After-least_of-least in twice-fits s.args.deviation s.requires.1.small
 
 pub overflow_add-limit : goal.overflow_add-limit
 overflow_add-limit c =
-    let l = c.before in
-    limit-fits (entry l).args.deviation (entry l).requires.1.small (lowest l) (size l)
+    limit-fits (entry (goal.at.overflow_add-limit c).After-least_of-least).args.deviation (entry (goal.at.overflow_add-limit c).After-least_of-least).requires.1.small (lowest (goal.at.overflow_add-limit c).After-least_of-least) (size (goal.at.overflow_add-limit c).After-least_of-least)
 
 pub worst_kept-requires : goal.worst_kept-requires
 worst_kept-requires c =
-    let l = c.before in
-    rw (limit l)
-    ((entry l).requires.0, (entry l).requires.1.places, record { place = l.least_of-least.result; within = (least l).within; kept = not-above _ _ })
+    rw (limit (goal.at.worst_kept-requires c).After-least_of-least)
+    ((entry (goal.at.worst_kept-requires c).After-least_of-least).requires.0, (entry (goal.at.worst_kept-requires c).After-least_of-least).requires.1.places, record { place = c.least_of-least.result; within = (least (goal.at.worst_kept-requires c).After-least_of-least).within; kept = not-above _ _ })
 
 pub returns : goal.returns
 returns c =
-    let l = c.before.before in
-    worst-is _ _ _ _ (entry l).requires.1 (least l) _ (rw (limit l) at c.worst_kept.ensures)
+    worst-is _ _ _ _ (entry (goal.at.returns c).After-least_of-least).requires.1 (least (goal.at.returns c).After-least_of-least) _ (rw (limit (goal.at.returns c).After-least_of-least) at c.worst_kept.ensures)
 
 pub offset_bounds-values-least : goal.offset_bounds-values-least
 offset_bounds-values-least c = omega (arith, index c)

@@ -59,31 +59,29 @@ loop-s-init c =
     let k = c.first_kept-first.result in
     let loss = loss-read _ _ c.requires.0.limits k _ c.loss_of.ensures in
     rw (back c.args.limit c.ranges.limit.sfits)
-    (kept-first _ _ _ k (first c.before) _ (ap (λ (z : ℤ). record { amount = z; scenario = k }) loss), omega (arith, c.first_kept-first.ensures.1, c.scenario_count-count.ensures))
+    (kept-first _ _ _ k (first (goal.at.loop-s-init c).After-first_kept-first) _ (ap (λ (z : ℤ). record { amount = z; scenario = k }) loss), omega (arith, c.first_kept-first.ensures.1, c.scenario_count-count.ensures))
 
 pub worse_with-worst-requires : goal.worse_with-worst-requires
 worse_with-worst-requires c =
-    let turn = c.before.before in
-    let l = turn.loop-s in (
-      turn.requires.0,
+    let l = c.loop-s in (
+      c.requires.0,
       record { within = omega (arith, l.invariant.0.within, l.invariant.1); loss = ap (λ (z : ℤ). record { amount = z; scenario = l.worst.scenario }) l.invariant.0.amount },
-      within turn,
+      within (goal.at.worse_with-worst-requires c).In-loop-s,
     )
 
 pub loop-s-preserved : goal.loop-s-preserved
 loop-s-preserved c =
-    let turn = c.before.before in
-    let values = turn.args.values.now in
-    let v = get_or values turn.loop-s.s (pos 0) in
-    let limit = turn.args.limit in
+    let values = c.args.values.now in
+    let v = get_or values c.loop-s.s (pos 0) in
+    let limit = c.args.limit in
     let fv = c.t17-1.given in
-    let fl = turn.ranges.limit.sfits in
-    let h = rw (back limit fl) at turn.loop-s.invariant.0 in
+    let fl = c.ranges.limit.sfits in
+    let h = rw (back limit fl) at c.loop-s.invariant.0 in
     rw (back limit fl) (
       ⊎_elim
           (λ w. rw (w.2, w.1.ensures) (kept_next _ values limit _ _ h _ refl))
           (λ w. rw w.1 (kept_same _ values limit _ _ h (le_z-no v limit (compared le_z v limit false fv fl w.0.left)))) c.if-values-s.branch,
-      omega (arith, within turn),
+      omega (arith, within (goal.at.loop-s-preserved c).In-loop-s),
     )
 
 -- where all are passed

@@ -21,22 +21,20 @@ flows s = let p = s.args.position in ladder_flows p.id s.args.ladder.now p.sched
 
 pub net_days-requires : goal.net_days-requires
 net_days-requires c =
-    let s = c.before.before.before in
-    let h = s.requires.0.schedules in
-    (h, length-replicate {A = ℤ} 10951 (pos 0), nets-none (length (flows s)) h.few)
+    let h = c.requires.0.schedules in
+    (h, length-replicate {A = ℤ} 10951 (pos 0), nets-none (length (flows (goal.at.net_days-requires c).Start)) h.few)
 
 pub screen-requires : goal.screen-requires
 screen-requires c =
-    let netted = c.before.before.before in
-    let p = netted.args.position in
-    let h = netted.requires.0 in
-    let e = netted.net_days.ensures in (
+    let p = c.args.position in
+    let h = c.requires.0 in
+    let e = c.net_days.ensures in (
       h.proper,
       h.stress,
-      netted.requires.1,
-      rw e (nets-length (flows netted) (replicate 10951 (pos 0)) ∙ length-replicate {A = ℤ} 10951 (pos 0)),
-      rw e (nets-size (flows netted) (ladder-limits p.id netted.args.ladder.now p.schedules h.schedules) h.schedules.few),
-      netted.requires.2,
+      c.requires.1,
+      rw e (nets-length (flows (goal.at.screen-requires c).Start) (replicate 10951 (pos 0)) ∙ length-replicate {A = ℤ} 10951 (pos 0)),
+      rw e (nets-size (flows (goal.at.screen-requires c).Start) (ladder-limits p.id c.args.ladder.now p.schedules h.schedules) h.schedules.few),
+      c.requires.2,
     )
 
 pub returns : goal.returns

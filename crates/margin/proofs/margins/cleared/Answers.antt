@@ -13,15 +13,12 @@ places : (s : Start) → length s.args.curves ≡ 8
 places s = search rules
 
 pub loop-i-init : goal.loop-i-init
-loop-i-init c = filling-none _ _ _ (omega (arith, places c.before, c.requires))
+loop-i-init c = filling-none _ _ _ (omega (arith, places (goal.at.loop-i-init c).Start, c.requires))
 
 pub loop-i-preserved : goal.loop-i-preserved
 loop-i-preserved c =
-    let l = c.before in
-    let none = l.before in
-    rw none.no_curve-none.ensures (filling-next _ _ _ _ _ l.loop-i.invariant (omega (arith, places none.before)))
+    rw c.no_curve-none.ensures (filling-next _ _ _ _ _ c.loop-i.invariant (omega (arith, places (goal.at.loop-i-preserved c).Start)))
 
 pub returns : goal.returns
 returns c =
-    let l = c.before in
-    filling-all _ _ _ _ _ l.loop-i.invariant 8 (places l.before.before) (search rules)
+    filling-all _ _ _ _ _ c.loop-i.invariant 8 (places (goal.at.returns c).Start) (search rules)

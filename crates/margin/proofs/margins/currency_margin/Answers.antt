@@ -14,16 +14,13 @@ places s = search rules
 
 pub with_curve-t-requires : goal.with_curve-t-requires
 with_curve-t-requires c =
-    let s = c.before.before.before in
     let l = c.loop-i in
-    let k : l.i < s.args.count = search rules in
-    (summed-room _ _ _ s.requires (places s) _ _ l.invariant k, s.requires.each l.i k)
+    let k : l.i < c.args.count = search rules in
+    (summed-room _ _ _ c.requires (places (goal.at.with_curve-t-requires c).Start) _ _ l.invariant k, c.requires.each l.i k)
 
 pub loop-i-preserved : goal.loop-i-preserved
 loop-i-preserved c =
-    let l = c.before.before.before in
-    let s = l.before in
-    rw c.with_curve-t.ensures (summed-next _ _ _ s.requires (places s) _ _ l.loop-i.invariant (search rules))
+    rw c.with_curve-t.ensures (summed-next _ _ _ c.requires (places (goal.at.loop-i-preserved c).Start) _ _ c.loop-i.invariant (search rules))
 
 -- what the loop leaves
 limits : (c : After-loop-i) → SumsLimits 8 c.loop-i.t
@@ -33,14 +30,12 @@ limits c =
 
 pub overflow_sub-result : goal.overflow_sub-result
 overflow_sub-result c =
-    let h = limits c.before.before in
+    let h = limits (goal.at.overflow_sub-result c).After-loop-i in
     rw (code-total _ h) (fits _ (total_size _ h))
 
 pub returns : goal.returns
 returns c =
-    let e = c.before.before.before in
-    let s = e.before.before in
-    code-figures _ (limits e) ∙ summed-all _ _ _ s.requires (places s) _ _ e.loop-i.invariant (search rules)
+    code-figures _ (limits (goal.at.returns c).After-loop-i) ∙ summed-all _ _ _ c.requires (places (goal.at.returns c).Start) _ _ c.loop-i.invariant (search rules)
 
 pub loop-i-init : goal.loop-i-init
 loop-i-init c = summed-none _ _ _

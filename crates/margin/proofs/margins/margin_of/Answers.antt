@@ -16,5 +16,4 @@ inside s = omega (arith, places s, s.requires.most)
 
 pub returns : goal.returns
 returns c =
-    let lira = c.before.before.before in
-    assembled-is _ _ _ _ _ _ _ (inside lira.before) c.cleared-places.ensures lira.currency_margin-lira.ensures c.currency_margin-dollar.ensures c.currency_margin-euro.ensures
+    assembled-is _ _ _ _ _ _ _ (inside (goal.at.returns c).Start) c.cleared-places.ensures c.currency_margin-lira.ensures c.currency_margin-dollar.ensures c.currency_margin-euro.ensures

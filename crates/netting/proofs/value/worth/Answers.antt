@@ -33,14 +33,14 @@ scaled-lifted-requires c = rw (sum-read c) (sum-size c, c.requires.1)
 -- what it is worth, and what is taken off again
 module _ (c : After-scaled-lifted) where
   value-is : c.scaled-lifted.result ≡ nat_abs (c.args.net +ℤ pos lift) * c.args.factor / whole
-  value-is = c.scaled-lifted.ensures ∙ ap (λ (n : ℕ). n * c.args.factor / whole) (sum-read c)
+  value-is = c.scaled-lifted.ensures ∙ ap (λ (n : ℕ). n * c.args.factor / whole) (sum-read c.before)
 
   value-size : c.scaled-lifted.result ≤ 500000000000000000
   unfolding whole
   value-size =
       let amount : ℕ = nat_abs (c.args.net +ℤ pos lift) in
       let most : amount * c.args.factor / 2147483648 ≤ amount = div-le_of_le-mul 2147483648 (omega (arith, mul-le-mul_left amount c.requires.1)) in
-      omega (arith, value-is, most, sum-size c)
+      omega (arith, value-is, most, sum-size c.before)
 
   value-cast : cast c.scaled-lifted.result ≡ pos c.scaled-lifted.result
   value-cast = cast_is c.scaled-lifted.result (omega (arith, value-size))

@@ -17,26 +17,15 @@ small s = omega (arith, s.requires.1.nominal)
 
 pub overflow_cast-f : goal.overflow_cast-f
 overflow_cast-f c =
-    let after-out = c.before.before.before in
-    let left = after-out.before in
-    let s = left.before.before.before in
-    record { sfits = small s }
+    record { sfits = small (goal.at.overflow_cast-f c).Start }
 
 pub returns : goal.returns
 unfolding trade_line
 returns c =
-    let end = c.before.before in
-    let after-put-text-arg = end.before.before in
-    let after-out2 = after-put-text-arg.before.before in
-    let nominal = after-out2.before in
-    let after-struct-known = nominal.before in
-    let after-out = after-struct-known.before.before.before in
-    let left = after-out.before in
-    let s = left.before.before.before in
-    let text = trade_left s.args.position s.args.f in
-    let width = s.args.at + 80 - left.put_trade_left-left.result in
-    let shown = rw (cast_is s.args.f.amounts.nominal (small s)) at nominal.put_right_aligned-end.ensures.text_written in
-    let place = left.put_trade_left-left.ensures.text_written.place in
-    one-amount-line text (pos s.args.f.amounts.nominal) width (omega (arith, place, left.put_trade_left-left.ensures.upper_bound)) (omega (arith, left.put_trade_left-left.ensures.upper_bound))
-    (omega (arith, length-amount (pos s.args.f.amounts.nominal) (omega (arith, small s))))
-    left.put_trade_left-left.ensures.text_written shown end.put_text.ensures
+    let text = trade_left c.args.position c.args.f in
+    let width = c.args.at + 80 - c.put_trade_left-left.result in
+    let shown = rw (cast_is c.args.f.amounts.nominal (small (goal.at.returns c).Start)) at c.put_right_aligned-end.ensures.text_written in
+    let place = c.put_trade_left-left.ensures.text_written.place in
+    one-amount-line text (pos c.args.f.amounts.nominal) width (omega (arith, place, c.put_trade_left-left.ensures.upper_bound)) (omega (arith, c.put_trade_left-left.ensures.upper_bound))
+    (omega (arith, length-amount (pos c.args.f.amounts.nominal) (omega (arith, small (goal.at.returns c).Start))))
+    c.put_trade_left-left.ensures.text_written shown c.put_text.ensures

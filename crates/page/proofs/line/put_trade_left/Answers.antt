@@ -24,75 +24,39 @@ module _ (s : Start) where
 
 pub put_digits-kind-requires : goal.put_digits-kind-requires
 put_digits-kind-requires c =
-    let s = c.before.before.before in
-    omega (arith, s.requires.0, short-position s)
+    omega (arith, c.requires.0, short-position (goal.at.put_digits-kind-requires c).Start)
 
 pub put_number-side-requires : goal.put_number-side-requires
 put_number-side-requires c =
-    let after-out = c.before.before.before in
-    let position = after-out.before in
-    let after-form = position.before.before in
-    let s = after-form.before.before in
-    omega (arith, s.requires.0, short-position s, position.put_digits-kind.ensures.place)
+    omega (arith, c.requires.0, short-position (goal.at.put_number-side-requires c).Start, c.put_digits-kind.ensures.place)
 
 pub put_number-day-requires : goal.put_number-day-requires
 put_number-day-requires c =
-    let after-out2 = c.before.before.before in
-    let kind = after-out2.before in
-    let after-put-number-arg = kind.before.before in
-    let after-out = after-put-number-arg.before.before in
-    let position = after-out.before in
-    let after-form = position.before.before in
-    let s = after-form.before.before in
-    omega (arith, s.requires.0, short-position s, short-kind s, position.put_digits-kind.ensures.place, kind.put_number-side.ensures.text_written.place)
+    omega (arith, c.requires.0, short-position (goal.at.put_number-day-requires c).Start, short-kind (goal.at.put_number-day-requires c).Start, c.put_digits-kind.ensures.place, c.put_number-side.ensures.text_written.place)
 
 pub put_number-requires : goal.put_number-requires
 put_number-requires c =
-    let after-put-number-arg5 = c.before.before in
-    let after-out3 = after-put-number-arg5.before.before in
-    let side = after-out3.before in
-    let after-put-number-arg3 = side.before.before in
-    let after-out2 = after-put-number-arg3.before.before in
-    let kind = after-out2.before in
-    let after-put-number-arg = kind.before.before in
-    let after-out = after-put-number-arg.before.before in
-    let position = after-out.before in
-    let after-form = position.before.before in
-    let s = after-form.before.before in
     omega (
       arith,
-      s.requires.0,
-      short-position s,
-      short-kind s,
-      short-side s,
-      position.put_digits-kind.ensures.place,
-      kind.put_number-side.ensures.text_written.place,
-      side.put_number-day.ensures.text_written.place,
+      c.requires.0,
+      short-position (goal.at.put_number-requires c).Start,
+      short-kind (goal.at.put_number-requires c).Start,
+      short-side (goal.at.put_number-requires c).Start,
+      c.put_digits-kind.ensures.place,
+      c.put_number-side.ensures.text_written.place,
+      c.put_number-day.ensures.text_written.place,
     )
 
 pub returns : goal.returns
 unfolding trade_left ascii
 returns c =
-    let day = c.before.before in
-    let dated = day.before in
-    let after-put-number-arg5 = dated.before.before in
-    let after-out3 = after-put-number-arg5.before.before in
-    let side = after-out3.before in
-    let after-put-number-arg3 = side.before.before in
-    let after-out2 = after-put-number-arg3.before.before in
-    let kind = after-out2.before in
-    let after-put-number-arg = kind.before.before in
-    let after-out = after-put-number-arg.before.before in
-    let position = after-out.before in
-    let after-form = position.before.before in
-    let s = after-form.before.before in
-    let last = rw dated.line_day.ensures at day.put_number.ensures.text_written in record { text_written = and_then (and_then (and_then position.put_digits-kind.ensures kind.put_number-side.ensures.text_written) side.put_number-day.ensures.text_written) last; upper_bound = omega (
+    let last = rw c.line_day.ensures at c.put_number.ensures.text_written in record { text_written = and_then (and_then (and_then c.put_digits-kind.ensures c.put_number-side.ensures.text_written) c.put_number-day.ensures.text_written) last; upper_bound = omega (
         arith,
-        short-position s,
-        short-kind s,
-        short-side s,
-        position.put_digits-kind.ensures.place,
-        kind.put_number-side.ensures.text_written.place,
-        side.put_number-day.ensures.text_written.place,
-        day.put_number.ensures.upper_bound,
+        short-position (goal.at.returns c).Start,
+        short-kind (goal.at.returns c).Start,
+        short-side (goal.at.returns c).Start,
+        c.put_digits-kind.ensures.place,
+        c.put_number-side.ensures.text_written.place,
+        c.put_number-day.ensures.text_written.place,
+        c.put_number.ensures.upper_bound,
       ) }

@@ -49,25 +49,21 @@ fill_values-requires c =
 
 pub lower-requires : goal.lower-requires
 lower-requires c =
-    let f = c.before.before.before in
-    let s = entry f in
+    let s = entry (goal.at.lower-requires c).After-fill_values in
     let n = c.scenario_count.ensures in
     let most = scenarios-most s.args.components s.requires.1 in
-    let low = f.map_nets.ensures in
-    (omega (arith, n, most, f.fill_values.ensures.kept, s.requires.5), counted _ _ n (filled-small s.args.curve s.args.components _ low.size _ f.fill_values.ensures.each), rw s.requires.4 (omega (arith, spare-most _ _ s.requires.2)), omega (arith, n, most))
+    let low = c.map_nets.ensures in
+    (omega (arith, n, most, c.fill_values.ensures.kept, s.requires.5), counted _ _ n (filled-small s.args.curve s.args.components _ low.size _ c.fill_values.ensures.each), rw s.requires.4 (omega (arith, spare-most _ _ s.requires.2)), omega (arith, n, most))
   where
     counted : (n m : ℕ) {P : ℕ → Type 0} → n ≡ m → ((s : ℕ) → s < m → P s) → (s : ℕ) → s < n → P s
     counted n m e h s k = h s (omega arith)
 
 pub returns : goal.returns
 returns c =
-    let after_lower = c.before in
-    let counted = after_lower.before in
-    let f = counted.before.before.before in
-    let s = entry f in
-    let low = f.map_nets.ensures in
-    let lowered = rw (counted.scenario_count.ensures, s.requires.4) at after_lower.lower.ensures.each in
-    record { kept = after_lower.lower.ensures.kept ∙ f.fill_values.ensures.kept; low = λ e. (low-none-above s.args.curve s.args.components _ _ _ low _ _ f.fill_values.ensures.each lowered, low_small s.args.curve s.args.components _ _ _ low _ _ f.fill_values.ensures.each lowered (spare-most _ _ s.requires.2)) }
+    let s = entry (goal.at.returns c).After-fill_values in
+    let low = c.map_nets.ensures in
+    let lowered = rw (c.scenario_count.ensures, s.requires.4) at c.lower.ensures.each in
+    record { kept = c.lower.ensures.kept ∙ c.fill_values.ensures.kept; low = λ e. (low-none-above s.args.curve s.args.components _ _ _ low _ _ c.fill_values.ensures.each lowered, low_small s.args.curve s.args.components _ _ _ low _ _ c.fill_values.ensures.each lowered (spare-most _ _ s.requires.2)) }
 
 pub slice_bounds-fill_values-end : goal.slice_bounds-fill_values-end
 slice_bounds-fill_values-end c = let l = let else = c.before in else.before.before in sym (length-take-le _ _ (room l))

@@ -19,18 +19,16 @@ module _ (c : In-loop-s) where
   value = get_or c.loop-s.values c.loop-s.s (pos 0)
 
   small : Small value
-  small = rw (c.loop-s.inv.1.rest c.loop-s.s (omega arith)) (c.requires.1 c.loop-s.s c.loop-s-test.true)
+  small = rw (c.loop-s.invariant.1.rest c.loop-s.s (omega arith)) (c.requires.1 c.loop-s.s c.loop-s-test.true)
 
 pub lowered-requires : goal.lowered-requires
 lowered-requires c =
-    let turn = c.before in
-    (rw (back (value turn) c.lowered-arg-1.given) (small turn), turn.requires.2)
+    (rw (back (value (goal.at.lowered-requires c).In-loop-s) c.lowered-arg-1.given) (small (goal.at.lowered-requires c).In-loop-s), c.requires.2)
 
 pub loop-s-preserved : goal.loop-s-preserved
 loop-s-preserved c =
-    let turn = c.before.before in
-    let found = rw (back (value turn) c.lowered-arg-1.given) at c.lowered.ensures in
-    (omega (arith, turn.loop-s-test.true), lowering-next _ _ _ _ turn.loop-s.inv.1 (omega (arith, turn.loop-s-test.true, turn.requires.0)) _ (kept _ (value turn) turn.args.spare found (small turn) turn.requires.2))
+    let found = rw (back (value (goal.at.loop-s-preserved c).In-loop-s) c.lowered-arg-1.given) at c.lowered.ensures in
+    (omega (arith, c.loop-s-test.true), lowering-next _ _ _ _ c.loop-s.invariant.1 (omega (arith, c.loop-s-test.true, c.requires.0)) _ (kept _ (value (goal.at.loop-s-preserved c).In-loop-s) c.args.spare found (small (goal.at.loop-s-preserved c).In-loop-s) c.requires.2))
   where
     kept : (z v : ℤ) (t : ℕ) → z ≡ v -ℤ pos t → Small v → t ≤ 1000000000000000000 → read z ≡ v -ℤ pos t
     kept z v t e h k = rw e (read_is (v -ℤ pos t) (omega (arith, abs-sub v (pos t))))

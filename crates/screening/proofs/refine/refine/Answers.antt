@@ -58,14 +58,14 @@ module _ (c : In-loop-s) where
   fits-place = omega (arith, within, scenarios-most _ entry.requires.1)
 
 pub scenario-requires-then-v-limit : goal.scenario-requires-then-v-limit
-scenario-requires-then-v-limit c = let c = c.before.before in ((entry c).requires.1, within c)
+scenario-requires-then-v-limit c = let c = c.before.before in ((entry (goal.at.scenario-requires-then-v-limit c).In-loop-s).requires.1, within (goal.at.scenario-requires-then-v-limit c).In-loop-s)
 
 pub value_in-v-requires : goal.value_in-v-requires
 value_in-v-requires c =
     let after-scenario = c.before in
     let c = after-scenario.before.before.before in
-    let p = (entry c).requires in
-    (p.0, rw after-scenario.scenario-then-v-limit.ensures (scenario-limits _ _ (within c) p.1), (c.before).fill_ends.ensures, p.2, p.3)
+    let p = (entry (goal.at.value_in-v-requires c).In-loop-s).requires in
+    (p.0, rw after-scenario.scenario-then-v-limit.ensures (scenario-limits _ _ (within (goal.at.value_in-v-requires c).In-loop-s) p.1), (c.before).fill_ends.ensures, p.2, p.3)
 
 -- what is written
 module _ (c : Joined-v-limit) where
@@ -90,7 +90,7 @@ module _ (c : Joined-v-limit) where
 
 pub loop-s-preserved : goal.loop-s-preserved
 loop-s-preserved c =
-    (omega (arith, c.loop-s-test.taken), refining-next _ _ _ _ _ _ _ c.loop-s.inv.1 (omega (arith, within c, (entry c).requires.4)) _ (written c))
+    (omega (arith, c.loop-s-test.taken), refining-next _ _ _ _ _ _ _ c.loop-s.invariant.1 (omega (arith, within (goal.at.loop-s-preserved c).In-loop-s, (entry (goal.at.loop-s-preserved c).In-loop-s).requires.4)) _ (written c))
 
 pub returns : goal.returns
 returns c =
@@ -110,13 +110,13 @@ pub slice_copy_out-v : goal.slice_copy_out-v
 slice_copy_out-v c = omega (arith, within c, (entry c).requires.4, c.loop-s.invariant.1.places)
 
 pub offset_bounds-values-at-in-loop-s : goal.offset_bounds-values-at-in-loop-s
-offset_bounds-values-at-in-loop-s c = omega (arith, fits-place c.before.before)
+offset_bounds-values-at-in-loop-s c = omega (arith, fits-place (goal.at.offset_bounds-values-at-in-loop-s c).In-loop-s)
 
 pub bounds-values-at : goal.bounds-values-at
-bounds-values-at c = let c = c.before.before in omega (arith, within c, (entry c).requires.4, c.loop-s.invariant.1.places)
+bounds-values-at c = let c = c.before.before in omega (arith, within (goal.at.bounds-values-at c).In-loop-s, (entry (goal.at.bounds-values-at c).In-loop-s).requires.4, c.loop-s.invariant.1.places)
 
 pub overflow_add-s : goal.overflow_add-s
-overflow_add-s c = omega (arith, fits-place c.before.before)
+overflow_add-s c = omega (arith, fits-place (goal.at.overflow_add-s c).In-loop-s)
 
 pub loop-s-smaller : goal.loop-s-smaller
 loop-s-smaller c = omega (arith, c.loop-s-test.true)

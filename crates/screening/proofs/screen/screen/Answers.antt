@@ -35,21 +35,18 @@ module _ (c : After-list_days-count) where
   days-listed = record { places = c.requires.3; list = c.list_days-count.ensures.list.1; size = c.requires.4 }
 
 pub size_of-size-requires : goal.size_of-size-requires
-size_of-size-requires c = days-listed c.before.before
+size_of-size-requires c = days-listed (goal.at.size_of-size-requires c).After-list_days-count
 
 -- with their size
 
 pub screen_mapped-requires : goal.screen_mapped-requires
 unfolding spare_of
 screen_mapped-requires c =
-    let then = c.before.before in
-    let tested = then.before in
-    let sized = tested.before.before in
-    let p = sized.requires in
-    let few : count sized ≤ 10951 = omega (arith, sized.list_days-count.ensures.list.0, p.3) in
-    let size : net_size sized.args.nets.now (days sized) ≤ 139000000000000000 =
-    omega (arith, sized.type_size.ensures, tested.mappable.ensures then.if-mappable.true) in
-    (p.0, p.1, days-listed sized, record { places = p.3; list = sized.list_days-count.ensures.list.1; few = omega (arith, days-count sized, few); size = size }, p.2, rw (sized.type_size.ensures, days-count sized), p.5)
+    let p = c.requires in
+    let few : count (goal.at.screen_mapped-requires c).After-list_days-count ≤ 10951 = omega (arith, c.list_days-count.ensures.list.0, p.3) in
+    let size : net_size c.args.nets.now (days (goal.at.screen_mapped-requires c).After-list_days-count) ≤ 139000000000000000 =
+    omega (arith, c.type_size.ensures, c.mappable.ensures c.if-mappable.true) in
+    (p.0, p.1, days-listed (goal.at.screen_mapped-requires c).After-list_days-count, record { places = p.3; list = c.list_days-count.ensures.list.1; few = omega (arith, days-count (goal.at.screen_mapped-requires c).After-list_days-count, few); size = size }, p.2, rw (c.type_size.ensures, days-count (goal.at.screen_mapped-requires c).After-list_days-count), p.5)
 
 pub fill_values-requires : goal.fill_values-requires
 fill_values-requires c =
@@ -62,13 +59,13 @@ pub returns : goal.returns
 returns c = let filled = c.fill_values.ensures in record { kept = filled.0; each = filled-screened _ _ _ _ filled.1 }
 
 pub slice_bounds-days-end : goal.slice_bounds-days-end
-slice_bounds-days-end c = room c.before
+slice_bounds-days-end c = room (goal.at.slice_bounds-days-end c).After-list_days-count
 
 pub slice_bounds-size_of-end : goal.slice_bounds-size_of-end
-slice_bounds-size_of-end c = sym (days-count c.before.before)
+slice_bounds-size_of-end c = sym (days-count (goal.at.slice_bounds-size_of-end c).After-list_days-count)
 
 pub slice_bounds-screen_mapped-end : goal.slice_bounds-screen_mapped-end
-slice_bounds-screen_mapped-end c = let sized = c.before.before.before.before in sym (days-count sized)
+slice_bounds-screen_mapped-end c = let sized = c.before.before.before.before in sym (days-count (goal.at.slice_bounds-screen_mapped-end c).After-list_days-count)
 
 pub slice_bounds-fill_values-end : goal.slice_bounds-fill_values-end
-slice_bounds-fill_values-end c = let sized = c.before.before.before.before in sym (days-count sized)
+slice_bounds-fill_values-end c = let sized = c.before.before.before.before in sym (days-count (goal.at.slice_bounds-fill_values-end c).After-list_days-count)

@@ -49,8 +49,6 @@ held false e = absurd (true≢false e)
 
 pub refine-requires : goal.refine-requires
 refine-requires c =
-    let else = c.before in
-    let after-low = else.before.before in
-    let p = after-low.requires in
-    let low = after-low.low_values.ensures.low (held _ else.if-not-low_values.false) in
-    (p.0, p.1, p.2, p.4, few after-low, low.0, low.1)
+    let p = c.requires in
+    let low = c.low_values.ensures.low (held _ c.if-not-low_values.false) in
+    (p.0, p.1, p.2, p.4, few (goal.at.refine-requires c).After-low_values, low.0, low.1)

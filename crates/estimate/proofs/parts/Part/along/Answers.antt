@@ -22,7 +22,7 @@ value_read s = read_is s.args.self.value (omega (arith, s.requires.0.size))
 
 pub loop-i-init : goal.loop-i-init
 loop-i-init c =
-    rw (value_read c) (going-first _ _ _ _ _ c.requires.0)
+    rw (value_read (goal.at.loop-i-init c).Start) (going-first _ _ _ _ _ c.requires.0)
 
 pub bounds-days-i : goal.bounds-days-i
 bounds-days-i c = omega (arith, c.loop-i-test.true, c.loop-i.invariant.ready.most)
@@ -39,7 +39,7 @@ module _ (c : After-shared_slice_known-in-loop-i-1) where
   day = get_or entry.args.days.now c.loop-i.i 0
 
   within : day < 10951
-  within = (going-day _ _ _ _ _ _ c.loop-i.inv c.loop-i-test.taken).0
+  within = (going-day _ _ _ _ _ _ c.loop-i.invariant c.loop-i-test.taken).0
 
 pub overflow_cast-day : goal.overflow_cast-day
 overflow_cast-day c = omega (arith, within c)
@@ -52,13 +52,12 @@ bounds-nets-at c = omega (arith, within c, (entry c).requires.0.places)
 
 pub day_value-value-requires : goal.day_value-value-requires
 day_value-value-requires c =
-    let e = c.before in
-    let s = entry e in
-    let k = e.loop-i-test.true in
-    let net = get_or s.args.nets.now (day e) (pos 0) in (
-      (going-day _ _ _ _ _ _ e.loop-i.invariant k).1,
+    let s = entry (goal.at.day_value-value-requires c).After-shared_slice_known-in-loop-i-1 in
+    let k = c.loop-i-test.true in
+    let net = get_or s.args.nets.now (day (goal.at.day_value-value-requires c).After-shared_slice_known-in-loop-i-1) (pos 0) in (
+      (going-day _ _ _ _ _ _ c.loop-i.invariant k).1,
       s.requires.1,
-      rw (back net c.day_value-arg-1.given) (amount-most _ _ _ _ _ _ e.loop-i.invariant k),
+      rw (back net c.day_value-arg-1.given) (amount-most _ _ _ _ _ _ c.loop-i.invariant k),
     )
 
 -- a result, read back from its bits
@@ -79,24 +78,23 @@ module _ (c : After-day_value-value) where
   worth-read : read c.day_value-value.result ≡ worth_now
   unfolding most_size
   worth-read =
-      let most = amount-most _ _ _ _ _ _ c.loop-i.inv c.loop-i-test.taken in
+      let most = amount-most _ _ _ _ _ _ c.loop-i.invariant c.loop-i-test.taken in
       let rate = rate_on (entry c).args.line in
       let is : c.day_value-value.result ≡ worth_now = c.day_value-value.ensures ∙ ap (worth (cheap_on rate (day c))) (back net c.day_value-arg-1.given) in
       read_as _ worth_now is (omega (arith, most, cheap-worth rate (day c) net))
 
   sum-most : nat_abs sum < 2 ^ 63
   unfolding most_size
-  sum-most = omega (arith, sum-size _ _ _ _ _ _ c.loop-i.inv c.loop-i-test.taken)
+  sum-most = omega (arith, sum-size _ _ _ _ _ _ c.loop-i.invariant c.loop-i-test.taken)
 
 pub overflow_add-value : goal.overflow_add-value
 overflow_add-value c = rw (worth-read c) (fits (sum c) (sum-most c))
 
 pub loop-i-preserved : goal.loop-i-preserved
 loop-i-preserved c =
-    rw (worth-read c, read_is (sum c) (sum-most c)) (going_next _ _ _ _ _ _ c.loop-i.inv c.loop-i-test.taken)
+    rw (worth-read c, read_is (sum c) (sum-most c)) (going_next _ _ _ _ _ _ c.loop-i.invariant c.loop-i-test.taken)
 
 pub returns : goal.returns
 returns c =
-    let l = c.before in
-    let a = going_end _ _ _ _ _ _ l.loop-i.invariant c.loop-i-test.false in
-    rw (value_read l.before) a
+    let a = going_end _ _ _ _ _ _ c.loop-i.invariant c.loop-i-test.false in
+    rw (value_read (goal.at.returns c).Start) a

@@ -26,7 +26,7 @@ with_flow-requires c =
 
 pub returns-then-self : goal.returns-then-self
 returns-then-self c =
-    held-waiting _ c.args.self c.if-self.true (worth c.before) c.with_flow.ensures
+    held-waiting _ c.args.self c.if-self.true (worth (goal.at.returns-then-self c).After-present_value-value) c.with_flow.ensures
 
 pub returns : goal.returns
 returns c = held-total _ c.args.self c.if-self.false

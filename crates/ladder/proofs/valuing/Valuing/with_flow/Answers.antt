@@ -20,32 +20,26 @@ known c = c.known_value-found.ensures.value_value c.if-found.true
 
 pub with_flow-requires : goal.with_flow-requires
 with_flow-requires c =
-    let p = (start c.before).requires in
+    let p = (start (goal.at.with_flow-requires c).After-slice_known-2-1).requires in
     (total-less (omega arith) p.0.room, p.2, rw (known c) (value-most _ _ p.2))
 
 pub returns-then-found : goal.returns-then-found
 returns-then-found c =
-    let at = c.before.before in
-    let s = start at in
-    (with-known _ s.args.self s.args.f s.requires.2 (known c.before) c.with_flow.ensures, at.known_value-found.ensures.kept_factors)
+    let s = start (goal.at.returns-then-found c).After-slice_known-2-1 in
+    (with-known _ s.args.self s.args.f s.requires.2 (known (goal.at.returns-then-found c).Then-found) c.with_flow.ensures, c.known_value-found.ensures.kept_factors)
 
 pub with_two-requires : goal.with_two-requires
 with_two-requires c =
-    let two = c.before in
-    let at = two.before.before in
-    let s = start at in
+    let s = start (goal.at.with_two-requires c).After-slice_known-2-1 in
     let p = s.requires in
-    (waiting-room s.args.self two.if-self.true p.0, p.1, p.0.flow, p.2, at.known_value-found.ensures.kept_factors)
+    (waiting-room s.args.self c.if-self.true p.0, p.1, p.0.flow, p.2, c.known_value-found.ensures.kept_factors)
 
 pub returns-then-self : goal.returns-then-self
 returns-then-self c =
-    let valued = c.before.before in
-    let two = valued.before.before in
-    let s = start two.before.before in
-    (with-waiting _ s.args.self s.args.f s.requires.2 two.if-self.true valued.with_two.ensures.value, valued.with_two.ensures.kept_factors)
+    let s = start (goal.at.returns-then-self c).After-slice_known-2-1 in
+    (with-waiting _ s.args.self s.args.f s.requires.2 c.if-self.true c.with_two.ensures.value, c.with_two.ensures.kept_factors)
 
 pub returns : goal.returns
 returns c =
-    let at = c.before.before in
-    let s = start at in
-    (waiting _ s.args.self s.args.f s.requires.2 c.if-self.false, at.known_value-found.ensures.kept_factors)
+    let s = start (goal.at.returns c).After-slice_known-2-1 in
+    (waiting _ s.args.self s.args.f s.requires.2 c.if-self.false, c.known_value-found.ensures.kept_factors)
