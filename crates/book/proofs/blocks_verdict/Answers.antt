@@ -49,7 +49,9 @@ module _ (c : Else-not-is_accepted) where
   told = sym c.is_accepted.ensures ∙ c.if-not-is_accepted.false
 
   heads : Headed (block_at c.args.book.now 0) (c.args.used / 512)
-  heads = (header-accepted _ _ (sym (judged c.before.before) ∙ is-accepted _ told)).counts
+  heads =
+      let judged = rw c.block_at.ensures.result_value at c.header_verdict-first.ensures in
+      (header-accepted _ _ (sym judged ∙ is-accepted _ told)).counts
 
 pub curves_of-requires : goal.curves_of-requires
 curves_of-requires c =

@@ -44,9 +44,6 @@ fields_of-requires c =
 
 -- after the trade is read: it is the one at the position
 module _ (c : After-trade_of) where
-  abbrev c : Start
-  c = let counted = c.before.before.before in counted.before.before
-
   trade-is : c.trade_of.result ≡ trade_at c.args.book.now c.loop-i.i
   trade-is =
       c.trade_of.ensures ∙ ap trade_of (c.fields_of.ensures ∙ ap fields_of c.record_at-r.ensures)

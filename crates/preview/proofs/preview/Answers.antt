@@ -33,9 +33,6 @@ returns-in-Refused c =
 
 -- taken by it
 module _ (c : In-Accepted) where
-  abbrev c : Start
-  c = c.before.before.before
-
   abbrev s : List ℕ
   s = c.args.book.now
 

@@ -15,9 +15,6 @@ factors-both-requires c =
     (rw c.rate_at.ensures (rate-most _ _ proper), rw c.rate_at-2.ensures (rate-most _ _ proper))
 
 module _ (c : After-discounted-2) where
-  abbrev c : Start
-  c = c.before.before.before
-
   first : c.discounted.result ≡ flow_value (rate_at (nodes_of c.args.c)) c.args.f
   first = factor-value _ c.args.f c.rate_at.ensures c.factors-both.ensures.0 c.discounted.ensures
 

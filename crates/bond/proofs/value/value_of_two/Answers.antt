@@ -13,9 +13,6 @@ use Rattle.bond.proofs.value.value_of_two.Goals.{After-fine_value_of-second, Sta
 
 -- where both are known
 module _ (c : Then-first-second) where
-  abbrev c : Start
-  c = c.before.before.before
-
   known : (c.fine_value_of-first.result.known ≡ true) × (c.fine_value_of-second.result.known ≡ true)
   known = both c.fine_value_of-first.result.known c.fine_value_of-second.result.known c.if-first-second.true
 

@@ -28,13 +28,13 @@ returns-then-not-is_accepted c =
     let l = c.loop-i in
     let e = judged (goal.at.returns-then-not-is_accepted c).After-is_accepted in
     let stop = rw e at (sym c.is_accepted.ensures ∙ c.if-not-is_accepted.true) in
-    e ∙ sym (l.invariant.1 ∙ first-stopped _ l.i _ c.loop-i-test.taken stop)
+    e ∙ sym (l.invariant.1 ∙ first-stopped _ l.i _ c.loop-i-test.true stop)
 
 pub loop-i-preserved : goal.loop-i-preserved
 loop-i-preserved c =
     let l = c.loop-i in
     let pass = rw (judged (goal.at.loop-i-preserved c).After-is_accepted) at (sym c.is_accepted.ensures ∙ c.if-not-is_accepted.false) in
-    (omega arith, l.invariant.1 ∙ first-passed _ l.i _ c.loop-i-test.taken pass)
+    (omega arith, l.invariant.1 ∙ first-passed _ l.i _ c.loop-i-test.true pass)
 
 pub returns : goal.returns
 returns c = sym (c.loop-i.invariant.1 ∙ first-end _ _ _ c.loop-i-test.false)

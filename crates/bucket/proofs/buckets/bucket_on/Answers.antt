@@ -19,9 +19,6 @@ returns-then-until-day c =
 
 -- with the ends of the bucket known
 module _ (c : After-last_day_of-last) where
-  abbrev c : Start
-  c = c.before.before
-
   record Ends (near far day : ℕ) : Type 0 where
     near_le : near ≤ day
     le-far : day ≤ far
@@ -32,8 +29,8 @@ module _ (c : After-last_day_of-last) where
   ends =
       let n = c.first_day_of-first.ensures in
       let f = c.last_day_of-last.ensures in
-      let from = c.if-day-from.left in
-      let until = c.if-until-day.left in
+      let from = c.if-day-from.false in
+      let until = c.if-until-day.false in
       record { near_le = omega arith; le-far = omega arith; span = omega arith; last = omega (arith, c.requires.2) }
 
   moved : c.args.width * (c.last_day_of-last.result - c.first_day_of-first.result) ≤ 1000000 * 32
@@ -42,7 +39,7 @@ module _ (c : After-last_day_of-last) where
 pub returns : goal.returns
 unfolding bucket_on
 returns c =
-    rw (le-ltb _ _ c.if-day-from.left, lt-leb _ _ c.if-until-day.left, ← c.first_day_of-first.ensures, ← c.last_day_of-last.ensures) c.fitting.ensures
+    rw (le-ltb _ _ c.if-day-from.false, lt-leb _ _ c.if-until-day.false, ← c.first_day_of-first.ensures, ← c.last_day_of-last.ensures) c.fitting.ensures
 
 pub overflow_sub-jump : goal.overflow_sub-jump
 overflow_sub-jump c = omega (arith, ends c)

@@ -14,9 +14,6 @@ use Rattle.estimate.proofs.lines.line_of.Goals.{After-slope-down, After-slope-up
 
 -- it rises
 module _ (c : After-slope-up) where
-  abbrev c : Start
-  c = let run = c.before.before in run.before.before.before
-
   up-most : c.slope-up.result ≤ steepest
   up-most = rw c.slope-up.ensures (slope-size _ _ (omega (arith, c.requires.to.rate)))
 
@@ -33,9 +30,6 @@ returns-then-a-b c =
 
 -- it falls
 module _ (c : After-slope-down) where
-  abbrev c : Start
-  c = let run = c.before.before in run.before.before.before
-
   down-most : c.slope-down.result ≤ steepest
   down-most = rw c.slope-down.ensures (slope-size _ _ (omega (arith, c.requires.from.rate)))
 

@@ -17,12 +17,6 @@ use Rattle.figures.proofs.extension.found_rate.Goals.{After-bootstrap-v, After-c
 
 -- the book and the quote, in the contract's terms
 module _ (c : After-bootstrap-v) where
-  abbrev c : After-copy_in-2
-  c = c.before.before
-
-  abbrev c : After-copy_in
-  c = let known = c.before.before in known.before.before.before
-
   is-book : c.copy_in-2.last.0 ≡ known_book
   unfolding known_book
   is-book =

@@ -15,7 +15,7 @@ use Rattle.ladder.proofs.Netting.{deviation-next}
 use Rattle.ladder.proofs.net.deviation_of.Given as goal
 
 abbrev pub invariant-loop-rung : goal.invariant-loop-rung
-invariant-loop-rung l = Folded (λ l.off f. l.off + flow_deviation f) (RoomFor 200000) l.curve l.ladder l.schedules 0 l.off l.rung
+invariant-loop-rung l = Folded (λ off f. off + flow_deviation f) (RoomFor 200000) l.curve l.ladder l.schedules 0 l.off l.rung
 
 abbrev pub decreases-loop-rung : goal.decreases-loop-rung
 decreases-loop-rung l = length (flows_from l.curve l.ladder l.schedules l.rung)

@@ -47,7 +47,7 @@ with_flow-valuing-requires c =
 
 pub loop-rung-smaller : goal.loop-rung-smaller
 loop-rung-smaller c =
-    fewer-left c.loop-rung.invariant.0 (start (goal.at.loop-rung-smaller c).In-loop-rung).requires.1 c.loop-rung-test.taken c.next-rung.ensures
+    fewer-left c.loop-rung.invariant.0 (start (goal.at.loop-rung-smaller c).In-loop-rung).requires.1 c.loop-rung-test.true c.next-rung.ensures
 
 pub loop-rung-preserved : goal.loop-rung-preserved
 loop-rung-preserved c =
@@ -55,7 +55,7 @@ loop-rung-preserved c =
     let at = c.before.before in
     let turn = at.before in (
       rw more.0.held
-          (folded-next turn.loop-rung.invariant.0 (start (goal.at.loop-rung-preserved c).In-loop-rung).requires.1 turn.loop-rung-test.taken at.payment-f.ensures c.next-rung.ensures more.0.limits),
+          (folded-next turn.loop-rung.invariant.0 (start (goal.at.loop-rung-preserved c).In-loop-rung).requires.1 turn.loop-rung-test.true at.payment-f.ensures c.next-rung.ensures more.0.limits),
       more.1,
     )
 

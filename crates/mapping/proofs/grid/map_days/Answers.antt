@@ -21,17 +21,11 @@ loop-i-init c =
 
 -- a c
 module _ (c : After-shared_slice_known-in-loop-i-1) where
-  abbrev c : At-loop-i
-  c = c.before
-
-  abbrev c : Start
-  c = c.before.before.before
-
   abbrev day : ℕ
   day = get_or c.args.days.now c.loop-i.i 0
 
   within : day < 10951
-  within = mapping-day _ _ _ _ _ _ c.loop-i.invariant c.loop-i-test.taken
+  within = mapping-day _ _ _ _ _ _ c.loop-i.invariant c.loop-i-test.true
 
   abbrev net : ℤ
   net = net_on c.args.nets.now day

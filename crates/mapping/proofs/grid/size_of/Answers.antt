@@ -15,23 +15,17 @@ loop-i-init c = let p = c.requires in adding-first _ _ p.list p.places
 
 -- a c
 module _ (c : After-shared_slice_known-in-loop-i-1) where
-  abbrev c : At-loop-i
-  c = c.before
-
-  abbrev c : Start
-  c = c.before.before
-
   abbrev day : ℕ
   day = get_or c.args.days.now c.loop-i.i 0
 
   within : day < 10951
-  within = adding-day _ _ _ _ c.loop-i.invariant c.loop-i-test.taken
+  within = adding-day _ _ _ _ c.loop-i.invariant c.loop-i-test.true
 
   abbrev net : ℤ
   net = net_on c.args.nets.now day
 
   most : c.loop-i.sum + nat_abs net ≤ 140000000000000000
-  most = omega (arith, adding-most _ _ _ _ c.loop-i.invariant c.loop-i-test.taken, size-most _ _ c.requires)
+  most = omega (arith, adding-most _ _ _ _ c.loop-i.invariant c.loop-i-test.true, size-most _ _ c.requires)
 
 pub size-sum-requires : goal.size-sum-requires
 size-sum-requires c = let k = c.before in rw (back (net (goal.at.size-sum-requires c).After-shared_slice_known-in-loop-i-1) c.size-arg-1.given) (omega (arith, most (goal.at.size-sum-requires c).After-shared_slice_known-in-loop-i-1))

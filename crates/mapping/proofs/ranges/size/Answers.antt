@@ -27,7 +27,7 @@ returns-then-z-lt0 c = rw (code c, read_is (pos (nat_abs c.args.z)) (omega (arit
 
 pub overflow_cast-result-2 : goal.overflow_cast-result-2
 overflow_cast-result-2 c =
-    to-u64 c.args.z (not_negative c.args.z (tested c.args.z (λ z. lt_z z (pos 0)) false c.ranges.z c.if-z-lt0.left)) (omega (arith, c.requires))
+    to-u64 c.args.z (not_negative c.args.z (tested c.args.z (λ z. lt_z z (pos 0)) false c.ranges.z c.if-z-lt0.false)) (omega (arith, c.requires))
 
 pub returns : goal.returns
 returns c = rw (same (goal.at.returns c).Start) refl

@@ -9,4 +9,4 @@ returns-then-x-eq0 c = rw (eq-eqb _ _ c.if-x-eq0.taken)
 
 pub returns : goal.returns
 unfolding swing
-returns c = rw (ne_eqb _ _ c.if-x-eq0.left)
+returns c = rw (ne_eqb _ _ c.if-x-eq0.false)

@@ -23,9 +23,6 @@ value_of-total-requires c =
 
 -- the code's difference is the loss
 module _ (c : After-struct_told-2-1) where
-  abbrev c : Start
-  c = let given = c.before.before in given.before.before.before
-
   loss-is : read c.args.valued.base -ℤ read c.value_of_lem.result.sum ≡ loss_at flow_value (exposure_of c.args.valued.position c.args.ladder.now) c.args.s
   loss-is = code-loss _ _ c.requires.0.limits _ _ _ _ c.requires.0.value c.curve_in-stressed.ensures c.value_of_lem.ensures
 

@@ -19,9 +19,6 @@ returns-then-days-count c = record { kept = refl; low = λ e. absurd (false≢tr
 
 -- the grid's days as they are listed
 module _ (c : After-list_days-count) where
-  abbrev c : Start
-  c = let after-mapped = c.before in after-mapped.before.before.before
-
   abbrev mapped : List ℤ
   mapped = c.map_nets.last.1.1.1.1.0
 

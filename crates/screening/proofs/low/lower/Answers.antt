@@ -12,9 +12,6 @@ use Rattle.screening.proofs.low.lower.Goals.{At-loop-s, In-loop-s, Start}
 
 -- a turn
 module _ (c : In-loop-s) where
-  abbrev c : Start
-  c = c.before
-
   abbrev value : ℤ
   value = get_or c.loop-s.values c.loop-s.s (pos 0)
 

@@ -90,7 +90,7 @@ module _ (c : Joined-v-limit) where
 
 pub loop-s-preserved : goal.loop-s-preserved
 loop-s-preserved c =
-    (omega (arith, c.loop-s-test.taken), refining-next _ _ _ _ _ _ _ c.loop-s.invariant.1 (omega (arith, within (goal.at.loop-s-preserved c).In-loop-s, (entry (goal.at.loop-s-preserved c).In-loop-s).requires.4)) _ (written c))
+    (omega (arith, c.loop-s-test.true), refining-next _ _ _ _ _ _ _ c.loop-s.invariant.1 (omega (arith, within (goal.at.loop-s-preserved c).In-loop-s, (entry (goal.at.loop-s-preserved c).In-loop-s).requires.4)) _ (written c))
 
 pub returns : goal.returns
 returns c =

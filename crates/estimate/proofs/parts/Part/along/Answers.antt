@@ -29,9 +29,6 @@ bounds-days-i c = omega (arith, c.loop-i-test.true, c.loop-i.invariant.ready.mos
 
 -- the day of a c
 module _ (c : After-shared_slice_known-in-loop-i-1) where
-  abbrev c : At-loop-i
-  c = c.before
-
   abbrev entry : Start
   entry = c.before
 
@@ -39,7 +36,7 @@ module _ (c : After-shared_slice_known-in-loop-i-1) where
   day = get_or entry.args.days.now c.loop-i.i 0
 
   within : day < 10951
-  within = (going-day _ _ _ _ _ _ c.loop-i.invariant c.loop-i-test.taken).0
+  within = (going-day _ _ _ _ _ _ c.loop-i.invariant c.loop-i-test.true).0
 
 pub overflow_cast-day : goal.overflow_cast-day
 overflow_cast-day c = omega (arith, within c)
@@ -78,21 +75,21 @@ module _ (c : After-day_value-value) where
   worth-read : read c.day_value-value.result ≡ worth_now
   unfolding most_size
   worth-read =
-      let most = amount-most _ _ _ _ _ _ c.loop-i.invariant c.loop-i-test.taken in
+      let most = amount-most _ _ _ _ _ _ c.loop-i.invariant c.loop-i-test.true in
       let rate = rate_on (entry c).args.line in
       let is : c.day_value-value.result ≡ worth_now = c.day_value-value.ensures ∙ ap (worth (cheap_on rate (day c))) (back net c.day_value-arg-1.given) in
       read_as _ worth_now is (omega (arith, most, cheap-worth rate (day c) net))
 
   sum-most : nat_abs sum < 2 ^ 63
   unfolding most_size
-  sum-most = omega (arith, sum-size _ _ _ _ _ _ c.loop-i.invariant c.loop-i-test.taken)
+  sum-most = omega (arith, sum-size _ _ _ _ _ _ c.loop-i.invariant c.loop-i-test.true)
 
 pub overflow_add-value : goal.overflow_add-value
 overflow_add-value c = rw (worth-read c) (fits (sum c) (sum-most c))
 
 pub loop-i-preserved : goal.loop-i-preserved
 loop-i-preserved c =
-    rw (worth-read c, read_is (sum c) (sum-most c)) (going_next _ _ _ _ _ _ c.loop-i.invariant c.loop-i-test.taken)
+    rw (worth-read c, read_is (sum c) (sum-most c)) (going_next _ _ _ _ _ _ c.loop-i.invariant c.loop-i-test.true)
 
 pub returns : goal.returns
 returns c =
