@@ -6,30 +6,15 @@ use mir.Val.{SFits}
 use Rattle.layout.proofs.Signed.{read_back}
 use Rattle.report_block.proofs.Report.{curve-put}
 use Rattle.report_block.proofs.put_curve.Goals as goal
-use Rattle.report_block.proofs.put_curve.Goals.{Start}
-
-fits-base : (s : Start) → SFits w64 s.args.m.base
-fits-base s = search rules
-
-fits-loss : (s : Start) → SFits w64 s.args.m.worstloss
-fits-loss s = search rules
 
 pub returns : goal.returns
 returns c =
-    let fifth = c.before.before in
-    let after-out4 = fifth.before.before.before in
-    let fourth = after-out4.before in
-    let after-out3 = fourth.before.before.before in
-    let third = after-out3.before in
-    let after-out2 = third.before.before.before in
-    let second = after-out2.before in
-    let after-slice-known2 = second.before.before.before in
-    let first = after-slice-known2.before.before in
-    let after-slice-known = first.before.before.before in
-    let s = after-slice-known.before in
-    curve-put _ _ _ _ _ _ _ s.args.m
-    (first.put_signed.ensures ∙ read_back _ _ 8 s.args.m.base (fits-base s))
-    (second.put_signed-2.ensures ∙ read_back _ _ 8 s.args.m.worstloss (fits-loss s))
-    third.put_le.ensures
-    fourth.put_le-2.ensures
-    fifth.put_le-3.ensures
+    let m = c.args.m in
+    let b : SFits w64 m.base = search rules in
+    let w : SFits w64 m.worstloss = search rules in
+    curve-put _ _ _ _ _ _ _ m
+    (c.put_signed.ensures ∙ read_back _ _ 8 m.base b)
+    (c.put_signed-2.ensures ∙ read_back _ _ 8 m.worstloss w)
+    c.put_le.ensures
+    c.put_le-2.ensures
+    c.put_le-3.ensures
