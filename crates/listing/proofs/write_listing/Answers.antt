@@ -17,4 +17,4 @@ returns c =
     omega
     (arith, c.requires, c.put_number-end.ensures.upper_bound, c.put_text-first.ensures.place, c.put_curve_lines-second.ensures.upper_bound, c.put_currency_lines.ensures.upper_bound) in
     let front = written-front all (omega (arith, c.requires)) in
-    (front.0, (front.1, room))
+    record { value = front.0; out_after = front.1; upper_bound = room }

@@ -14,4 +14,4 @@ returns c =
     let room : c.put_text.result ≤ 50 =
     omega (arith, c.requires, c.put_number-next.ensures.upper_bound, c.put_number-end.ensures.upper_bound, c.put_text.ensures.place) in
     let front = written-front all (omega (arith, c.requires)) in
-    (front.0, (front.1, room))
+    record { value = front.0; out_after = front.1; upper_bound = room }

@@ -15,48 +15,41 @@ use Rattle.text.proofs.Writing.{TextLeft, text-all, text-room, text-next, text-n
 use Rattle.page.specs.Page.{currency_part_of}
 use Rattle.page.proofs.Lengths.{length_part}
 use Rattle.page.proofs.put_currencies.Goals as goal
-use Rattle.page.proofs.put_currencies.Goals.{In-loop-i, Start}
 
 pub loop-i-init : goal.loop-i-init
 loop-i-init c =
-    let long : length c.args.t5 ≡ 3 = search (rules, length-mapped) in
+    let long : length c.args.currencies ≡ 3 = search (rules, length-mapped) in
     (search rules, long, text-all _ _ _)
 
 -- in the loop: the next currency's part is left
-module _ (c : In-loop-i) where
-  abbrev i : ℕ
-  i = c.loop-i.i
-
-  abbrev curves : List CurveMargin
-  curves = take c.args.count c.args.curves
-
-  abbrev this : CurrencyMargin
-  this = get_or c.args.t5 i no_currency
-
-  below : i < 3
-  below = search rules
-
-  next : lines_of (currency_part_of curves) (i + 1) (drop i c.args.t5) ≡ currency_part_of curves (i + 1) this ++ lines_of (currency_part_of curves) (i + 1 + 1) (drop (i + 1) c.args.t5)
-  next = lines_next (currency_part_of curves) c.args.t5 i (i + 1) no_currency (omega (arith, c.loop-i.invariant.1, below))
-
 pub put_currency_part-next-requires : goal.put_currency_part-next-requires
 put_currency_part-next-requires c =
-    let long = length_part (i (goal.at.put_currency_part-next-requires c).In-loop-i + 1) (this (goal.at.put_currency_part-next-requires c).In-loop-i) (c.requires.count_bound.1.each (i (goal.at.put_currency_part-next-requires c).In-loop-i) (below (goal.at.put_currency_part-next-requires c).In-loop-i)) (has_currency (i (goal.at.put_currency_part-next-requires c).In-loop-i + 1) (curves (goal.at.put_currency_part-next-requires c).In-loop-i)) in
+    let a = c.args in
+    let i = c.loop-i.i in
+    let curves = take a.count a.curves in
+    let this = get_or a.currencies i no_currency in
+    let below : i < 3 = search rules in
+    let next = lines_next (currency_part_of curves) a.currencies i (i + 1) no_currency (omega (arith, c.loop-i.invariant.1, below)) in
+    let long = length_part (i + 1) this (c.requires.count_bound.1.each i below) (has_currency (i + 1) curves) in
     let room =
-    text-room (currency_part_of (curves (goal.at.put_currency_part-next-requires c).In-loop-i) (i (goal.at.put_currency_part-next-requires c).In-loop-i + 1) (this (goal.at.put_currency_part-next-requires c).In-loop-i)) (lines_of (currency_part_of (curves (goal.at.put_currency_part-next-requires c).In-loop-i)) (i (goal.at.put_currency_part-next-requires c).In-loop-i + 1 + 1) (drop (i (goal.at.put_currency_part-next-requires c).In-loop-i + 1) c.args.t5))
-    (rw (next (goal.at.put_currency_part-next-requires c).In-loop-i) at c.loop-i.invariant.2) c.requires.currencies_in_bounds in
+    text-room (currency_part_of curves (i + 1) this) (lines_of (currency_part_of curves) (i + 1 + 1) (drop (i + 1) a.currencies))
+    (rw next at c.loop-i.invariant.2) c.requires.currencies_in_bounds in
     rw c.has_currency-has.ensures (omega (arith, long, room))
 
 pub loop-i-preserved : goal.loop-i-preserved
 loop-i-preserved c =
+    let a = c.args in
+    let i = c.loop-i.i in
+    let below : i < 3 = search rules in
+    let next = lines_next (currency_part_of (take a.count a.curves)) a.currencies i (i + 1) no_currency (omega (arith, c.loop-i.invariant.1, below)) in
     let part = rw c.has_currency-has.ensures at c.put_currency_part-next.ensures in
-    (search rules, c.loop-i.invariant.1, text-next (rw (next (goal.at.loop-i-preserved c).In-loop-i) at c.loop-i.invariant.2) part)
+    (search rules, c.loop-i.invariant.1, text-next (rw next at c.loop-i.invariant.2) part)
 
 pub returns : goal.returns
 returns c =
     let a = c.args in
     let k = c.loop-i.i in
-    text-none (rw (lines_none (currency_part_of (take a.count a.curves)) a.t5 k (k + 1) (omega (arith, c.loop-i.invariant.1))) at c.loop-i.invariant.2)
+    text-none (rw (lines_none (currency_part_of (take a.count a.curves)) a.currencies k (k + 1) (omega (arith, c.loop-i.invariant.1))) at c.loop-i.invariant.2)
 
 pub shape_of-out : goal.shape_of-out
 shape_of-out c = c.loop-i.invariant.2.lent

@@ -14,13 +14,6 @@ use Rattle.text.proofs.Amounts.{length-blanks}
 use Rattle.page.specs.Page.{curve_left, curve_line}
 use Rattle.page.proofs.LineWritten.{line-written}
 use Rattle.page.proofs.put_curve.Goals as goal
-use Rattle.page.proofs.put_curve.Goals.{Start}
-
-fits-base : (s : Start) → SFits w64 s.args.m.base
-fits-base s = search rules
-
-fits-loss : (s : Start) → SFits w64 s.args.m.worstloss
-fits-loss s = search rules
 
 pub put_amounts-end-requires : goal.put_amounts-end-requires
 put_amounts-end-requires c =
@@ -40,7 +33,11 @@ put_text-requires c =
 pub returns : goal.returns
 unfolding curve_line
 returns c =
-    let text = curve_left c.args.id c.args.m in
-    let gap : c.args.at + 14 - c.put_curve_left-left.result ≡ 80 - 22 * 3 - length text = omega (arith, c.put_curve_left-left.ensures.text_written.place) in
-    let three = rw (code_read _ (fits-base (goal.at.returns c).Start), code_read _ (fits-loss (goal.at.returns c).Start), cast_is c.args.m.tolerance c.requires.1.1.tolerance) at c.put_amounts-end.ensures.text_written in
-    line-written text (c.args.m.base ∷ c.args.m.worstloss ∷ pos c.args.m.tolerance ∷ []) _ gap c.put_curve_left-left.ensures.text_written c.put_blanks-base.ensures three c.put_text.ensures
+    let m = c.args.m in
+    let left = c.put_curve_left-left in
+    let b : SFits w64 m.base = search rules in
+    let w : SFits w64 m.worstloss = search rules in
+    let text = curve_left c.args.id m in
+    let gap : c.args.at + 14 - left.result ≡ 80 - 22 * 3 - length text = omega (arith, left.ensures.text_written.place) in
+    let three = rw (code_read _ b, code_read _ w, cast_is m.tolerance c.requires.1.1.tolerance) at c.put_amounts-end.ensures.text_written in
+    line-written text (m.base ∷ m.worstloss ∷ pos m.tolerance ∷ []) _ gap left.ensures.text_written c.put_blanks-base.ensures three c.put_text.ensures

@@ -8,35 +8,37 @@ use Rattle.text.proofs.Writing.{and_then}
 use Rattle.page.specs.Page.{curve_left}
 use Rattle.page.proofs.Lengths.{length-id, length-scenario}
 use Rattle.page.proofs.put_curve_left.Goals as goal
-use Rattle.page.proofs.put_curve_left.Goals.{Start}
 
 -- one digit, and at most three
-module _ (s : Start) where
-  short-id : length (decimal_of s.args.id) ≤ 1
-  short-id = length-id s.args.id s.args.m s.requires.1.0 s.requires.1.1
-
-  short-scenario : length (decimal_of s.args.m.scenario) ≤ 3
-  short-scenario = length-scenario s.args.id s.args.m s.requires.1.0 s.requires.1.1
-
 pub put_digits-scenario-requires : goal.put_digits-scenario-requires
-put_digits-scenario-requires c = let s = c.before.before in omega (arith, s.requires.0, short-id (goal.at.put_digits-scenario-requires c).Start)
+put_digits-scenario-requires c =
+    let a = c.args in
+    omega (arith, c.requires.0, length-id a.id a.m c.requires.1.0 c.requires.1.1)
 
 pub put_number-currency-requires : goal.put_number-currency-requires
 put_number-currency-requires c =
-    omega (arith, c.requires.0, short-id (goal.at.put_number-currency-requires c).Start, c.put_digits-scenario.ensures.place)
+    let a = c.args in
+    omega (arith, c.requires.0, length-id a.id a.m c.requires.1.0 c.requires.1.1, c.put_digits-scenario.ensures.place)
 
 pub put_currency-requires : goal.put_currency-requires
 put_currency-requires c =
-    omega (arith, c.requires.0, short-id (goal.at.put_currency-requires c).Start, c.put_digits-scenario.ensures.place, c.put_number-currency.ensures.upper_bound)
+    let a = c.args in
+    omega (arith, c.requires.0, length-id a.id a.m c.requires.1.0 c.requires.1.1, c.put_digits-scenario.ensures.place, c.put_number-currency.ensures.upper_bound)
 
 pub returns : goal.returns
 unfolding curve_left ascii
 returns c =
-    let currency = c.before.before in
-    let after-put-currency-arg = currency.before.before in
-    let after-out2 = after-put-currency-arg.before.before in
-    let scenario = after-out2.before in
-    let after-put-number-arg = scenario.before.before in
-    let after-out = after-put-number-arg.before.before in
-    let id = after-out.before in
-    let s = id.before.before.before in record { text_written = and_then (and_then id.put_digits-scenario.ensures scenario.put_number-currency.ensures.text_written) currency.put_currency.ensures.text_written; upper_bound = omega (arith, short-id (goal.at.returns c).Start, short-scenario (goal.at.returns c).Start, id.put_digits-scenario.ensures.place, scenario.put_number-currency.ensures.text_written.place, currency.put_currency.ensures.value) }
+    let a = c.args in
+    let id = c.put_digits-scenario in
+    let scenario = c.put_number-currency in
+    record {
+      text_written = and_then (and_then id.ensures scenario.ensures.text_written) c.put_currency.ensures.text_written;
+      upper_bound = omega (
+        arith,
+        length-id a.id a.m c.requires.1.0 c.requires.1.1,
+        length-scenario a.id a.m c.requires.1.0 c.requires.1.1,
+        id.ensures.place,
+        scenario.ensures.text_written.place,
+        c.put_currency.ensures.value,
+      );
+    }

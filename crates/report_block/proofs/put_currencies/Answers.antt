@@ -9,7 +9,7 @@ use Rattle.report_block.proofs.Report.{length-currency}
 use Rattle.report_block.proofs.put_currencies.Goals as goal
 
 pub loop-i-init : goal.loop-i-init
-loop-i-init c = records-all currency_bytes 24 length-currency _ 264 c.args.t2 3 (search (rules, length-mapped))
+loop-i-init c = records-all currency_bytes 24 length-currency _ 264 c.args.currencies 3 (search (rules, length-mapped))
 
 pub loop-i-preserved : goal.loop-i-preserved
 loop-i-preserved c =

@@ -6,19 +6,15 @@ use mir.Val.{SFits}
 use Rattle.layout.proofs.Signed.{read_back}
 use Rattle.report_block.proofs.Report.{curve-put}
 use Rattle.report_block.proofs.put_curve.Goals as goal
-use Rattle.report_block.proofs.put_curve.Goals.{Start}
-
-fits-base : (s : Start) → SFits w64 s.args.m.base
-fits-base s = search rules
-
-fits-loss : (s : Start) → SFits w64 s.args.m.worstloss
-fits-loss s = search rules
 
 pub returns : goal.returns
 returns c =
-    curve-put _ _ _ _ _ _ _ c.args.m
-    (c.put_signed.ensures ∙ read_back _ _ 8 c.args.m.base (fits-base (goal.at.returns c).Start))
-    (c.put_signed-2.ensures ∙ read_back _ _ 8 c.args.m.worstloss (fits-loss (goal.at.returns c).Start))
+    let m = c.args.m in
+    let b : SFits w64 m.base = search rules in
+    let w : SFits w64 m.worstloss = search rules in
+    curve-put _ _ _ _ _ _ _ m
+    (c.put_signed.ensures ∙ read_back _ _ 8 m.base b)
+    (c.put_signed-2.ensures ∙ read_back _ _ 8 m.worstloss w)
     c.put_le.ensures
     c.put_le-2.ensures
     c.put_le-3.ensures

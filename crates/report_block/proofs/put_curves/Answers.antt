@@ -9,7 +9,7 @@ use Rattle.report_block.proofs.Report.{length-curve}
 use Rattle.report_block.proofs.put_curves.Goals as goal
 
 pub loop-i-init : goal.loop-i-init
-loop-i-init c = records-all curve_bytes 32 length-curve _ 8 c.args.t2 8 (search (rules, length-mapped))
+loop-i-init c = records-all curve_bytes 32 length-curve _ 8 c.args.curves 8 (search (rules, length-mapped))
 
 pub loop-i-preserved : goal.loop-i-preserved
 loop-i-preserved c =

@@ -5,27 +5,30 @@ use borrow.Author.Rules.{rules}
 use lib.IntN.{pos}
 use Rattle.laws.proofs.Signed.{cast_is}
 use Rattle.decimal.specs.Product.{unit}
+use Rattle.record.specs.declared.Fields.{Fields}
 use Rattle.text.proofs.Amounts.{length-amount}
 use Rattle.page.specs.Line.{trade_left, trade_line}
+use Rattle.page.specs.LineLimits.{TradeLineLimits}
 use Rattle.page.proofs.LineWritten.{one-amount-line}
 use Rattle.page.proofs.line.put_trade.Goals as goal
-use Rattle.page.proofs.line.put_trade.Goals.{Start}
 
-small : (s : Start) → s.args.f.amounts.nominal < 2 ^ 63
+small : (f : Fields) → TradeLineLimits f → f.amounts.nominal < 2 ^ 63
 unfolding unit
-small s = omega (arith, s.requires.1.nominal)
+small f h = omega (arith, h.nominal)
 
 pub overflow_cast-f : goal.overflow_cast-f
-overflow_cast-f c =
-    record { sfits = small (goal.at.overflow_cast-f c).Start }
+overflow_cast-f c = record { sfits = small c.args.f c.requires.1 }
 
 pub returns : goal.returns
 unfolding trade_line
 returns c =
-    let text = trade_left c.args.position c.args.f in
-    let width = c.args.at + 80 - c.put_trade_left-left.result in
-    let shown = rw (cast_is c.args.f.amounts.nominal (small (goal.at.returns c).Start)) at c.put_right_aligned-end.ensures.text_written in
-    let place = c.put_trade_left-left.ensures.text_written.place in
-    one-amount-line text (pos c.args.f.amounts.nominal) width (omega (arith, place, c.put_trade_left-left.ensures.upper_bound)) (omega (arith, c.put_trade_left-left.ensures.upper_bound))
-    (omega (arith, length-amount (pos c.args.f.amounts.nominal) (omega (arith, small (goal.at.returns c).Start))))
-    c.put_trade_left-left.ensures.text_written shown c.put_text.ensures
+    let f = c.args.f in
+    let left = c.put_trade_left-left in
+    let text = trade_left c.args.position f in
+    let width = c.args.at + 80 - left.result in
+    let below = small f c.requires.1 in
+    let shown = rw (cast_is f.amounts.nominal below) at c.put_right_aligned-end.ensures.text_written in
+    let place = left.ensures.text_written.place in
+    one-amount-line text (pos f.amounts.nominal) width (omega (arith, place, left.ensures.upper_bound)) (omega (arith, left.ensures.upper_bound))
+    (omega (arith, length-amount (pos f.amounts.nominal) (omega (arith, below))))
+    left.ensures.text_written shown c.put_text.ensures
