@@ -10,12 +10,12 @@ use Rattle.exposure.proofs.push_leg.Goals as goal
 pub returns-then-not-stands_on : goal.returns-then-not-stands_on
 returns-then-not-stands_on c =
     let a = c.args in
-    push-none a.curve a.leg a.ladder.now a.schedules (sym c.Stands-on.ensures ∙ c.if-not-stands_on.true)
+    push-none a.curve a.leg a.ladder.now a.schedules (sym c.stands_on.ensures ∙ c.if-not-stands_on.true)
 
 pub returns : goal.returns
 returns c =
     let a = c.args in
-    push-one a.curve a.leg a.ladder.now a.schedules (sym c.Stands-on.ensures ∙ c.if-not-stands_on.false)
+    push-one a.curve a.leg a.ladder.now a.schedules (sym c.stands_on.ensures ∙ c.if-not-stands_on.false)
 
 pub bounds-ladder-at-2 : goal.bounds-ladder-at-2
 bounds-ladder-at-2 c = simp length-set (omega arith)

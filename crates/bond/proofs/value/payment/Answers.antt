@@ -5,6 +5,7 @@ use borrow.Author.Rules.{rules}
 use borrow.Author.Tests.{eq-eqb, ne_eqb}
 use Rattle.bond.proofs.Values.{payment-day-most}
 use Rattle.bond.proofs.value.payment.Goals as goal
+use Rattle.bond.proofs.value.payment.Goals.{then-k-l, else-k-l}
 
 pub overflow_mul-result : goal.overflow_mul-result
 overflow_mul-result c =
@@ -16,4 +17,4 @@ overflow_add-result c =
 
 pub returns : goal.returns
 returns c =
-    ⊎_elim (λ w. rw (w.1, eq-eqb _ _ w.0.taken)) (λ w. rw (w.1, ne_eqb _ _ w.0.left)) c.if-k-l.branch
+    elim c.if-k-l.branch [ then-k-l w ↦ rw (w.amount-is, eq-eqb _ _ w.if-k-l.true) | else-k-l w ↦ rw (w.amount-is, ne_eqb _ _ w.if-k-l.false) ]

@@ -13,7 +13,7 @@ use Rattle.bond.proofs.value.value_between.Given as goal
 
 abbrev pub invariant-loop-k : goal.invariant-loop-k
 invariant-loop-k l =
-    (l.k ≤ l.to) × (l.sum + bond_value (nodes_of l.l.c) (table (flow_of l.l) l.k (l.to - l.k)) ≡ bond_value (nodes_of l.l.c) (table (flow_of l.l) l.from (l.to - l.from)))
+    (l.k ≤ l.to) × (l.sum + bond_value (nodes_of l.c) (table (flow_of l.l) l.k (l.to - l.k)) ≡ bond_value (nodes_of l.c) (table (flow_of l.l) l.from (l.to - l.from)))
 
 abbrev pub decreases-loop-k : goal.decreases-loop-k
 decreases-loop-k l = l.to - l.k

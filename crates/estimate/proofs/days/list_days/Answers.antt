@@ -7,6 +7,7 @@ use lib.IntN.{pos}
 use lib.ListN.{get_or}
 use Rattle.estimate.proofs.Listing.{none-tested, some-tested, Listing, listing_none, listing-more, listing-kept, listing-past, listing-all}
 use Rattle.estimate.proofs.days.list_days.Goals as goal
+use Rattle.estimate.proofs.days.list_days.Goals.{then-nets-day-ne0, else-nets-day-ne0}
 
 pub loop-day-smaller : goal.loop-day-smaller
 loop-day-smaller c =
@@ -18,10 +19,10 @@ loop-day-preserved c =
     let k = c.loop-day-test.true in
     let more = listing-more _ _ _ _ _ c.loop-day.invariant k c.requires.0 in
     let kept = listing-kept _ _ _ _ _ c.loop-day.invariant k c.requires.0 in
-    ⊎_elim
-    (λ w. rw w.1 (listing-past _ _ _ _ _ (more (some-tested x w.0.taken)) _ c.pass_empty-day-in-loop-day.ensures))
-    (λ w. rw w.1 (listing-past _ _ _ _ _ (kept (none-tested x c.t11-1.given w.0.left)) _ c.pass_empty-day-in-loop-day.ensures))
-    c.if-nets-day-ne0.branch
+    elim c.if-nets-day-ne0.branch [
+      then-nets-day-ne0 w ↦ rw w.count-is (listing-past _ _ _ _ _ (more (some-tested x w.if-nets-day-ne0.true)) _ c.pass_empty-day-in-loop-day.ensures)
+      | else-nets-day-ne0 w ↦ rw w.count-is (listing-past _ _ _ _ _ (kept (none-tested x c.t11-1.given w.if-nets-day-ne0.false)) _ c.pass_empty-day-in-loop-day.ensures)
+    ]
 
 pub returns : goal.returns
 returns c =

@@ -30,4 +30,4 @@ at-stressed s c p e nets z f v = v ∙ ap (λ (ns : List Node). cheap_value ns n
 
 pub returns : goal.returns
 returns c =
-    value_read _ _ _ c.requires.3 _ (at-stressed _ _ c.requires.0 _ _ _ c.stressed.ensures c.Value-on.ensures)
+    value_read _ _ _ c.requires.3 _ (at-stressed _ _ c.requires.0 _ _ _ c.stressed.ensures c.value_on.ensures)

@@ -13,7 +13,7 @@ use Prim.Native.Nat.{ℕ, ◌-◌, ◌≤◌, ◌<◌}
 use Rattle.margin.proofs.choice.first_kept.Given as goal
 
 abbrev pub invariant-loop-s : goal.invariant-loop-s
-invariant-loop-s l = (l.s ≤ l.n) × ((k : ℕ) → k < l.s → cast l.limit <ℤ get_or l.values k (pos 0))
+invariant-loop-s l = (l.s ≤ l.n) × ((k : ℕ) → k < l.s → l.limit <ℤ get_or l.values k (pos 0))
 
 abbrev pub decreases-loop-s : goal.decreases-loop-s
 decreases-loop-s l = l.n - l.s

@@ -18,7 +18,7 @@ use Rattle.screening.proofs.Refining.{refined-kept, refined-left, Refining, refi
 use Rattle.screening.proofs.refine.refine.Given as goal
 
 abbrev pub invariant-loop-s : goal.invariant-loop-s
-invariant-loop-s l = (l.s ≤ l.n) × Refining l.curve l.components l.nets (cast l.limit) l.initial.values l.values l.s
+invariant-loop-s l = (l.s ≤ l.n) × Refining l.curve l.components l.nets (l.limit) l.initial.values l.values l.s
 
 abbrev pub decreases-loop-s : goal.decreases-loop-s
 decreases-loop-s l = l.n - l.s

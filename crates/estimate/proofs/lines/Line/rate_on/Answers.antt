@@ -13,7 +13,6 @@ overflow_mul-result c =
     rw (code-moved a.self.slope a.t c.requires.slope c.requires.day)
     (fits _ (omega (arith, moved-size a.self.slope a.t c.requires.slope c.requires.day)))
 
-module _ (c : After-struct_told-2-1) where
 pub overflow_add-result : goal.overflow_add-result
 overflow_add-result c = let d = c.requires in rw (code-stands _ _ d) (fits _ (omega (arith, stands-size _ _ d)))
 

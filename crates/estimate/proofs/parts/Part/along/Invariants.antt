@@ -14,7 +14,7 @@ use Rattle.estimate.proofs.parts.Part.along.Given as goal
 
 abbrev pub invariant-loop-i : goal.invariant-loop-i
 invariant-loop-i l =
-    Going l.line l.end l.nets l.days (record { done = l.initial.i; l.value = cast l.initial.value }) (record { done = l.i; l.value = cast l.value })
+    Going l.line l.end l.nets l.days (record { done = l.initial.i; value = l.initial.value }) (record { done = l.i; value = l.value })
 
 abbrev pub decreases-loop-i : goal.decreases-loop-i
 decreases-loop-i l = l.end - l.i

@@ -9,10 +9,10 @@ returns-then-self-end c =
 
 pub along-requires : goal.along-requires
 along-requires c =
-    (rw c.Line-of.ensures c.requires.1, c.requires.2)
+    (rw c.line_of.ensures c.requires.1, c.requires.2)
 
 pub line_of-requires : goal.line_of-requires
 line_of-requires c = let s = c.before.before.before.before in s.requires.0
 
 pub returns : goal.returns
-returns c = rw (← c.Line-of.ensures) c.along.ensures
+returns c = rw (← c.line_of.ensures) c.along.ensures
