@@ -47,23 +47,20 @@ loop-k-preserved c =
 
 -- behind the loop: every curve has its place
 module _ (c : After-loop-k) where
-  abbrev start : Start
-  start = c.before.before.before
-
-  count-is : c.curve_count-count.result ≡ curve_count start.args.book.now
+  count-is : c.curve_count-count.result ≡ curve_count c.args.book.now
   count-is = c.curve_count-count.ensures.value
 
-  all : take c.curve_count-count.result c.loop-k.curves ≡ map curve_margin (exposures start.args.book.now)
+  all : take c.curve_count-count.result c.loop-k.curves ≡ map curve_margin (exposures c.args.book.now)
   all =
       let e : c.loop-k.k ≡ c.curve_count-count.result = omega arith in
-      let placed : CurvesPlaced start.args.book.now c.loop-k.curves c.curve_count-count.result = placed-as _ _ e c.loop-k.invariant.2 in
-      placed-all _ _ _ placed count-is (omega (arith, count-is, (here start).most))
+      let placed : CurvesPlaced c.args.book.now c.loop-k.curves c.curve_count-count.result = placed-as _ _ e c.loop-k.invariant.2 in
+      placed-all _ _ _ placed count-is (omega (arith, count-is, (here c).most))
 
   limits : PlacesLimits c.loop-k.curves c.curve_count-count.result
-  limits = placed-limits start.args.book.now _ (here start) _ _ count-is all
+  limits = placed-limits c.args.book.now _ (here c) _ _ count-is all
 
 pub account-requires : goal.account-requires
-account-requires c = let b = here (start c) in omega (arith, b.blocks, b.lent)
+account-requires c = let b = here c in omega (arith, b.blocks, b.lent)
 
 pub margin_of-requires : goal.margin_of-requires
 margin_of-requires c = limits (goal.at.margin_of-requires c).After-loop-k
@@ -72,8 +69,8 @@ pub returns : goal.returns
 unfolding margin_in
 returns c =
     c.margin_of.ensures
-    ∙ margin-of c.loop-k.curves c.curve_count-count.result (exposures (start (goal.at.returns c).After-loop-k).args.book.now) (all (goal.at.returns c).After-loop-k) c.account.result
-    ∙ ap (λ (a : ℕ). margin_of a (exposures (start (goal.at.returns c).After-loop-k).args.book.now)) c.account.ensures.value
+    ∙ margin-of c.loop-k.curves c.curve_count-count.result (exposures ((goal.at.returns c).After-loop-k).args.book.now) (all (goal.at.returns c).After-loop-k) c.account.result
+    ∙ ap (λ (a : ℕ). margin_of a (exposures ((goal.at.returns c).After-loop-k).args.book.now)) c.account.ensures.value
 
 pub no_curve-curves-requires : goal.no_curve-curves-requires
 no_curve-curves-requires c = tt

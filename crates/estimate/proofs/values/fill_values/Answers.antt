@@ -12,10 +12,7 @@ use Rattle.estimate.proofs.values.fill_values.Goals.{After-ends-1, At-loop-s, In
 
 -- the entry's record, and that a turn's scenario is one of the components'
 
-abbrev entry : At-loop-s → Start
-entry l = let filled = l.before.before.before in filled.before
-
-within : (c : In-loop-s) → c.loop-s.s < scenario_count (entry c.before).args.components
+within : (c : In-loop-s) → c.loop-s.s < scenario_count c.args.components
 within c = omega (arith, c.loop-s-test.true, c.scenario_count-n.ensures)
 
 pub fill_ends-requires : goal.fill_ends-requires
@@ -24,32 +21,32 @@ fill_ends-requires c =
     (p.0, rising-listed _ _ p.2, omega (arith, p.0.most, length-replicate {A = ℕ} 24 0))
 
 pub scenario-scenario-requires : goal.scenario-scenario-requires
-scenario-scenario-requires c = ((entry (goal.at.scenario-scenario-requires c).At-loop-s).requires.1, within c)
+scenario-scenario-requires c = (((goal.at.scenario-scenario-requires c).At-loop-s).requires.1, within c)
 
 pub value_in-requires : goal.value_in-requires
 value_in-requires c =
-    let p = (entry (goal.at.value_in-requires c).At-loop-s).requires in
+    let p = ((goal.at.value_in-requires c).At-loop-s).requires in
     (p.0, rw c.scenario-scenario.ensures (scenario-limits _ _ (within (goal.at.value_in-requires c).In-loop-s) p.1), c.fill_ends.ensures, p.2, p.3)
 
 pub offset_bounds-values-at : goal.offset_bounds-values-at
 offset_bounds-values-at c =
-    omega (arith, within (goal.at.offset_bounds-values-at c).In-loop-s, scenarios-most _ (entry (goal.at.offset_bounds-values-at c).At-loop-s).requires.1)
+    omega (arith, within (goal.at.offset_bounds-values-at c).In-loop-s, scenarios-most _ ((goal.at.offset_bounds-values-at c).At-loop-s).requires.1)
 
 pub bounds-values-at : goal.bounds-values-at
 bounds-values-at c =
-    omega (arith, within (goal.at.bounds-values-at c).In-loop-s, (entry (goal.at.bounds-values-at c).At-loop-s).requires.4, c.loop-s.invariant.places)
+    omega (arith, within (goal.at.bounds-values-at c).In-loop-s, ((goal.at.bounds-values-at c).At-loop-s).requires.4, c.loop-s.invariant.places)
 
 pub overflow_add-s : goal.overflow_add-s
 overflow_add-s c =
-    omega (arith, within (goal.at.overflow_add-s c).In-loop-s, scenarios-most _ (entry (goal.at.overflow_add-s c).At-loop-s).requires.1)
+    omega (arith, within (goal.at.overflow_add-s c).In-loop-s, scenarios-most _ ((goal.at.overflow_add-s c).At-loop-s).requires.1)
 
 pub loop-s-smaller : goal.loop-s-smaller
 loop-s-smaller c = omega (arith, c.loop-s-test.true)
 
 pub loop-s-preserved : goal.loop-s-preserved
 loop-s-preserved c =
-    let p = (entry (goal.at.loop-s-preserved c).At-loop-s).requires in
-    let v = scenario-read (entry (goal.at.loop-s-preserved c).At-loop-s).args.curve _ _ _ _ p.2 _ _ c.scenario-scenario.ensures c.value_in.ensures in
+    let p = ((goal.at.loop-s-preserved c).At-loop-s).requires in
+    let v = scenario-read ((goal.at.loop-s-preserved c).At-loop-s).args.curve _ _ _ _ p.2 _ _ c.scenario-scenario.ensures c.value_in.ensures in
     filled_next _ _ _ _ _ _ c.loop-s.invariant (within (goal.at.loop-s-preserved c).In-loop-s) p.4 _ v
 
 pub returns : goal.returns

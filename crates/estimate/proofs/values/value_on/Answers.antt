@@ -10,9 +10,6 @@ use Rattle.estimate.proofs.values.value_on.Goals.{After-level, After-loop-i, At-
 
 -- the entry's record
 
-abbrev entry : At-loop-i → Start
-entry l = l.before.before.before
-
 pub level-requires : goal.level-requires
 level-requires c =
     (c.requires.0.each 0 (omega (arith, c.requires.0.least))).rate
@@ -33,57 +30,49 @@ loop-i-init c =
     held_first _ p.0 _ _ _ p.2 p.1 _ c.level.ensures _ c.along-p.ensures
 
 -- a turn
-module _ (c : In-loop-i) where
-  abbrev begin : Start
-  begin = entry c
-
 pub between-p-requires : goal.between-p-requires
 between-p-requires c =
     let h = c.loop-i.invariant in
     let k = c.loop-i-test.true in
-    let p = (begin (goal.at.between-p-requires c).In-loop-i).requires in
+    let p = ((goal.at.between-p-requires c).In-loop-i).requires in
     (ahead _ p.0 _ h.some k, ready-next _ p.0 _ _ _ p.2 p.1 _ _ h k, p.3)
 
 pub bounds-ends-i : goal.bounds-ends-i
 bounds-ends-i c =
-    omega (arith, c.loop-i-test.true, (begin (goal.at.bounds-ends-i c).In-loop-i).requires.1.places)
+    omega (arith, c.loop-i-test.true, ((goal.at.bounds-ends-i c).In-loop-i).requires.1.places)
 
 pub overflow_add-i : goal.overflow_add-i
 overflow_add-i c =
-    omega (arith, c.loop-i-test.true, (begin (goal.at.overflow_add-i c).In-loop-i).requires.0.most)
+    omega (arith, c.loop-i-test.true, ((goal.at.overflow_add-i c).In-loop-i).requires.0.most)
 
 pub loop-i-smaller : goal.loop-i-smaller
 loop-i-smaller c = let turn = c.before.before.before.before in omega (arith, turn.loop-i-test.true)
 
 pub loop-i-preserved : goal.loop-i-preserved
 loop-i-preserved c =
-    let p = (begin (goal.at.loop-i-preserved c).In-loop-i).requires in
+    let p = ((goal.at.loop-i-preserved c).In-loop-i).requires in
     held_next _ p.0 _ _ _ p.2 p.1 _ _ c.loop-i.invariant c.loop-i-test.true _ c.between-p.ensures
 
 -- behind the loop
 module _ (c : After-loop-i) where
-  abbrev end : Start
-  end = entry c.before
-
-  all : Held end.args.t1 end.args.nets.now end.args.days.now end.args.ends.now end.args.t1.count c.loop-i.p
+  all : Held c.args.curve c.args.nets.now c.args.days.now c.args.ends.now c.args.curve.count c.loop-i.p
   all =
       let h = c.loop-i.invariant in
-      let e : c.loop-i.i ≡ end.args.t1.count = omega (arith, c.loop-i-test.false, h.most) in
+      let e : c.loop-i.i ≡ c.args.curve.count = omega (arith, c.loop-i-test.false, h.most) in
       rw e h
 
 pub level-requires-2 : goal.level-requires-2
 level-requires-2 c =
-    let s = end (goal.at.level-requires-2 c).After-loop-i in
-    (s.requires.0.each (s.args.t1.count - 1) (omega (arith, s.requires.0.least))).rate
+    (c.requires.0.each (c.args.curve.count - 1) (omega (arith, c.requires.0.least))).rate
 
 pub along-p-requires-2 : goal.along-p-requires-2
 along-p-requires-2 c =
-    let p = (end (goal.at.along-p-requires-2 c).After-loop-i).requires in
+    let p = ((goal.at.along-p-requires-2 c).After-loop-i).requires in
     (ready-last _ p.0 _ _ _ p.2 p.1 _ (all (goal.at.along-p-requires-2 c).After-loop-i) _ c.level-2.ensures, p.3)
 
 pub returns : goal.returns
 returns c =
-    let p = (end (goal.at.returns c).After-loop-i).requires in
+    let p = ((goal.at.returns c).After-loop-i).requires in
     let v = held_all _ p.0 _ _ _ p.2 p.1 _ (all (goal.at.returns c).After-loop-i) _ c.level-2.ensures _ c.along-p-2.ensures in
     value_read _ _ _ p.2 _ v
 

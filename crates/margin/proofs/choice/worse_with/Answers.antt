@@ -42,18 +42,15 @@ pub loss_of-requires : goal.loss_of-requires
 loss_of-requires c = let p = c.requires in (p.0, p.2)
 
 module _ (c : After-loss_of) where
-  abbrev entry : Start
-  entry = let tested = c.before.before in tested.before.before
-
   -- the loss, read back from its bits
-  loss-is : read c.loss_of.result ≡ loss_at flow_value (exposure_of entry.args.valued.position entry.args.ladder.now) entry.args.s
-  loss-is = loss-read _ _ entry.requires.0.limits _ _ c.loss_of.ensures
+  loss-is : read c.loss_of.result ≡ loss_at flow_value (exposure_of c.args.valued.position c.args.ladder.now) c.args.s
+  loss-is = loss-read _ _ c.requires.0.limits _ _ c.loss_of.ensures
 
 pub worse-requires : goal.worse-requires
 worse-requires c =
-    let p = (entry c).requires in (
+    let p = c.requires in (
       losses-limits _ _ p.0.limits _ _ (ap (λ (v : Loss). v.amount) p.1.loss),
-      losses-limits _ _ p.0.limits (entry c).args.s _ (loss-is c),
+      losses-limits _ _ p.0.limits c.args.s _ (loss-is c),
     )
 
 pub returns : goal.returns

@@ -28,42 +28,39 @@ least_of-least-requires c =
     rw c.scenario_count.ensures (scenarios-some x, omega (arith, c.requires.1.places, scenarios-most x c.requires.0.limits.stress))
 
 module _ (c : After-least_of-least) where
-  abbrev entry : Start
-  entry = c.before
-
   abbrev lowest : ℤ
-  lowest = get_or entry.args.values.now c.least_of-least.result (pos 0)
+  lowest = get_or c.args.values.now c.least_of-least.result (pos 0)
 
   -- the least estimate's place, and its size
-  least : Least entry.args.values.now (scenario_count entry.args.valued.position.components-1) c.least_of-least.result
+  least : Least c.args.values.now (scenario_count c.args.valued.position.components-1) c.least_of-least.result
   least = rw c.scenario_count.ensures at c.least_of-least.ensures
 
-  index : c.least_of-least.result < length entry.args.values.now
+  index : c.least_of-least.result < length c.args.values.now
   index =
-      omega (arith, least.within, entry.requires.1.places, scenarios-most entry.args.valued.position.components-1 entry.requires.0.limits.stress)
+      omega (arith, least.within, c.requires.1.places, scenarios-most c.args.valued.position.components-1 c.requires.0.limits.stress)
 
-  size : nat_abs lowest ≤ most_flows * unit + entry.args.deviation
-  size = estimate-size _ _ entry.requires.0.limits _ _ entry.requires.1 _ least.within
+  size : nat_abs lowest ≤ most_flows * unit + c.args.deviation
+  size = estimate-size _ _ c.requires.0.limits _ _ c.requires.1 _ least.within
 
   -- the limit, as the code has it
-  limit : read (read lowest +ℤ read (pos 2 *ℤ cast entry.args.deviation)) ≡ limit_of lowest entry.args.deviation
-  limit = limit-read entry.args.deviation entry.requires.1.small lowest size
+  limit : read (read lowest +ℤ read (pos 2 *ℤ cast c.args.deviation)) ≡ limit_of lowest c.args.deviation
+  limit = limit-read c.args.deviation c.requires.1.small lowest size
 
 pub overflow_mul-limit : goal.overflow_mul-limit
-overflow_mul-limit c = let s = entry (goal.at.overflow_mul-limit c).After-least_of-least in twice-fits s.args.deviation s.requires.1.small
+overflow_mul-limit c = let s = (goal.at.overflow_mul-limit c).After-least_of-least in twice-fits s.args.deviation s.requires.1.small
 
 pub overflow_add-limit : goal.overflow_add-limit
 overflow_add-limit c =
-    limit-fits (entry (goal.at.overflow_add-limit c).After-least_of-least).args.deviation (entry (goal.at.overflow_add-limit c).After-least_of-least).requires.1.small (lowest (goal.at.overflow_add-limit c).After-least_of-least) (size (goal.at.overflow_add-limit c).After-least_of-least)
+    limit-fits ((goal.at.overflow_add-limit c).After-least_of-least).args.deviation ((goal.at.overflow_add-limit c).After-least_of-least).requires.1.small (lowest (goal.at.overflow_add-limit c).After-least_of-least) (size (goal.at.overflow_add-limit c).After-least_of-least)
 
 pub worst_kept-requires : goal.worst_kept-requires
 worst_kept-requires c =
     rw (limit (goal.at.worst_kept-requires c).After-least_of-least)
-    ((entry (goal.at.worst_kept-requires c).After-least_of-least).requires.0, (entry (goal.at.worst_kept-requires c).After-least_of-least).requires.1.places, record { place = c.least_of-least.result; within = (least (goal.at.worst_kept-requires c).After-least_of-least).within; kept = not-above _ _ })
+    (((goal.at.worst_kept-requires c).After-least_of-least).requires.0, ((goal.at.worst_kept-requires c).After-least_of-least).requires.1.places, record { place = c.least_of-least.result; within = (least (goal.at.worst_kept-requires c).After-least_of-least).within; kept = not-above _ _ })
 
 pub returns : goal.returns
 returns c =
-    worst-is _ _ _ _ (entry (goal.at.returns c).After-least_of-least).requires.1 (least (goal.at.returns c).After-least_of-least) _ (rw (limit (goal.at.returns c).After-least_of-least) at c.worst_kept.ensures)
+    worst-is _ _ _ _ ((goal.at.returns c).After-least_of-least).requires.1 (least (goal.at.returns c).After-least_of-least) _ (rw (limit (goal.at.returns c).After-least_of-least) at c.worst_kept.ensures)
 
 pub offset_bounds-values-least : goal.offset_bounds-values-least
 offset_bounds-values-least c = omega (arith, index c)

@@ -35,9 +35,6 @@ module _ (c : After-list_days-count) where
 
 -- the values filled in
 module _ (c : After-fill_values) where
-  abbrev entry : Start
-  entry = c
-
 pub fill_values-requires : goal.fill_values-requires
 fill_values-requires c =
     let l = let after-grid = c.before.before in after-grid.before.before.before in
@@ -46,7 +43,7 @@ fill_values-requires c =
 
 pub lower-requires : goal.lower-requires
 lower-requires c =
-    let s = entry (goal.at.lower-requires c).After-fill_values in
+    let s = (goal.at.lower-requires c).After-fill_values in
     let n = c.scenario_count.ensures in
     let most = scenarios-most s.args.components s.requires.1 in
     let low = c.map_nets.ensures in
@@ -57,10 +54,9 @@ lower-requires c =
 
 pub returns : goal.returns
 returns c =
-    let s = entry (goal.at.returns c).After-fill_values in
     let low = c.map_nets.ensures in
-    let lowered = rw (c.scenario_count.ensures, s.requires.4) at c.lower.ensures.each in
-    record { kept = c.lower.ensures.kept ∙ c.fill_values.ensures.kept; low = λ e. (low-none-above s.args.curve s.args.components _ _ _ low _ _ c.fill_values.ensures.each lowered, low_small s.args.curve s.args.components _ _ _ low _ _ c.fill_values.ensures.each lowered (spare-most _ _ s.requires.2)) }
+    let lowered = rw (c.scenario_count.ensures, c.requires.4) at c.lower.ensures.each in
+    record { kept = c.lower.ensures.kept ∙ c.fill_values.ensures.kept; low = λ e. (low-none-above c.args.curve c.args.components _ _ _ low _ _ c.fill_values.ensures.each lowered, low_small c.args.curve c.args.components _ _ _ low _ _ c.fill_values.ensures.each lowered (spare-most _ _ c.requires.2)) }
 
 pub slice_bounds-fill_values-end : goal.slice_bounds-fill_values-end
 slice_bounds-fill_values-end c = let l = let else = c.before in else.before.before in sym (length-take-le _ _ (room l))

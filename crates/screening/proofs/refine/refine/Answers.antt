@@ -18,7 +18,7 @@ use Rattle.screening.proofs.Refining.{refined-kept, refined-left, Refining, refi
 use Rattle.screening.proofs.refine.refine.Goals as goal
 use Rattle.screening.proofs.refine.refine.Goals.{After-fill_ends, After-value_in-limit, At-loop-s, In-loop-s, Joined-v-limit, Start}
 
--- the entry, and what is found before the loop
+-- the c, and what is found before the loop
 
 pub fill_ends-requires : goal.fill_ends-requires
 fill_ends-requires c =
@@ -44,10 +44,7 @@ loop-s-init c = (omega arith, refining-none _ _ _ _ _)
 
 -- a c
 module _ (c : In-loop-s) where
-  abbrev entry : Start
-  entry = c.before
-
-  within : c.loop-s.s < scenario_count entry.args.components
+  within : c.loop-s.s < scenario_count c.args.components
   within =
       omega (arith, c.loop-s-test.true, c.scenario_count-n.ensures)
 
@@ -55,42 +52,39 @@ module _ (c : In-loop-s) where
   value = get_or c.loop-s.values c.loop-s.s (pos 0)
 
   fits-place : c.loop-s.s < 343
-  fits-place = omega (arith, within, scenarios-most _ entry.requires.1)
+  fits-place = omega (arith, within, scenarios-most _ c.requires.1)
 
 pub scenario-requires-then-v-limit : goal.scenario-requires-then-v-limit
-scenario-requires-then-v-limit c = let c = c.before.before in ((entry (goal.at.scenario-requires-then-v-limit c).In-loop-s).requires.1, within (goal.at.scenario-requires-then-v-limit c).In-loop-s)
+scenario-requires-then-v-limit c = let c = c.before.before in (((goal.at.scenario-requires-then-v-limit c).In-loop-s).requires.1, within (goal.at.scenario-requires-then-v-limit c).In-loop-s)
 
 pub value_in-v-requires : goal.value_in-v-requires
 value_in-v-requires c =
     let after-scenario = c.before in
     let c = after-scenario.before.before.before in
-    let p = (entry (goal.at.value_in-v-requires c).In-loop-s).requires in
+    let p = ((goal.at.value_in-v-requires c).In-loop-s).requires in
     (p.0, rw after-scenario.scenario-then-v-limit.ensures (scenario-limits _ _ (within (goal.at.value_in-v-requires c).In-loop-s) p.1), (c.before).fill_ends.ensures, p.2, p.3)
 
 -- what is written
 module _ (c : Joined-v-limit) where
-  abbrev here : Start
-  here = entry c
-
   abbrev limit : ℤ
   limit = c.value_in-limit.result
 
-  written : to_z w64 c.if-v-limit.v ≡ refined_value here.args.curve here.args.components here.args.nets.now (read limit) c.loop-s.s (value c)
+  written : to_z w64 c.if-v-limit.v ≡ refined_value c.args.curve c.args.components c.args.nets.now (read limit) c.loop-s.s (value c)
   written =
-      let x = here.args.components in
-      let nets = here.args.nets.now in
+      let x = c.args.components in
+      let nets = c.args.nets.now in
       let s = c.loop-s.s in
       let same = back (value c) c.v-1.given in
       ⊎_elim
       (λ w.
-      ap (to_z w64) w.4 ∙ scenario-read here.args.curve x nets _ s here.requires.2 _ _ w.1.ensures w.3.ensures
-      ∙ sym (refined-kept here.args.curve x nets (read limit) s (value c) (rw same at w.0.taken)))
-      (λ w. ap (to_z w64) w.1 ∙ same ∙ sym (refined-left here.args.curve x nets (read limit) s (value c) (rw same at w.0.left)))
+      ap (to_z w64) w.4 ∙ scenario-read c.args.curve x nets _ s c.requires.2 _ _ w.1.ensures w.3.ensures
+      ∙ sym (refined-kept c.args.curve x nets (read limit) s (value c) (rw same at w.0.taken)))
+      (λ w. ap (to_z w64) w.1 ∙ same ∙ sym (refined-left c.args.curve x nets (read limit) s (value c) (rw same at w.0.left)))
       c.if-v-limit.branch
 
 pub loop-s-preserved : goal.loop-s-preserved
 loop-s-preserved c =
-    (omega (arith, c.loop-s-test.true), refining-next _ _ _ _ _ _ _ c.loop-s.invariant.1 (omega (arith, within (goal.at.loop-s-preserved c).In-loop-s, (entry (goal.at.loop-s-preserved c).In-loop-s).requires.4)) _ (written c))
+    (omega (arith, c.loop-s-test.true), refining-next _ _ _ _ _ _ _ c.loop-s.invariant.1 (omega (arith, within (goal.at.loop-s-preserved c).In-loop-s, ((goal.at.loop-s-preserved c).In-loop-s).requires.4)) _ (written c))
 
 pub returns : goal.returns
 returns c =
@@ -107,13 +101,13 @@ pub offset_bounds-values-at : goal.offset_bounds-values-at
 offset_bounds-values-at c = omega (arith, fits-place c)
 
 pub slice_copy_out-v : goal.slice_copy_out-v
-slice_copy_out-v c = omega (arith, within c, (entry c).requires.4, c.loop-s.invariant.1.places)
+slice_copy_out-v c = omega (arith, within c, c.requires.4, c.loop-s.invariant.1.places)
 
 pub offset_bounds-values-at-in-loop-s : goal.offset_bounds-values-at-in-loop-s
 offset_bounds-values-at-in-loop-s c = omega (arith, fits-place (goal.at.offset_bounds-values-at-in-loop-s c).In-loop-s)
 
 pub bounds-values-at : goal.bounds-values-at
-bounds-values-at c = let c = c.before.before in omega (arith, within (goal.at.bounds-values-at c).In-loop-s, (entry (goal.at.bounds-values-at c).In-loop-s).requires.4, c.loop-s.invariant.1.places)
+bounds-values-at c = let c = c.before.before in omega (arith, within (goal.at.bounds-values-at c).In-loop-s, ((goal.at.bounds-values-at c).In-loop-s).requires.4, c.loop-s.invariant.1.places)
 
 pub overflow_add-s : goal.overflow_add-s
 overflow_add-s c = omega (arith, fits-place (goal.at.overflow_add-s c).In-loop-s)

@@ -29,11 +29,8 @@ bounds-days-i c = omega (arith, c.loop-i-test.true, c.loop-i.invariant.ready.mos
 
 -- the day of a c
 module _ (c : After-shared_slice_known-in-loop-i-1) where
-  abbrev entry : Start
-  entry = c.before
-
   abbrev day : ℕ
-  day = get_or entry.args.days.now c.loop-i.i 0
+  day = get_or c.args.days.now c.loop-i.i 0
 
   within : day < 10951
   within = (going-day _ _ _ _ _ _ c.loop-i.invariant c.loop-i-test.true).0
@@ -45,15 +42,14 @@ pub offset_bounds-nets-at : goal.offset_bounds-nets-at
 offset_bounds-nets-at c = omega (arith, within c)
 
 pub bounds-nets-at : goal.bounds-nets-at
-bounds-nets-at c = omega (arith, within c, (entry c).requires.0.places)
+bounds-nets-at c = omega (arith, within c, c.requires.0.places)
 
 pub day_value-value-requires : goal.day_value-value-requires
 day_value-value-requires c =
-    let s = entry (goal.at.day_value-value-requires c).After-shared_slice_known-in-loop-i-1 in
     let k = c.loop-i-test.true in
-    let net = get_or s.args.nets.now (day (goal.at.day_value-value-requires c).After-shared_slice_known-in-loop-i-1) (pos 0) in (
+    let net = get_or c.args.nets.now (day (goal.at.day_value-value-requires c).After-shared_slice_known-in-loop-i-1) (pos 0) in (
       (going-day _ _ _ _ _ _ c.loop-i.invariant k).1,
-      s.requires.1,
+      c.requires.1,
       rw (back net c.day_value-arg-1.given) (amount-most _ _ _ _ _ _ c.loop-i.invariant k),
     )
 
@@ -64,21 +60,21 @@ read_as r z e h = rw e (read_is z h)
 -- what the day's amount is worth, and the sum with it, read back from their bits
 module _ (c : After-day_value-value) where
   abbrev net : ℤ
-  net = get_or (entry c).args.nets.now (day c) (pos 0)
+  net = get_or c.args.nets.now (get_or c.args.days.now c.loop-i.i 0) (pos 0)
 
   abbrev worth_now : ℤ
-  worth_now = worth (cheap_on (rate_on (entry c).args.line) (day c)) net
+  worth_now = worth (cheap_on (rate_on c.args.line) (get_or c.args.days.now c.loop-i.i 0)) net
 
   abbrev sum : ℤ
-  sum = cast c.loop-i.value +ℤ worth_now
+  sum = c.loop-i.value +ℤ worth_now
 
   worth-read : read c.day_value-value.result ≡ worth_now
   unfolding most_size
   worth-read =
       let most = amount-most _ _ _ _ _ _ c.loop-i.invariant c.loop-i-test.true in
-      let rate = rate_on (entry c).args.line in
-      let is : c.day_value-value.result ≡ worth_now = c.day_value-value.ensures ∙ ap (worth (cheap_on rate (day c))) (back net c.day_value-arg-1.given) in
-      read_as _ worth_now is (omega (arith, most, cheap-worth rate (day c) net))
+      let rate = rate_on c.args.line in
+      let is : c.day_value-value.result ≡ worth_now = c.day_value-value.ensures ∙ ap (worth (cheap_on rate (get_or c.args.days.now c.loop-i.i 0))) (back net c.day_value-arg-1.given) in
+      read_as _ worth_now is (omega (arith, most, cheap-worth rate (get_or c.args.days.now c.loop-i.i 0) net))
 
   sum-most : nat_abs sum < 2 ^ 63
   unfolding most_size
