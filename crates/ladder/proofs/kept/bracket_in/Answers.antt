@@ -1,5 +1,4 @@
 -- `ladder::kept::bracket_in` meets its contract.
-use borrow.Author.Rules.{rules}
 use mathlib.Core.Path.{refl}
 use Rattle.ladder.specs.Kept.{bracket_in}
 use Rattle.ladder.proofs.kept.bracket_in.Goals as goal

@@ -1,5 +1,4 @@
 -- `ladder::kept::entry_of` meets its contract.
-use borrow.Author.Rules.{rules}
 use Rattle.ladder.proofs.KeptFactors.{bracket-read}
 use Rattle.ladder.proofs.kept.entry_of.Goals as goal
 

@@ -1,16 +1,13 @@
 -- `ladder::net::deviation_of` meets its contract, by the fold over the ladder's flows.
 use mathlib.Core.Path.{◌∙◌}
-use Prim.Native.Nat.{◌+◌}
 use native.Mathlib.Nat.{zero-add}
 use native.Mathlib.Omega.{arith}
-use lib.ListN.{length}
 use Rattle.decimal.specs.Product.{unit}
 use Rattle.netting.specs.Netting.{flow_deviation}
 use Rattle.legs.specs.Limits.{LegLimits}
 use Rattle.ladder.specs.Ladder.{leg_at, RungLimits}
-use Rattle.ladder.specs.Totals.{FlowLimits, RoomFor}
-use Rattle.ladder.proofs.LadderFlows.{flows_from}
-use Rattle.ladder.proofs.Folds.{Folded, folded-none, folded-next, folded-all, rung-limits, rung-room, flow-limits, fewer-left, sum-fold, room-none}
+use Rattle.ladder.specs.Totals.{FlowLimits}
+use Rattle.ladder.proofs.Folds.{folded-none, folded-next, folded-all, rung-limits, rung-room, flow-limits, fewer-left, sum-fold, room-none}
 use Rattle.ladder.proofs.Netting.{deviation-next}
 use Rattle.ladder.proofs.net.deviation_of.Goals as goal
 use Rattle.ladder.proofs.net.deviation_of.Goals.{After-payment-f, In-loop-rung, Start}

@@ -11,9 +11,8 @@ use Rattle.netting.proofs.NetAmounts.{net-read}
 use Rattle.legs.specs.Limits.{LegLimits}
 use Rattle.ladder.specs.Ladder.{leg_at, RungLimits}
 use Rattle.ladder.specs.Totals.{FlowLimits, RoomFor}
-use Rattle.ladder.proofs.LadderFlows.{flows_from}
-use Rattle.ladder.proofs.Folds.{Folded, folded-none, folded-next, folded-all, rung-limits, rung-room, flow-limits, fewer-left, room-less}
-use Rattle.ladder.proofs.Netting.{DaysRoom, nets-next}
+use Rattle.ladder.proofs.Folds.{folded-none, folded-next, folded-all, rung-limits, rung-room, flow-limits, fewer-left, room-less}
+use Rattle.ladder.proofs.Netting.{nets-next}
 use Rattle.ladder.proofs.net.net_days.Goals as goal
 use Rattle.ladder.proofs.net.net_days.Goals.{After-payment-f, In-loop-rung, Start}
 

@@ -1,7 +1,6 @@
 -- `ladder::payments::payment` meets its contract.
 use Prim.Native.Nat.{◌+◌, ◌*◌, ◌≤◌}
 use native.Mathlib.Omega.{arith}
-use borrow.Author.Rules.{rules}
 use borrow.Author.Tests.{eq-eqb, ne_eqb}
 use Rattle.legs.proofs.Reach.{span}
 use Rattle.ladder.specs.Ladder.{leg_at}

@@ -1,5 +1,4 @@
 -- `ladder::valuing::known_value` meets its contract.
-use borrow.Author.Rules.{rules}
 use lib.ListN.{get_or}
 use Rattle.curve.specs.Rates.{nodes_of, rate_at}
 use Rattle.curve.proofs.Rates.{curve-rate-limit}
@@ -7,8 +6,6 @@ use Rattle.ladder.specs.Kept.{KeptOn}
 use Rattle.ladder.proofs.KeptFactors.{bracket-kept, kept-with}
 use Rattle.ladder.proofs.valuing.known_value.Goals as goal
 use Rattle.ladder.proofs.valuing.known_value.Goals.{After-slice_known-2-1, Start, Then-entry-ne0}
-
--- the entry's record
 
 -- what is kept of the flow's day
 kept : (c : Then-entry-ne0) → let s = c.before in KeptOn (rate_at (nodes_of s.args.curve) s.args.f.day) s.args.f.day (get_or s.args.factors.now s.args.f.day 0)
@@ -28,5 +25,5 @@ bracket_at-b-requires c =
 pub returns : goal.returns
 returns c =
     let e = c.bracket_at-b.ensures in
-    let between = rw c.rate_at.ensures at e.1.1 in
-    record { value_value = c.fine_value_in.ensures.worth _ _ between; kept_factors = kept-with _ _ c.requires.3 (bracket-kept _ _ c.entry_of.ensures.0 c.entry_of.ensures.1 e.1.0 between) }
+    let between = rw c.rate_at.ensures at e.between in
+    record { value_value = c.fine_value_in.ensures.worth _ _ between; kept_factors = kept-with _ _ c.requires.3 (bracket-kept _ _ c.entry_of.ensures.0 c.entry_of.ensures.1 e.limits between) }

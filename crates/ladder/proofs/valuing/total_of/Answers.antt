@@ -1,22 +1,15 @@
 -- `ladder::valuing::total_of` meets its contract, by the fold over the ladder's flows.
 use mathlib.Core.Path.{sym, ◌∙◌}
 use native.Mathlib.Omega.{arith}
-use lib.ListN.{length}
-use Rattle.curve.specs.Rates.{nodes_of, rate_at}
-use Rattle.discount.specs.Flows.{flow_value}
-use Rattle.ladder.specs.Kept.{KeptFactors}
-use Rattle.ladder.specs.Held.{held, ValuingLimits}
+use Rattle.ladder.specs.Held.{held}
 use Rattle.legs.specs.Limits.{LegLimits}
 use Rattle.ladder.specs.Ladder.{leg_at, RungLimits}
-use Rattle.ladder.specs.Totals.{plus_flow, no_flows, FlowLimits}
-use Rattle.ladder.proofs.LadderFlows.{flows_from}
-use Rattle.ladder.proofs.Folds.{Folded, folded-none, folded-next, folded-all, rung-limits, rung-room, flow-limits, fewer-left}
+use Rattle.ladder.specs.Totals.{FlowLimits}
+use Rattle.ladder.proofs.Folds.{folded-none, folded-next, folded-all, rung-limits, rung-room, flow-limits, fewer-left}
 use Rattle.ladder.proofs.Totals.{plus_flows-none}
 use Rattle.ladder.proofs.Held.{limits-none, limits-less}
 use Rattle.ladder.proofs.valuing.total_of.Goals as goal
-use Rattle.ladder.proofs.valuing.total_of.Goals.{After-next-rung, After-payment-f, After-slice_known-1, After-with_flow-valuing, In-loop-rung, Start}
-
--- the entry's record
+use Rattle.ladder.proofs.valuing.total_of.Goals.{After-payment-f, In-loop-rung}
 
 pub loop-rung-init : goal.loop-rung-init
 unfolding held
@@ -26,37 +19,28 @@ loop-rung-init c =
 
 -- in a turn
 module _ (c : In-loop-rung) where
-  abbrev start : Start
-  start = c.before.before.before
-
-  here : RungLimits start.args.ladder.now c.loop-rung.rung × LegLimits (leg_at start.args.id start.args.ladder.now c.loop-rung.rung.schedule)
-  here = rung-limits c.loop-rung.invariant.0 start.requires.1 c.loop-rung-test.true
+  here : RungLimits c.args.ladder.now c.loop-rung.rung × LegLimits (leg_at c.args.id c.args.ladder.now c.loop-rung.rung.schedule)
+  here = rung-limits c.loop-rung.invariant.0 c.requires.1 c.loop-rung-test.true
 
 limits : (c : After-payment-f) → FlowLimits c.payment-f.result
-limits c =
-    let turn = c.before in
-    flow-limits turn.loop-rung.invariant.0 (start turn).requires.1 turn.loop-rung-test.true c.payment-f.ensures
+limits c = flow-limits c.loop-rung.invariant.0 c.requires.1 c.loop-rung-test.true c.payment-f.ensures
 
 pub with_flow-valuing-requires : goal.with_flow-valuing-requires
 with_flow-valuing-requires c =
     let loop = c.loop-rung in
-    let p = (start (goal.at.with_flow-valuing-requires c).In-loop-rung).requires in
+    let p = c.requires in
     (limits-less (omega arith) (rung-room loop.invariant.0 p.1 c.loop-rung-test.true), p.0, limits (goal.at.with_flow-valuing-requires c).After-payment-f, p.2, loop.invariant.1)
-
--- a turn's places: the flow valued, and the turn
 
 pub loop-rung-smaller : goal.loop-rung-smaller
 loop-rung-smaller c =
-    fewer-left c.loop-rung.invariant.0 (start (goal.at.loop-rung-smaller c).In-loop-rung).requires.1 c.loop-rung-test.true c.next-rung.ensures
+    fewer-left c.loop-rung.invariant.0 c.requires.1 c.loop-rung-test.true c.next-rung.ensures
 
 pub loop-rung-preserved : goal.loop-rung-preserved
 loop-rung-preserved c =
-    let more = c.with_flow-valuing.ensures in
-    let at = c.before.before in
-    let turn = at.before in (
-      rw more.0.held
-          (folded-next turn.loop-rung.invariant.0 (start (goal.at.loop-rung-preserved c).In-loop-rung).requires.1 turn.loop-rung-test.true at.payment-f.ensures c.next-rung.ensures more.0.limits),
-      more.1,
+    let more = c.with_flow-valuing.ensures in (
+      rw more.with_flow.held
+          (folded-next c.loop-rung.invariant.0 c.requires.1 c.loop-rung-test.true c.payment-f.ensures c.next-rung.ensures more.with_flow.limits),
+      more.kept_factors,
     )
 
 pub finished-requires : goal.finished-requires
@@ -75,4 +59,4 @@ pub payment-f-requires : goal.payment-f-requires
 payment-f-requires c = here c
 
 pub next-rung-requires : goal.next-rung-requires
-next-rung-requires c = let after-with-flow = c.before.before in (here (goal.at.next-rung-requires c).In-loop-rung).0
+next-rung-requires c = (here (goal.at.next-rung-requires c).In-loop-rung).0

@@ -1,18 +1,12 @@
 -- `ladder::valuing::total_of` meets its contract, by the fold over the ladder's flows.
-use mathlib.Core.Path.{sym, ◌∙◌}
-use native.Mathlib.Omega.{arith}
 use lib.ListN.{length}
 use Rattle.curve.specs.Rates.{nodes_of, rate_at}
 use Rattle.discount.specs.Flows.{flow_value}
 use Rattle.ladder.specs.Kept.{KeptFactors}
 use Rattle.ladder.specs.Held.{held, ValuingLimits}
-use Rattle.legs.specs.Limits.{LegLimits}
-use Rattle.ladder.specs.Ladder.{leg_at, RungLimits}
-use Rattle.ladder.specs.Totals.{plus_flow, no_flows, FlowLimits}
+use Rattle.ladder.specs.Totals.{plus_flow, no_flows}
 use Rattle.ladder.proofs.LadderFlows.{flows_from}
-use Rattle.ladder.proofs.Folds.{Folded, folded-none, folded-next, folded-all, rung-limits, rung-room, flow-limits, fewer-left}
-use Rattle.ladder.proofs.Totals.{plus_flows-none}
-use Rattle.ladder.proofs.Held.{limits-none, limits-less}
+use Rattle.ladder.proofs.Folds.{Folded}
 use Rattle.ladder.proofs.valuing.total_of.Given as goal
 
 abbrev pub invariant-loop-rung : goal.invariant-loop-rung

@@ -1,5 +1,4 @@
 -- `ladder::valuing::value_of` meets its contract.
-use borrow.Author.Rules.{rules}
 use Rattle.ladder.proofs.KeptFactors.{kept-none}
 use Rattle.ladder.proofs.valuing.value_of.Goals as goal
 

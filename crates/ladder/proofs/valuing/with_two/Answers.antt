@@ -1,5 +1,4 @@
 -- `ladder::valuing::with_two` meets its contract.
-use borrow.Author.Rules.{rules}
 use mathlib.Core.Path.{◌≡◌, ◌∙◌, ap}
 use mathlib.Core.List.{List}
 use Prim.Native.Nat.{ℕ}
@@ -41,35 +40,35 @@ module _ (c : After-factors-both) where
 
 pub overflow_mul-factors : goal.overflow_mul-factors
 unfolding unit
-overflow_mul-factors c = let at = c.before.before.before in omega (arith, at.factors-both.ensures.1)
+overflow_mul-factors c = omega (arith, c.factors-both.ensures.1)
 
 pub overflow_mul-factors-2 : goal.overflow_mul-factors-2
 unfolding unit
 overflow_mul-factors-2 c = omega (arith, c.factors-both.ensures.3)
 
 pub bounds-factors-other : goal.bounds-factors-other
-bounds-factors-other c = let s = c in simp length-set (omega (arith, s.requires.3.day, s.requires.4.places))
+bounds-factors-other c = simp length-set (omega (arith, c.requires.3.day, c.requires.4.places))
 
 -- the values added are those of the flows
-one : (c : After-discounted) → let s = c.before in c.discounted.result ≡ flow_value (rate_at (nodes_of s.args.curve)) s.args.f
-one c = let known = c.before in c.discounted.ensures ∙ at-factor _ known.args.f (first known)
+one : (c : After-discounted) → c.discounted.result ≡ flow_value (rate_at (nodes_of c.args.curve)) c.args.f
+one c =
+    c.discounted.ensures
+    ∙ at-factor _ c.args.f (c.factors-both.ensures.0 ∙ ap (λ (r : ℕ). factor r c.args.f.day) c.rate_at.ensures)
 
-other : (c : After-discounted-2) → let s = c.before.before.before in c.discounted-2.result ≡ flow_value (rate_at (nodes_of s.args.curve)) s.args.g
+other : (c : After-discounted-2) → c.discounted-2.result ≡ flow_value (rate_at (nodes_of c.args.curve)) c.args.g
 other c =
-    let known = c.before.before.before in
-    c.discounted-2.ensures ∙ at-factor _ known.args.g (second known)
+    c.discounted-2.ensures
+    ∙ at-factor _ c.args.g (c.factors-both.ensures.2 ∙ ap (λ (r : ℕ). factor r c.args.g.day) c.rate_at-2.ensures)
 
 pub with_flow-one-requires : goal.with_flow-one-requires
 with_flow-one-requires c =
     (total-less (omega arith) c.requires.0, c.requires.2, rw (one c) (value-most _ c.args.f c.requires.2))
 
 pub with_flow-requires : goal.with_flow-requires
-with_flow-requires c =
-    let at = c.before.before in
-    let s = at.before in (
-      rw c.with_flow-one.ensures (total-next (rw (one (goal.at.with_flow-requires c).After-discounted) (value-most _ s.args.f s.requires.2)) s.requires.2 s.requires.0),
-      s.requires.3,
-      rw (other c) (value-most _ s.args.g s.requires.3),
+with_flow-requires c = (
+      rw c.with_flow-one.ensures (total-next (rw (one (goal.at.with_flow-requires c).After-discounted) (value-most _ c.args.f c.requires.2)) c.requires.2 c.requires.0),
+      c.requires.3,
+      rw (other c) (value-most _ c.args.g c.requires.3),
     )
 
 -- a total with two values, as they are known

@@ -1,5 +1,4 @@
 -- `ladder::payments::Rung::next` meets its contract.
-use borrow.Author.Rules.{rules}
 use mathlib.Core.Path.{sym}
 use Rattle.ladder.proofs.LadderFlows.{next_last, next-other}
 use Rattle.ladder.proofs.payments.Rung.next.Goals as goal

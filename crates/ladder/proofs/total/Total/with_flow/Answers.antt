@@ -1,5 +1,4 @@
 -- `ladder::total::Total::with_flow` meets its contract.
-use borrow.Author.Rules.{rules}
 use Rattle.ladder.specs.Totals.{plus_flow}
 use Rattle.ladder.proofs.Totals.{off-fits, cast_fits, fits_more, read_more, fits-less, read-less}
 use Rattle.ladder.proofs.total.Total.with_flow.Goals as goal
@@ -9,7 +8,7 @@ overflow_cast-worth c = cast_fits c.args.self.sum _ c.requires.0.value c.require
 
 pub overflow_add-off : goal.overflow_add-off
 overflow_add-off c =
-    rw c.tolerance.ensures (off-fits _ _ _ c.requires.0.off c.requires.1.amount (search rules))
+    rw c.tolerance.ensures (record { fits = off-fits _ _ _ c.requires.0.off c.requires.1.amount c.requires.1.day })
 
 pub overflow_add-result : goal.overflow_add-result
 overflow_add-result c =

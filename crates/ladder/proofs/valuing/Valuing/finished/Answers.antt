@@ -1,5 +1,4 @@
 -- `ladder::valuing::Valuing::finished` meets its contract.
-use borrow.Author.Rules.{rules}
 use mathlib.Core.Path.{◌≡◌}
 use Rattle.curve.specs.Rates.{nodes_of, rate_at}
 use Rattle.curve.proofs.Rates.{curve-rate-limit}
@@ -8,8 +7,6 @@ use Rattle.discount.specs.Flows.{flow_value}
 use Rattle.ladder.proofs.Held.{at-rate, value-most, waiting-room, held-waiting, held-total}
 use Rattle.ladder.proofs.valuing.Valuing.finished.Goals as goal
 use Rattle.ladder.proofs.valuing.Valuing.finished.Goals.{After-present_value-value, Start, Then-self}
-
--- the entry's record
 
 pub present_value-value-requires : goal.present_value-value-requires
 unfolding million
