@@ -39,6 +39,7 @@ module _ (c : After-header_verdict-first) where
 
 pub returns-then-not-is_accepted : goal.returns-then-not-is_accepted
 returns-then-not-is_accepted c =
+    let l = fits (goal.at.returns-then-not-is_accepted c).Else-breaks_length in
     let judged = judged (goal.at.returns-then-not-is_accepted c).After-header_verdict-first in
     let stop = rw judged at (sym c.is_accepted.ensures ∙ c.if-not-is_accepted.true) in
     judged ∙ sym (verdict-blocks _ _ (kept (goal.at.returns-then-not-is_accepted c).Else-breaks_length) ∙ header-stops _ _ (omega arith) stop)

@@ -37,7 +37,7 @@ turn c =
 pub overflow_add-sum : goal.overflow_add-sum
 unfolding unit
 overflow_add-sum c =
-    omega (arith, turn c, whole ((goal.at.overflow_add-sum c).At-loop-k))
+    omega (arith, turn c, whole (goal.at.overflow_add-sum c).Start)
 
 pub loop-k-preserved : goal.loop-k-preserved
 loop-k-preserved c = (search rules, omega (arith, turn c))
@@ -49,15 +49,15 @@ value_of-requires c =
 
 -- the last payment alone
 last : (c : After-value_of) → let after-loop = c.before.before.before in let k = after-loop.loop-k.k in let a = after-loop.args in
-    bond_value (nodes_of a.c) (table (flow_of a.l) k (a.to - k)) ≡ c.value_of_lem.result
+    bond_value (nodes_of a.c) (table (flow_of a.l) k (a.to - k)) ≡ c.value_of.result
 last c =
     let a = c.args in
-    rw (c.value_of_lem.ensures, c.payment-f-then-k-to.ensures) (value-one (nodes_of a.c) a.l c.loop-k.k a.to c.if-k-to.true c.loop-k-test.false)
+    rw (c.value_of.ensures, c.payment-f-then-k-to.ensures) (value-one (nodes_of a.c) a.l c.loop-k.k a.to c.if-k-to.true c.loop-k-test.false)
 
 pub overflow_add-result : goal.overflow_add-result
 unfolding unit
 overflow_add-result c =
-    omega (arith, last c, whole ((goal.at.overflow_add-result c).At-loop-k))
+    omega (arith, last c, whole (goal.at.overflow_add-result c).Start)
 
 pub returns-then-k-to : goal.returns-then-k-to
 returns-then-k-to c = omega (arith, last c)

@@ -1,7 +1,7 @@
 -- `estimate::values::value_on` meets its contract: from node to node, what is valued and what is left are together all.
 use borrow.Author.Rules.{rules}
-use mathlib.Core.Path.{◌≡◌}
-use Prim.Native.Nat.{◌-◌}
+use mathlib.Core.Path.{◌≡◌, subst}
+use Prim.Native.Nat.{ℕ, ◌-◌}
 use native.Mathlib.Omega.{arith}
 use Rattle.estimate.proofs.CurveLines.{ahead}
 use Rattle.estimate.proofs.CurveValues.{Held, ready-first, held_first, ready-next, held_next, ready-last, held_all, value_read}
@@ -59,7 +59,7 @@ module _ (c : After-loop-i) where
   all =
       let h = c.loop-i.invariant in
       let e : c.loop-i.i ≡ c.args.curve.count = omega (arith, c.loop-i-test.false, h.most) in
-      rw e h
+      subst (λ (x : ℕ). Held c.args.curve c.args.nets.now c.args.days.now c.args.ends.now x c.loop-i.p) e h
 
 pub level-requires-2 : goal.level-requires-2
 level-requires-2 c =

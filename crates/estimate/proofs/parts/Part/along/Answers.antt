@@ -66,7 +66,7 @@ module _ (c : After-day_value-value) where
   worth_now = worth (cheap_on (rate_on c.args.line) (get_or c.args.days.now c.loop-i.i 0)) net
 
   abbrev sum : ℤ
-  sum = c.loop-i.value +ℤ worth_now
+  sum = cast c.loop-i.value-bits +ℤ worth_now
 
   worth-read : read c.day_value-value.result ≡ worth_now
   unfolding most_size
@@ -90,4 +90,4 @@ loop-i-preserved c =
 pub returns : goal.returns
 returns c =
     let a = going_end _ _ _ _ _ _ c.loop-i.invariant c.loop-i-test.false in
-    rw (value_read (goal.at.returns c).Start) a
+    rw (value_read (goal.at.returns c).Start) at a
