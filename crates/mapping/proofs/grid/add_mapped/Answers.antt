@@ -11,7 +11,6 @@ add_flow-requires c =
     (c.requires.0.places, first-limits c.args.f c.args.k c.requires.1 c.requires.2, omega (arith, c.requires.0.each c.args.k.first))
 
 -- what the nets are after the first flow, and after the second
-module _ (c : After-add_flow) where
 pub add_flow-requires-2 : goal.add_flow-requires-2
 add_flow-requires-2 c =
     let after-add = c.before.before.before in

@@ -6,4 +6,4 @@ use Rattle.mapping.proofs.ranges.range_of.Goals as goal
 pub returns : goal.returns
 unfolding range_of
 returns c =
-    rw (c.larger-highest.ensures, c.height_of-2.ensures, c.height_of.ensures, c.width_of_lem.ensures)
+    rw (c.larger-highest.ensures, c.height_of-2.ensures, c.height_of.ensures, c.width_of-width.ensures)

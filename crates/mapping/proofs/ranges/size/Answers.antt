@@ -14,7 +14,7 @@ same s = read_is s.args.z (omega (arith, s.requires))
 
 -- below 0
 code : (c : Then-z-lt0) → pos 0 -ℤ read c.args.z ≡ pos (nat_abs c.args.z)
-code c = rw (same c.before) (turned c.args.z (tested c.args.z (λ z. lt_z z (pos 0)) true c.ranges.z c.if-z-lt0.taken))
+code c = rw (same c.before) (turned c.args.z (tested c.args.z (λ z. lt_z z (pos 0)) true c.ranges.z c.if-z-lt0.true))
 
 pub overflow_sub-result : goal.overflow_sub-result
 overflow_sub-result c = rw (code c) (fits (pos (nat_abs c.args.z)) (omega (arith, c.requires)))

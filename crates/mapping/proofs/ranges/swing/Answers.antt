@@ -5,7 +5,7 @@ use Rattle.mapping.proofs.ranges.swing.Goals as goal
 
 pub returns-then-x-eq0 : goal.returns-then-x-eq0
 unfolding swing
-returns-then-x-eq0 c = rw (eq-eqb _ _ c.if-x-eq0.taken)
+returns-then-x-eq0 c = rw (eq-eqb _ _ c.if-x-eq0.true)
 
 pub returns : goal.returns
 unfolding swing

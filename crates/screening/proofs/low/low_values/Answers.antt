@@ -34,7 +34,6 @@ module _ (c : After-list_days-count) where
       record { places = low.places; list = c.list_days-count.ensures.list.1; size = low.size }
 
 -- the values filled in
-module _ (c : After-fill_values) where
 pub fill_values-requires : goal.fill_values-requires
 fill_values-requires c =
     let l = let after-grid = c.before.before in after-grid.before.before.before in

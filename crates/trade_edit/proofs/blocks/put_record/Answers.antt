@@ -7,11 +7,11 @@ use Rattle.trade_edit.proofs.blocks.put_record.Goals as goal
 
 pub seal-requires : goal.seal-requires
 seal-requires c =
-    rw length-set (c.copy_in.auto.0 ∙ c.requires.0)
+    rw length-set (c.copy_in.auto.dst ∙ c.requires.0)
 
 pub shape_of-b : goal.shape_of-b
 shape_of-b c =
-    c.seal.auto.0 ∙ rw length-set c.copy_in.auto.0
+    c.seal.auto.b ∙ rw length-set c.copy_in.auto.dst
 
 pub returns : goal.returns
 unfolding with_record

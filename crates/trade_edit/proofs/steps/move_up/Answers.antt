@@ -28,7 +28,7 @@ loop-i-preserved c =
     let l : c.loop-i.i < c.args.left = omega (arith, c.loop-i-test.true) in (
       omega arith,
       (
-        c.move_record.auto.0 ∙ inv.1.0,
+        c.move_record.auto.book ∙ inv.1.0,
         inv.1.1 ∙ run_step (record_moved _) c.loop-i.i c.args.left c.loop-i.book l ∙ rw (c.move_record.ensures, c.place_of-in-loop-i.ensures, c.place_of.ensures),
       ),
     )
