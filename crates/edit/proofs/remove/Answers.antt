@@ -42,13 +42,13 @@ cut_back-requires c =
     let count = c.trade_count-left.ensures in
     let same = ap curve_count (rw count at c.move_up.ensures) ∙ curves-same s used bytes c.requires.0 c.args.position c.requires.1 in
     let size = last_block s used bytes c.requires.0 c.args.position c.requires.1 in
-    omega (arith, c.move_up.auto.0)
+    omega (arith, c.move_up.auto.book)
 
 pub seal_blocks-requires : goal.seal_blocks-requires
 seal_blocks-requires c =
     let b = sound _ _ c.requires.0 in
     let t = blocks-for _ _ b in
-    omega (arith, c.curve_count-first.ensures.value, c.trade_count-left.ensures, c.cut_back.auto.0, c.move_up.auto.0)
+    omega (arith, c.curve_count-first.ensures.value, c.trade_count-left.ensures, c.cut_back.auto.book, c.move_up.auto.book)
 
 pub overflow_mul-result : goal.overflow_mul-result
 overflow_mul-result c =

@@ -13,7 +13,7 @@ pub push_leg-requires : goal.push_leg-requires
 push_leg-requires c =
     let a = c.args in
     let left = room-left a.curve a.legs.first a.ladder-1.now a.schedules 12 c.push_leg-one.ensures.value c.push_leg-one.ensures.ladder_after (omega arith) in
-    room-left a.curve a.legs.second c.push_leg-one.new.0 c.push_leg-one.result 6 c.push_leg-two.ensures.value c.push_leg-two.ensures.ladder_after (omega (arith, left))
+    room-left a.curve a.legs.second c.push_leg-one.new.ladder c.push_leg-one.result 6 c.push_leg-two.ensures.value c.push_leg-two.ensures.ladder_after (omega (arith, left))
 
 pub returns : goal.returns
 returns c =

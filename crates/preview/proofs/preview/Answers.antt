@@ -59,13 +59,13 @@ module _ (c : After-copy_in) where
   abbrev used : ℕ
   used = c.args.used
 
-  is-copy : c.copy_in.new.0 ≡ put zeros 0 (take used (s c))
+  is-copy : c.copy_in.new.dst ≡ put zeros 0 (take used (s c))
   is-copy =
       let whole : used - 0 ≡ used = omega arith in
       c.copy_in.ensures ∙ ap (λ (n : ℕ). put zeros 0 (take n (s c))) whole
 
-  admits-record : Admitted c.copy_in.new.0 used c.args.r
-  admits-record = copy-admits-record zeros zeros-room (s c) used c.args.r (given c) c.copy_in.new.0 is-copy (bytes c)
+  admits-record : Admitted c.copy_in.new.dst used c.args.r
+  admits-record = copy-admits-record zeros zeros-room (s c) used c.args.r (given c) c.copy_in.new.dst is-copy (bytes c)
 
 pub add-requires : goal.add-requires
 add-requires c = let w = admits-record (goal.at.add-requires c).After-copy_in in (w.accepted, record-taken _ _ _ w)

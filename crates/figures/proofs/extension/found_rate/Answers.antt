@@ -28,7 +28,7 @@ module _ (c : After-bootstrap-v) where
   unfolding bond_quote
   judged = c.bootstrap-v.ensures.value ∙ rw (is-book, c.coupon_bond.ensures)
 
-  written : c.bootstrap-v.new.0 ≡ bootstrapped known_book 1024 0 bond_quote
+  written : c.bootstrap-v.new.book ≡ bootstrapped known_book 1024 0 bond_quote
   unfolding bond_quote
   written = c.bootstrap-v.ensures.book_after ∙ rw (is-book, c.coupon_bond.ensures)
 

@@ -13,7 +13,7 @@ list_segments-requires c =
 
 -- the segments listed
 module _ (c : After-list_segments) where
-  places : length c.list_segments.new.1.1.0 ≡ 100
+  places : length c.list_segments.new.segments ≡ 100
   places = c.list_segments.ensures.kept ∙ length-replicate {A = ℕ} 100 0
 
 pub map_days-requires : goal.map_days-requires

@@ -22,12 +22,12 @@ module _ (c : After-list_days-count) where
   abbrev mapped : List ℤ
   mapped = c.map_nets.last.1.1.1.1.0
 
-  room : c.list_days-count.result ≤ length c.list_days-count.new.1.0
+  room : c.list_days-count.result ≤ length c.list_days-count.new.days
   room =
       let e = c.list_days-count.ensures in
       omega (arith, e.0, e.1.0, c.map_nets.ensures.places, length-replicate {A = ℕ} 10951 0)
 
-  grid-listed : Listed mapped (take c.list_days-count.result c.list_days-count.new.1.0)
+  grid-listed : Listed mapped (take c.list_days-count.result c.list_days-count.new.days)
   unfolding most_size
   grid-listed =
       let low = c.map_nets.ensures in

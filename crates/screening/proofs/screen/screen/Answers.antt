@@ -20,9 +20,9 @@ module _ (c : After-list_days-count) where
   count = c.list_days-count.result
 
   abbrev days : List ℕ
-  days = take count c.list_days-count.new.1.0
+  days = take count c.list_days-count.new.days
 
-  room : count ≤ length c.list_days-count.new.1.0
+  room : count ≤ length c.list_days-count.new.days
   room =
       let e = c.list_days-count.ensures in
       omega (arith, e.0, e.1.0, c.requires.3, length-replicate {A = ℕ} 10951 0)

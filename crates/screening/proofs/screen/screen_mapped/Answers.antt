@@ -25,10 +25,10 @@ returns-then-not-pays c =
 
 -- with the values of mapped amounts
 module _ (c : After-low_values) where
-  places : length c.low_values.new.1.1.1.1.1.1.0 ≡ 343
+  places : length c.low_values.new.values ≡ 343
   places = c.low_values.ensures.kept ∙ c.pays.ensures ∙ c.requires.6
 
-  few : scenario_count c.args.components ≤ length c.low_values.new.1.1.1.1.1.1.0
+  few : scenario_count c.args.components ≤ length c.low_values.new.values
   few = omega (arith, scenarios-most _ c.requires.1, places)
 
 pub fill_values-requires-then-not-low_values : goal.fill_values-requires-then-not-low_values
