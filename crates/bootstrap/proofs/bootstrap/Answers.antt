@@ -14,10 +14,10 @@ use Rattle.bootstrap.specs.Bootstrap.{new_node, bootstrapped}
 use Rattle.bootstrap.proofs.Added.{node-left, book-sound, within, node-room}
 use Rattle.bootstrap.proofs.Decisions.{decided-add, decided-refused}
 use Rattle.bootstrap.proofs.bootstrap.Goals as goal
-use Rattle.bootstrap.proofs.bootstrap.Goals.{In-Add-2, Start}
+use Rattle.bootstrap.proofs.bootstrap.Goals.{In-Add, Start}
 
 -- where a node is added nothing refuses
-module _ (c : In-Add-2) where
+module _ (c : In-Add) where
   abbrev judged : Verdict
   judged = bootstrap_verdict c.args.book.now c.args.used c.args.day c.args.q
 
@@ -37,18 +37,18 @@ module _ (c : In-Add-2) where
       omega (arith, b.lent)
 
 pub overflow_mul-at : goal.overflow_mul-at
-overflow_mul-at c = omega (arith, fits (goal.at.overflow_mul-at c).In-Add-2)
+overflow_mul-at c = omega (arith, fits (goal.at.overflow_mul-at c).In-Add)
 
 pub overflow_add-at : goal.overflow_add-at
-overflow_add-at c = omega (arith, fits (goal.at.overflow_add-at c).In-Add-2)
+overflow_add-at c = omega (arith, fits (goal.at.overflow_add-at c).In-Add)
 
 pub slice_bounds-add_node-end : goal.slice_bounds-add_node-end
-slice_bounds-add_node-end c = omega (arith, fits (goal.at.slice_bounds-add_node-end c).In-Add-2)
+slice_bounds-add_node-end c = omega (arith, fits (goal.at.slice_bounds-add_node-end c).In-Add)
 
 pub add_node-requires : goal.add_node-requires
 add_node-requires c =
     let s = c.args.book.now in
-    rw add-sub_cancel_left (length_part s (c.args.q.curve * 512) 512 (fits (goal.at.add_node-requires c).In-Add-2), node-room s c.args.used c.args.day c.args.q (accepted (goal.at.add_node-requires c).In-Add-2))
+    rw add-sub_cancel_left (length_part s (c.args.q.curve * 512) 512 (fits (goal.at.add_node-requires c).In-Add), node-room s c.args.used c.args.day c.args.q (accepted (goal.at.add_node-requires c).In-Add))
 
 pub returns-in-Refused : goal.returns-in-Refused
 unfolding bootstrapped
@@ -62,4 +62,4 @@ returns-in-Add c =
     let s = c.args.book.now in
     let q = c.args.q in
     let left = rw add-sub_cancel_left at c.add_node.ensures in
-    record { value = sym (accepted (goal.at.returns-in-Add c).In-Add-2); book_after = rw (accepted (goal.at.returns-in-Add c).In-Add-2, add-sub_cancel_left) (node-left s q.curve (fits (goal.at.returns-in-Add c).In-Add-2) (told (goal.at.returns-in-Add c).In-Add-2).1 left) }
+    record { value = sym (accepted (goal.at.returns-in-Add c).In-Add); book_after = rw (accepted (goal.at.returns-in-Add c).In-Add, add-sub_cancel_left) (node-left s q.curve (fits (goal.at.returns-in-Add c).In-Add) (told (goal.at.returns-in-Add c).In-Add).1 left) }

@@ -16,5 +16,5 @@ pub returns : goal.returns
 unfolding bond_fields bond_record
 returns c =
     let q = c.args.q in
-    let e : c.fields_of-f.result ≡ fields_of (bond_record q.bond-1) = c.fields_of-f.ensures ∙ ap fields_of c.copy_in.ensures in
+    let e : c.fields_of-f.result ≡ fields_of (bond_record q.bond) = c.fields_of-f.ensures ∙ ap fields_of c.copy_in.ensures in
     ap (bought q.curve) e

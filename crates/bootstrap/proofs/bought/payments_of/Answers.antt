@@ -19,5 +19,5 @@ capped_legs-l-requires c = rw (trade-is c) c.requires.0.limits
 
 pub returns : goal.returns
 returns c =
-    ap (λ (l : Legs). l.payments-1) (c.capped_legs-l.ensures ∙ ap (λ (t : Trade). capped_legs (counted_legs t)) (trade-is (goal.at.returns c).After-trade_of) ∙ ap capped_legs (all-counted c.args.q))
+    ap (λ (l : Legs). l.payments) (c.capped_legs-l.ensures ∙ ap (λ (t : Trade). capped_legs (counted_legs t)) (trade-is (goal.at.returns c).After-trade_of) ∙ ap capped_legs (all-counted c.args.q))
     ∙ payments-capped c.args.q c.requires.0 c.requires.1

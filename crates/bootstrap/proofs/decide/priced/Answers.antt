@@ -14,15 +14,11 @@ use Rattle.bootstrap.proofs.decide.priced.Goals as goal
 use Rattle.bootstrap.proofs.decide.priced.Goals.{After-breaks_rate_range, After-new-e, Start}
 
 -- the extension is that of the bond on the curve
-is-of : {A : Type 0} (f : Curve → Node → Leg → A) (c : After-new-e) → let a = c.args in
-    f c.new-e.result.curve c.new-e.result.node c.new-e.result.payments ≡ f a.c a.n a.l
-is-of f c = let e = c.new-e.ensures in of_parts f c.new-e.result e.0 e.1 e.2
-
 range-is : (c : After-breaks_rate_range) → let a = c.args in
     c.breaks_rate_range.result ≡ breaks_rate_range (nodes_of a.c) a.n (leg_flows a.l) a.cash
 range-is c =
     let cash = c.args.cash in
-    c.breaks_rate_range.ensures ∙ is-of (λ k n l. breaks_rate_range (nodes_of k) n (leg_flows l) cash) c.before
+    c.breaks_rate_range.ensures ∙ of_parts (λ k n l. breaks_rate_range (nodes_of k) n (leg_flows l) cash) c.new-e.result c.new-e.ensures.0 c.new-e.ensures.1 c.new-e.ensures.2
 
 pub returns-then-breaks_rate_range : goal.returns-then-breaks_rate_range
 returns-then-breaks_rate_range c = rw (sym (range-is (goal.at.returns-then-breaks_rate_range c).After-breaks_rate_range) ∙ c.if-breaks_rate_range.true)
@@ -33,8 +29,6 @@ rate_for-requires c =
 
 pub returns : goal.returns
 returns c =
-    let found = c.before in
-    let range = found.before.before in
-    let a = range.args in
-    let rate = found.rate_for.ensures.value ∙ is-of (λ k n l. rate_for (nodes_of k) n (leg_flows l) a.cash) range.before in
-    rw (sym (range-is (goal.at.returns c).After-breaks_rate_range) ∙ found.if-breaks_rate_range.false) (ap Add (c.at_rate.ensures ∙ ap (at_rate a.n) rate))
+    let a = c.args in
+    let rate = c.rate_for.ensures.value ∙ of_parts (λ k n l. rate_for (nodes_of k) n (leg_flows l) a.cash) c.new-e.result c.new-e.ensures.0 c.new-e.ensures.1 c.new-e.ensures.2 in
+    rw (sym (range-is (goal.at.returns c).After-breaks_rate_range) ∙ c.if-breaks_rate_range.false) (ap Add (c.at_rate.ensures ∙ ap (at_rate a.n) rate))

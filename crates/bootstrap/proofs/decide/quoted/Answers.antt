@@ -20,7 +20,9 @@ judged c = c.quote_verdict-v.ensures ∙ rw c.curves_of.ensures
 
 module _ (c : In-Accepted) where
   accepted : quote_verdict (curves_of c.args.book.now) c.args.q ≡ Accepted
-  accepted = sym (judged c.before.before) ∙ c.in-Accepted.is
+  accepted =
+      let told : c.quote_verdict-v.result ≡ quote_verdict (curves_of c.args.book.now) c.args.q = c.quote_verdict-v.ensures ∙ rw c.curves_of.ensures in
+      sym told ∙ c.in-Accepted.is
 
   book : Sound c.args.book.now c.requires.used
   book = sound _ _ c.requires.accepted

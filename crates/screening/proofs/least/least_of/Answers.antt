@@ -11,6 +11,7 @@ use Rattle.screening.specs.Screening.{Least}
 use borrow.Author.Rules.{rules}
 use Prim.Native.Nat.{◌-◌, ◌≤◌}
 use Rattle.screening.proofs.least.least_of.Goals as goal
+use Rattle.screening.proofs.least.least_of.Goals.{then-values-s, else-values-s}
 
 pub loop-s-init : goal.loop-s-init
 loop-s-init c = (least_first _, c.requires.0)
@@ -22,9 +23,10 @@ loop-s-preserved c =
     let b = get_or values c.loop-s.least (pos 0) in
     let fa = c.t9-1.given in
     let fb = c.t13-1.given in (
-      ⊎_elim
-          (λ w. rw w.1 (least-new values _ _ c.loop-s.invariant.0 (lt_z_yes (rw (compared lt_z a b true fa fb w.0.taken) tt))))
-          (λ w. rw w.1 (least-same values _ _ c.loop-s.invariant.0 (lt_z_no (rw (compared lt_z a b false fa fb w.0.left) tt)))) c.if-values-s.branch,
+      elim c.if-values-s.branch [
+        then-values-s w ↦ rw w.least-is (least-new values _ _ c.loop-s.invariant.0 (lt_z_yes (rw (compared lt_z a b true fa fb w.if-values-s.true) tt)))
+        | else-values-s w ↦ rw w.least-is (least-same values _ _ c.loop-s.invariant.0 (lt_z_no (rw (compared lt_z a b false fa fb w.if-values-s.false) tt)))
+      ],
       search rules,
     )
 

@@ -20,12 +20,12 @@ returns-then-days-count c = record { kept = refl; low = λ e. absurd (false≢tr
 -- the grid's days as they are listed
 module _ (c : After-list_days-count) where
   abbrev mapped : List ℤ
-  mapped = c.map_nets.last.1.1.1.1.0
+  mapped = c.map_nets.new.mapped
 
   room : c.list_days-count.result ≤ length c.list_days-count.new.days
   room =
       let e = c.list_days-count.ensures in
-      omega (arith, e.0, e.1.0, c.map_nets.ensures.places, length-replicate {A = ℕ} 10951 0)
+      omega (arith, e.kept, e.list.0, c.map_nets.ensures.places, length-replicate {A = ℕ} 10951 0)
 
   grid-listed : Listed mapped (take c.list_days-count.result c.list_days-count.new.days)
   unfolding most_size
@@ -36,17 +36,15 @@ module _ (c : After-list_days-count) where
 -- the values filled in
 pub fill_values-requires : goal.fill_values-requires
 fill_values-requires c =
-    let l = let after-grid = c.before.before in after-grid.before.before.before in
-    let p = l.requires in
-    (p.0, p.1, grid-listed l, p.3, omega (arith, scenarios-most _ p.1, p.5))
+    let p = c.requires in
+    (p.0, p.1, grid-listed (goal.at.fill_values-requires c).After-list_days-count, p.3, omega (arith, scenarios-most _ p.1, p.5))
 
 pub lower-requires : goal.lower-requires
 lower-requires c =
-    let s = (goal.at.lower-requires c).After-fill_values in
     let n = c.scenario_count.ensures in
-    let most = scenarios-most s.args.components s.requires.1 in
+    let most = scenarios-most c.args.components c.requires.1 in
     let low = c.map_nets.ensures in
-    (omega (arith, n, most, c.fill_values.ensures.kept, s.requires.5), counted _ _ n (filled-small s.args.curve s.args.components _ low.size _ c.fill_values.ensures.each), rw s.requires.4 (omega (arith, spare-most _ _ s.requires.2)), omega (arith, n, most))
+    (omega (arith, n, most, c.fill_values.ensures.kept, c.requires.5), counted _ _ n (filled-small c.args.curve c.args.components _ low.size _ c.fill_values.ensures.each), rw c.requires.4 (omega (arith, spare-most _ _ c.requires.2)), omega (arith, n, most))
   where
     counted : (n m : ℕ) {P : ℕ → Type 0} → n ≡ m → ((s : ℕ) → s < m → P s) → (s : ℕ) → s < n → P s
     counted n m e h s k = h s (omega arith)
@@ -58,4 +56,4 @@ returns c =
     record { kept = c.lower.ensures.kept ∙ c.fill_values.ensures.kept; low = λ e. (low-none-above c.args.curve c.args.components _ _ _ low _ _ c.fill_values.ensures.each lowered, low_small c.args.curve c.args.components _ _ _ low _ _ c.fill_values.ensures.each lowered (spare-most _ _ c.requires.2)) }
 
 pub slice_bounds-fill_values-end : goal.slice_bounds-fill_values-end
-slice_bounds-fill_values-end c = let l = let else = c.before in else.before.before in sym (length-take-le _ _ (room l))
+slice_bounds-fill_values-end c = sym (length-take-le _ _ (room (goal.at.slice_bounds-fill_values-end c).After-list_days-count))

@@ -16,7 +16,7 @@ use Rattle.estimate.proofs.ScenarioValues.{scenario-read}
 use Rattle.screening.specs.Screening.{refined_value}
 use Rattle.screening.proofs.Refining.{refined-kept, refined-left, Refining, refining-none, refining-next, refined-screened}
 use Rattle.screening.proofs.refine.refine.Goals as goal
-use Rattle.screening.proofs.refine.refine.Goals.{After-fill_ends, After-value_in-limit, At-loop-s, In-loop-s, Joined-v-limit, Start}
+use Rattle.screening.proofs.refine.refine.Goals.{then-v-limit, else-v-limit, After-fill_ends, After-value_in-limit, At-loop-s, In-loop-s, Joined-v-limit, Start}
 
 -- the c, and what is found before the loop
 
@@ -55,47 +55,41 @@ module _ (c : In-loop-s) where
   fits-place = omega (arith, within, scenarios-most _ c.requires.1)
 
 pub scenario-requires-then-v-limit : goal.scenario-requires-then-v-limit
-scenario-requires-then-v-limit c = let c = c.before.before in (((goal.at.scenario-requires-then-v-limit c).In-loop-s).requires.1, within (goal.at.scenario-requires-then-v-limit c).In-loop-s)
+scenario-requires-then-v-limit c = (c.requires.1, within (goal.at.scenario-requires-then-v-limit c).In-loop-s)
 
 pub value_in-v-requires : goal.value_in-v-requires
 value_in-v-requires c =
-    let after-scenario = c.before in
-    let c = after-scenario.before.before.before in
-    let p = ((goal.at.value_in-v-requires c).In-loop-s).requires in
-    (p.0, rw after-scenario.scenario-then-v-limit.ensures (scenario-limits _ _ (within (goal.at.value_in-v-requires c).In-loop-s) p.1), (c.before).fill_ends.ensures, p.2, p.3)
+    let p = c.requires in
+    (p.0, rw c.scenario-then-v-limit.ensures (scenario-limits _ _ (within (goal.at.value_in-v-requires c).In-loop-s) p.1), c.fill_ends.ensures, p.2, p.3)
 
 -- what is written
 module _ (c : Joined-v-limit) where
   abbrev limit : ℤ
   limit = c.value_in-limit.result
 
-  written : to_z w64 c.if-v-limit.v ≡ refined_value c.args.curve c.args.components c.args.nets.now (read limit) c.loop-s.s (value c)
+  written : to_z w64 c.if-v-limit.v-bits ≡ refined_value c.args.curve c.args.components c.args.nets.now (read limit) c.loop-s.s (get_or c.loop-s.values c.loop-s.s (pos 0))
   written =
       let x = c.args.components in
       let nets = c.args.nets.now in
       let s = c.loop-s.s in
-      let same = back (value c) c.v-1.given in
-      ⊎_elim
-      (λ w.
-      ap (to_z w64) w.4 ∙ scenario-read c.args.curve x nets _ s c.requires.2 _ _ w.1.ensures w.3.ensures
-      ∙ sym (refined-kept c.args.curve x nets (read limit) s (value c) (rw same at w.0.taken)))
-      (λ w. ap (to_z w64) w.1 ∙ same ∙ sym (refined-left c.args.curve x nets (read limit) s (value c) (rw same at w.0.left)))
-      c.if-v-limit.branch
+      let same = back (get_or c.loop-s.values c.loop-s.s (pos 0)) c.v-1.given in
+      elim c.if-v-limit.branch [
+        then-v-limit w ↦ w.v-is ∙ scenario-read c.args.curve x nets _ s c.requires.2 _ _ w.scenario-then-v-limit.ensures w.value_in-v.ensures
+        ∙ sym (refined-kept c.args.curve x nets (read limit) s (get_or c.loop-s.values c.loop-s.s (pos 0)) (rw same at w.if-v-limit.true))
+        | else-v-limit w ↦ w.v-is ∙ same ∙ sym (refined-left c.args.curve x nets (read limit) s (get_or c.loop-s.values c.loop-s.s (pos 0)) (rw same at w.if-v-limit.false))
+      ]
 
 pub loop-s-preserved : goal.loop-s-preserved
 loop-s-preserved c =
-    (omega (arith, c.loop-s-test.true), refining-next _ _ _ _ _ _ _ c.loop-s.invariant.1 (omega (arith, within (goal.at.loop-s-preserved c).In-loop-s, ((goal.at.loop-s-preserved c).In-loop-s).requires.4)) _ (written c))
+    (omega (arith, c.loop-s-test.true), refining-next _ _ _ _ _ _ _ c.loop-s.invariant.1 (omega (arith, within (goal.at.loop-s-preserved c).In-loop-s, c.requires.4)) _ (written c))
 
 pub returns : goal.returns
 returns c =
-    let l = c.before in
-    let after-value = l.before in
-    let n = after-value.scenario_count-n.ensures in
-    let s = after-value in
-    let e : l.loop-s.s ≡ scenario_count s.args.components = omega (arith, c.loop-s-test.false, l.loop-s.invariant.0, n) in
-    let m : after-value.least_of-least.result < scenario_count s.args.components = omega (arith, after-value.least_of-least.ensures.within, n) in
-    let found = scenario-read s.args.curve s.args.components _ _ after-value.least_of-least.result s.requires.2 _ _ after-value.scenario.ensures after-value.value_in-limit.ensures in
-    record { kept = l.loop-s.invariant.1.places; each = refined-screened _ _ _ _ _ _ m found s.requires.5 _ (rw e at l.loop-s.invariant.1) }
+    let n = c.scenario_count-n.ensures in
+    let e : c.loop-s.s ≡ scenario_count c.args.components = omega (arith, c.loop-s-test.false, c.loop-s.invariant.0, n) in
+    let m : c.least_of-least.result < scenario_count c.args.components = omega (arith, c.least_of-least.ensures.within, n) in
+    let found = scenario-read c.args.curve c.args.components _ _ c.least_of-least.result c.requires.2 _ _ c.scenario.ensures c.value_in-limit.ensures in
+    record { kept = c.loop-s.invariant.1.places; each = refined-screened _ _ _ _ _ _ m found c.requires.5 _ (rw e at c.loop-s.invariant.1) }
 
 pub offset_bounds-values-at : goal.offset_bounds-values-at
 offset_bounds-values-at c = omega (arith, fits-place c)
@@ -107,7 +101,7 @@ pub offset_bounds-values-at-in-loop-s : goal.offset_bounds-values-at-in-loop-s
 offset_bounds-values-at-in-loop-s c = omega (arith, fits-place (goal.at.offset_bounds-values-at-in-loop-s c).In-loop-s)
 
 pub bounds-values-at : goal.bounds-values-at
-bounds-values-at c = let c = c.before.before in omega (arith, within (goal.at.bounds-values-at c).In-loop-s, ((goal.at.bounds-values-at c).In-loop-s).requires.4, c.loop-s.invariant.1.places)
+bounds-values-at c = omega (arith, within (goal.at.bounds-values-at c).In-loop-s, c.requires.4, c.loop-s.invariant.1.places)
 
 pub overflow_add-s : goal.overflow_add-s
 overflow_add-s c = omega (arith, fits-place (goal.at.overflow_add-s c).In-loop-s)

@@ -4,9 +4,10 @@ use mathlib.Core.Logic.{⊎_elim}
 use Prim.Native.Nat.{◌-◌, ◌≤◌}
 use native.Mathlib.Omega.{arith}
 use Rattle.screening.proofs.screen.kept_of.Goals as goal
+use Rattle.screening.proofs.screen.kept_of.Goals.{then-values-s, else-values-s}
 
 pub loop-s-preserved : goal.loop-s-preserved
-loop-s-preserved c = ⊎_elim (λ w. omega arith) (λ w. omega arith) c.if-values-s.branch
+loop-s-preserved c = elim c.if-values-s.branch [ then-values-s w ↦ omega arith | else-values-s w ↦ omega arith ]
 
 pub loop-s-init : goal.loop-s-init
 loop-s-init c = omega arith

@@ -25,7 +25,7 @@ module _ (c : After-list_days-count) where
   room : count ≤ length c.list_days-count.new.days
   room =
       let e = c.list_days-count.ensures in
-      omega (arith, e.0, e.1.0, c.requires.3, length-replicate {A = ℕ} 10951 0)
+      omega (arith, e.kept, e.list.0, c.requires.3, length-replicate {A = ℕ} 10951 0)
 
   days-count : length days ≡ count
   days-count = length-take-le _ _ room
@@ -45,18 +45,16 @@ screen_mapped-requires c =
     let p = c.requires in
     let few : count (goal.at.screen_mapped-requires c).After-list_days-count ≤ 10951 = omega (arith, c.list_days-count.ensures.list.0, p.3) in
     let size : net_size c.args.nets.now (days (goal.at.screen_mapped-requires c).After-list_days-count) ≤ 139000000000000000 =
-    omega (arith, c.type_size.ensures, c.mappable.ensures c.if-mappable.true) in
-    (p.0, p.1, days-listed (goal.at.screen_mapped-requires c).After-list_days-count, record { places = p.3; list = c.list_days-count.ensures.list.1; few = omega (arith, days-count (goal.at.screen_mapped-requires c).After-list_days-count, few); size = size }, p.2, rw (c.type_size.ensures, days-count (goal.at.screen_mapped-requires c).After-list_days-count), p.5)
+    omega (arith, c.size_of-size.ensures, c.mappable.ensures c.if-mappable.true) in
+    (p.0, p.1, days-listed (goal.at.screen_mapped-requires c).After-list_days-count, record { places = p.3; list = c.list_days-count.ensures.list.1; few = omega (arith, days-count (goal.at.screen_mapped-requires c).After-list_days-count, few); size = size }, p.2, rw (c.size_of-size.ensures, days-count (goal.at.screen_mapped-requires c).After-list_days-count), p.5)
 
 pub fill_values-requires : goal.fill_values-requires
 fill_values-requires c =
-    let else = c.before.before in
-    let d = let sized = else.before.before.before in sized in
-    let p = d.requires in
-    (p.0, p.1, days-listed d, p.2, omega (arith, p.5, scenarios-most _ p.1))
+    let p = c.requires in
+    (p.0, p.1, days-listed (goal.at.fill_values-requires c).After-list_days-count, p.2, omega (arith, p.5, scenarios-most _ p.1))
 
 pub returns : goal.returns
-returns c = let filled = c.fill_values.ensures in record { kept = filled.0; each = filled-screened _ _ _ _ filled.1 }
+returns c = let filled = c.fill_values.ensures in record { kept = filled.kept; each = filled-screened _ _ _ _ filled.each }
 
 pub slice_bounds-days-end : goal.slice_bounds-days-end
 slice_bounds-days-end c = room (goal.at.slice_bounds-days-end c).After-list_days-count
@@ -65,7 +63,7 @@ pub slice_bounds-size_of-end : goal.slice_bounds-size_of-end
 slice_bounds-size_of-end c = sym (days-count (goal.at.slice_bounds-size_of-end c).After-list_days-count)
 
 pub slice_bounds-screen_mapped-end : goal.slice_bounds-screen_mapped-end
-slice_bounds-screen_mapped-end c = let sized = c.before.before.before.before in sym (days-count (goal.at.slice_bounds-screen_mapped-end c).After-list_days-count)
+slice_bounds-screen_mapped-end c = sym (days-count (goal.at.slice_bounds-screen_mapped-end c).After-list_days-count)
 
 pub slice_bounds-fill_values-end : goal.slice_bounds-fill_values-end
-slice_bounds-fill_values-end c = let sized = c.before.before.before.before in sym (days-count (goal.at.slice_bounds-fill_values-end c).After-list_days-count)
+slice_bounds-fill_values-end c = sym (days-count (goal.at.slice_bounds-fill_values-end c).After-list_days-count)
