@@ -24,7 +24,7 @@ scenario_count-requires c = let given = c.before in given.requires.0.limits.stre
 
 pub least_of-least-requires : goal.least_of-least-requires
 least_of-least-requires c =
-    let x = c.args.valued.position.components-1 in
+    let x = c.args.valued.position.components in
     rw c.scenario_count.ensures (scenarios-some x, omega (arith, c.requires.1.places, scenarios-most x c.requires.0.limits.stress))
 
 module _ (c : After-least_of-least) where
@@ -32,12 +32,12 @@ module _ (c : After-least_of-least) where
   lowest = get_or c.args.values.now c.least_of-least.result (pos 0)
 
   -- the least estimate's place, and its size
-  least : Least c.args.values.now (scenario_count c.args.valued.position.components-1) c.least_of-least.result
+  least : Least c.args.values.now (scenario_count c.args.valued.position.components) c.least_of-least.result
   least = rw c.scenario_count.ensures at c.least_of-least.ensures
 
   index : c.least_of-least.result < length c.args.values.now
   index =
-      omega (arith, least.within, c.requires.1.places, scenarios-most c.args.valued.position.components-1 c.requires.0.limits.stress)
+      omega (arith, least.within, c.requires.1.places, scenarios-most c.args.valued.position.components c.requires.0.limits.stress)
 
   size : nat_abs lowest ≤ most_flows * unit + c.args.deviation
   size = estimate-size _ _ c.requires.0.limits _ _ c.requires.1 _ least.within

@@ -31,7 +31,7 @@ first c =
     rw (back c.args.limit c.ranges.limit.sfits) at c.first_kept-first.ensures.0
 
 -- in a turn, s is a scenario, and a place of the values
-within : (c : In-loop-s) → c.loop-s.s < scenario_count c.args.valued.position.components-1
+within : (c : In-loop-s) → c.loop-s.s < scenario_count c.args.valued.position.components
 within c = omega (arith, c.loop-s-test.true, c.scenario_count-count.ensures)
 
 index : (c : In-loop-s) → c.loop-s.s < length c.args.values.now
@@ -90,7 +90,7 @@ passed loss values limit w s n e h = rw e at h
 
 pub returns : goal.returns
 returns c =
-    let e : c.loop-s.s ≡ scenario_count c.args.valued.position.components-1 = omega (arith, c.loop-s.invariant.1, c.loop-s-test.false, c.scenario_count-count.ensures) in
+    let e : c.loop-s.s ≡ scenario_count c.args.valued.position.components = omega (arith, c.loop-s.invariant.1, c.loop-s-test.false, c.scenario_count-count.ensures) in
     passed _ _ _ _ _ _ e (rw (back c.args.limit c.ranges.limit.sfits) at c.loop-s.invariant.0)
 
 pub offset_bounds-values-s : goal.offset_bounds-values-s

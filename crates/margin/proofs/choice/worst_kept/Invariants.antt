@@ -24,7 +24,7 @@ use Rattle.margin.proofs.choice.worst_kept.Given as goal
 
 abbrev pub invariant-loop-s : goal.invariant-loop-s
 invariant-loop-s l =
-    WorstKept (loss_at flow_value (exposure_of l.valued.position l.ladder)) l.values (l.limit) l.s l.worst × (l.s ≤ scenario_count l.valued.position.components-1)
+    WorstKept (loss_at flow_value (exposure_of l.valued.position l.ladder)) l.values (l.limit) l.s l.worst × (l.s ≤ scenario_count l.valued.position.components)
 
 abbrev pub decreases-loop-s : goal.decreases-loop-s
 decreases-loop-s l = l.count - l.s

@@ -23,8 +23,8 @@ value_of-total-requires c =
 
 -- the code's difference is the loss
 module _ (c : After-struct_told-2-1) where
-  loss-is : read c.args.valued.base -ℤ read c.value_of_lem.result.sum ≡ loss_at flow_value (exposure_of c.args.valued.position c.args.ladder.now) c.args.s
-  loss-is = code-loss _ _ c.requires.0.limits _ _ _ _ c.requires.0.value c.curve_in-stressed.ensures c.value_of_lem.ensures
+  loss-is : read c.args.valued.base -ℤ read c.value_of-total.result.sum ≡ loss_at flow_value (exposure_of c.args.valued.position c.args.ladder.now) c.args.s
+  loss-is = code-loss _ _ c.requires.0.limits _ _ _ _ c.requires.0.value c.curve_in-stressed.ensures c.value_of-total.ensures
 
   loss-fit : nat_abs (loss_at flow_value (exposure_of c.args.valued.position c.args.ladder.now) c.args.s) < 2 ^ 63
   loss-fit = losses-fit _ _ c.requires.0.limits _

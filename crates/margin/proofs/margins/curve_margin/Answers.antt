@@ -17,12 +17,12 @@ pub worst_of-worst-requires : goal.worst_of-worst-requires
 worst_of-worst-requires c =
     let v = c.before.before in
     let filled = v.before.before.before in
-    record { limits = filled.requires; filled = filled.fill.ensures; value = base-is _ _ filled.requires _ v.value_of_lem.ensures }
+    record { limits = filled.requires; filled = filled.fill.ensures; value = base-is _ _ filled.requires _ v.value_of-total.ensures }
 
 pub returns : goal.returns
 unfolding curve_margin
 returns c =
-    figures-are _ _ c.requires _ c.value_of_lem.ensures _ _ c.worst_of-worst.ensures
+    figures-are _ _ c.requires _ c.value_of-total.ensures _ _ c.worst_of-worst.ensures
 
 pub fill-requires : goal.fill-requires
 fill-requires c = length-replicate {A = ℕ} 3694 0
