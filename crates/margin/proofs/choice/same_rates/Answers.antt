@@ -12,29 +12,26 @@ use Rattle.curve.specs.Limits.{zero_node}
 use borrow.Author.Rules.{rules}
 use native.Mathlib.Omega.{arith}
 use Prim.Native.Nat.{ℕ, ◌-◌}
+use Rattle.margin.proofs.choice.same_rates.Invariants.{equal_at}
 use Rattle.margin.proofs.choice.same_rates.Goals as goal
-
--- node i of both has the same rate
-abbrev equal_at : Curve → Curve → ℕ → Bool
-equal_at a b i = eqb (get_or a.nodes i zero_node).rate (get_or b.nodes i zero_node).rate
 
 pub loop-i-init : goal.loop-i-init
 unfolding same_rates
-loop-i-init c = let e : c.args.t1.count - 0 ≡ c.args.t1.count = omega arith in rw e
+loop-i-init c = let e : c.args.a.count - 0 ≡ c.args.a.count = omega arith in rw e
 
 pub returns-then-a-i : goal.returns-then-a-i
 returns-then-a-i c =
     let a = c.args in
     let i = c.loop-i.i in
-    sym (c.loop-i.invariant ∙ every-failed (equal_at a.t1 a.t2) i a.t1.count (search rules) (ne_eqb _ _ c.if-a-i.true))
+    sym (c.loop-i.invariant ∙ every-failed (equal_at a.a a.b) i a.a.count (search rules) (ne_eqb _ _ c.if-a-i.true))
 
 pub loop-i-preserved : goal.loop-i-preserved
 loop-i-preserved c =
     let a = c.args in
     let i = c.loop-i.i in
-    c.loop-i.invariant ∙ every-passed (equal_at a.t1 a.t2) i a.t1.count (search rules) (eq-eqb _ _ c.if-a-i.false)
+    c.loop-i.invariant ∙ every-passed (equal_at a.a a.b) i a.a.count (search rules) (eq-eqb _ _ c.if-a-i.false)
 
 pub returns : goal.returns
 returns c =
     let a = c.args in
-    sym (c.loop-i.invariant ∙ every-end (equal_at a.t1 a.t2) c.loop-i.i a.t1.count (search rules))
+    sym (c.loop-i.invariant ∙ every-end (equal_at a.a a.b) c.loop-i.i a.a.count (search rules))

@@ -14,6 +14,10 @@ use native.Mathlib.Omega.{arith}
 use Prim.Native.Nat.{ℕ, ◌-◌}
 use Rattle.margin.proofs.choice.same_rates.Given as goal
 
+-- node i of both has the same rate
+abbrev pub equal_at : Curve → Curve → ℕ → Bool
+equal_at a b i = eqb (get_or a.nodes i zero_node).rate (get_or b.nodes i zero_node).rate
+
 abbrev pub invariant-loop-i : goal.invariant-loop-i
 invariant-loop-i l = same_rates l.a l.b ≡ every (equal_at l.a l.b) l.i (l.a.count - l.i)
 

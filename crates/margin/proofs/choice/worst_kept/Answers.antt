@@ -21,7 +21,7 @@ use Rattle.margin.specs.Choice.{FirstKept, WorstKept}
 use Rattle.margin.proofs.Stressing.{loss-read}
 use Rattle.margin.proofs.Discarding.{kept-first, kept_same, kept_next}
 use Rattle.margin.proofs.choice.worst_kept.Goals as goal
-use Rattle.margin.proofs.choice.worst_kept.Goals.{After-first_kept-first, After-scenario_count-count, At-loop-s, In-loop-s, Start}
+use Rattle.margin.proofs.choice.worst_kept.Goals.{then-values-s, else-values-s, After-first_kept-first, After-scenario_count-count, At-loop-s, In-loop-s, Start}
 
 -- the entry's record, and where the scenarios are counted
 
@@ -78,9 +78,10 @@ loop-s-preserved c =
     let fl = c.ranges.limit.sfits in
     let h = rw (back limit fl) at c.loop-s.invariant.0 in
     rw (back limit fl) (
-      ⊎_elim
-          (λ w. rw (w.2, w.1.ensures) (kept_next _ values limit _ _ h _ refl))
-          (λ w. rw w.1 (kept_same _ values limit _ _ h (le_z-no v limit (compared le_z v limit false fv fl w.0.left)))) c.if-values-s.branch,
+      elim c.if-values-s.branch [
+        then-values-s w ↦ rw (w.worst-is, w.worse_with-worst.ensures) (kept_next _ values limit _ _ h _ refl)
+        | else-values-s w ↦ rw w.worst-is (kept_same _ values limit _ _ h (le_z-no v limit (compared le_z v limit false fv fl w.if-values-s.false)))
+      ],
       omega (arith, within (goal.at.loop-s-preserved c).In-loop-s),
     )
 

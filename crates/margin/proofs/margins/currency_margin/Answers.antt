@@ -9,7 +9,7 @@ use Rattle.margin.proofs.Currencies.{total_size, code-total, code-figures, Summe
 use Rattle.margin.proofs.margins.currency_margin.Goals as goal
 use Rattle.margin.proofs.margins.currency_margin.Goals.{After-loop-i, Start}
 
-places : (s : Start) → length s.args.t2 ≡ 8
+places : (s : Start) → length s.args.curves ≡ 8
 places s = search rules
 
 pub with_curve-t-requires : goal.with_curve-t-requires
