@@ -1,7 +1,6 @@
 -- `exposure::components_at` meets its contract: an accepted book's curve block gives proper components.
 use mathlib.Core.Path.{refl, ◌∙◌}
 use native.Mathlib.Omega.{arith}
-use borrow.Author.Rules.{rules}
 use Rattle.book.proofs.Accepted.{sound, curve-sound}
 use Rattle.exposure.proofs.components_at.Goals as goal
 

@@ -1,6 +1,6 @@
 -- `exposure::gather` meets its contract. The invariant: the ladder holds the flows of the first i trades that stand on the curve.
 use mathlib.Core.Path.{◌≡◌, refl, sym, ap, ◌∙◌}
-use Prim.Native.Nat.{◌-◌, ◌≤◌, ◌<◌}
+use Prim.Native.Nat.{◌<◌}
 use native.Mathlib.Omega.{arith}
 use borrow.Author.Rules.{rules}
 use lib.ListN.{length}
@@ -26,20 +26,16 @@ pub loop-i-init : goal.loop-i-init
 loop-i-init c = (omega arith, refl, collected-none _ _ _)
 
 -- in the loop: the position is one of the book's
-at : (c : In-loop-i) → let after-slice-known = c.before.before.before in let c = after-slice-known.before.before in c.loop-i.i < trade_count c.args.book.now
+at : (c : In-loop-i) → c.loop-i.i < trade_count c.args.book.now
 at c = omega (arith, c.trade_count-count.ensures)
 
 pub record_at-r-requires : goal.record_at-r-requires
 record_at-r-requires c =
-    let after-slice-known = c.before.before.before in
-    let c = after-slice-known.before.before in
-    omega (arith, (place-held c.args.book.now c.requires.0.used here c.loop-i.i (at c)).0, here.blocks, here.lent)
+    let b = here (goal.at.record_at-r-requires c).Start in
+    omega (arith, (place-held c.args.book.now c.requires.0.used b c.loop-i.i (at (goal.at.record_at-r-requires c).In-loop-i)).0, b.blocks, b.lent)
 
 pub fields_of-requires : goal.fields_of-requires
 fields_of-requires c =
-    let c = c.before.before in
-    let after-slice-known = c.before.before.before in
-    let c = after-slice-known.before.before in
     ap length c.record_at-r.ensures ∙ length-record_at c.args.book.now c.requires.0.used (here (goal.at.fields_of-requires c).Start) c.loop-i.i (at (goal.at.fields_of-requires c).In-loop-i)
 
 -- after the trade is read: it is the one at the position
@@ -49,10 +45,10 @@ module _ (c : After-trade_of) where
       c.trade_of.ensures ∙ ap trade_of (c.fields_of.ensures ∙ ap fields_of c.record_at-r.ensures)
 
   trade-sound : SoundTrade (trade_at c.args.book.now c.loop-i.i)
-  trade-sound = (accepted-at c.args.book.now c.requires.0.used (here c) c.loop-i.i (at c)).trade
+  trade-sound = (accepted-at c.args.book.now c.requires.0.used (sound c.args.book.now c.requires.0.used c.requires.0.accepted) c.loop-i.i (omega (arith, c.trade_count-count.ensures))).trade
 
 pub legs_of-legs-requires : goal.legs_of-legs-requires
-legs_of-legs-requires c = rw (trade-is c) (trade-sound c)
+legs_of-legs-requires c = rw (trade-is (goal.at.legs_of-legs-requires c).After-trade_of) (trade-sound (goal.at.legs_of-legs-requires c).After-trade_of)
 
 pub push_legs-schedules-requires : goal.push_legs-schedules-requires
 unfolding breaks_flow_limit
@@ -78,8 +74,6 @@ loop-i-preserved c =
 
 pub returns : goal.returns
 returns c =
-    let after-slice-known = c.before.before.before in
-    let c = after-slice-known.before.before in
     let s = c.args.book.now in
     let inv = c.loop-i.invariant in
     let e : c.loop-i.i ≡ trade_count s = omega (arith, c.trade_count-count.ensures) in

@@ -1,21 +1,21 @@
 -- `exposure::push_leg` meets its contract.
-use borrow.Author.Rules.{rules}
 use native.Mathlib.Omega.{arith}
 use lib.ListN.{length-set}
 use mathlib.Core.Path.{sym, ◌∙◌}
-use borrow.Author.Tests.{not-true, not-false}
 use Rattle.exposure.proofs.Pushing.{push-none, push-one}
 use Rattle.exposure.proofs.push_leg.Goals as goal
 
 pub returns-then-not-stands_on : goal.returns-then-not-stands_on
 returns-then-not-stands_on c =
     let a = c.args in
-    push-none a.curve a.leg a.ladder.now a.schedules (sym c.stands_on.ensures ∙ c.if-not-stands_on.true)
+    let p = push-none a.curve a.leg a.ladder.now a.schedules (sym c.stands_on.ensures ∙ c.if-not-stands_on.true) in
+    record { value = p.0; ladder_after = p.1 }
 
 pub returns : goal.returns
 returns c =
     let a = c.args in
-    push-one a.curve a.leg a.ladder.now a.schedules (sym c.stands_on.ensures ∙ c.if-not-stands_on.false)
+    let p = push-one a.curve a.leg a.ladder.now a.schedules (sym c.stands_on.ensures ∙ c.if-not-stands_on.false) in
+    record { value = p.0; ladder_after = p.1 }
 
 pub bounds-ladder-at-2 : goal.bounds-ladder-at-2
 bounds-ladder-at-2 c = simp length-set (omega arith)
