@@ -11,10 +11,10 @@ returns-then-breaks_space c =
 pub write_report-requires : goal.write_report-requires
 write_report-requires c =
     let a = c.args in
-    space a.book.now a.out-1.now (sym c.breaks_space.ensures ∙ c.if-breaks_space.false)
+    space a.book.now a.out.now (sym c.breaks_space.ensures ∙ c.if-breaks_space.false)
 
 pub returns : goal.returns
 returns c =
     let a = c.args in
-    filled a.book.now a.out-1.now c.margin_of_book.result _ (sym c.breaks_space.ensures ∙ c.if-breaks_space.false)
+    filled a.book.now a.out.now c.margin_of_book.result _ (sym c.breaks_space.ensures ∙ c.if-breaks_space.false)
     c.margin_of_book.ensures c.write_report.ensures
