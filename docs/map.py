@@ -21,7 +21,8 @@ def read(path):
         if line.startswith("#"):
             comment = line[1:].strip()
         elif ":" in line:
-            name, rest = line.split(":")
+            kind, rest = line.split(":")
+            name = kind.split()[0]
             needs[name] = [n for n in rest.split() if n not in ("io", "libc")]
             says[name] = comment
     return needs, says

@@ -1,4 +1,4 @@
-// Links one of the engine's archives that `rt staticlib` writes; build scripts include this.
+// Links one of the engine's archives that `.ci/archives` makes; build scripts include this.
 fn link(archive: &str) {
     let here = std::env::var("CARGO_MANIFEST_DIR").unwrap();
     let archives = format!("{here}/../../target/staticlib");

@@ -1,4 +1,4 @@
-//! What `docs/TRACE.md` and `docs/WRONG-ANSWERS.md` name is there: every file, every name in the file that it stands behind, and every must-fail edit.
+//! What the documents name is there: the files of `docs/TRACE.md` and `docs/WRONG-ANSWERS.md`, the names said to stand in them, and every must-fail edit.
 
 use std::collections::BTreeSet;
 use std::fs;
@@ -6,30 +6,12 @@ use std::path::{Path, PathBuf};
 
 const PARTS: [&str; 4] = ["specs", "src", "proofs", "must-fail"];
 
-/// What may stand before a declaration, and what begins one.
-const BEFORE: [&str; 6] = ["pub", "unfoldable", "abbrev", "ghost", "extern", "\"C\""];
-const BEGINS: [&str; 7] = ["record", "data", "fn", "struct", "enum", "const", "mod"];
-
 fn root() -> PathBuf {
     Path::new(env!("CARGO_MANIFEST_DIR")).join("../..")
 }
 
 fn document(name: &str) -> String {
     fs::read_to_string(root().join("docs").join(name)).expect("a document")
-}
-
-/// All files below a folder whose names end so.
-fn files(folder: &Path, ending: &str) -> Vec<PathBuf> {
-    let mut found = Vec::new();
-    for entry in fs::read_dir(folder).expect("a folder") {
-        let path = entry.expect("an entry").path();
-        if path.is_dir() {
-            found.extend(files(&path, ending));
-        } else if path.to_string_lossy().ends_with(ending) {
-            found.push(path);
-        }
-    }
-    found
 }
 
 /// A word of a cell, where it names a file of a crate: CRATE/PART/FILE, an edit without its ending.
@@ -49,132 +31,95 @@ fn of_a_name(c: char) -> bool {
     c.is_alphanumeric() || c == '_' || c == '-'
 }
 
-/// What a line declares: `pub fn NAME(`, `record NAME`, `NAME : ..`, or `NAME` alone before a line with its type.
-fn declared(line: &str) -> Option<&str> {
-    let mut words = line
-        .split_whitespace()
-        .skip_while(|word| BEFORE.contains(word));
-    let first = words.next()?;
-    if BEGINS.contains(&first) {
-        return words.next()?.split(|c| !of_a_name(c)).next();
-    }
-    let signed = words.next().map_or(line.starts_with("pub "), |w| w == ":");
-    signed.then_some(first)
+/// Whether a text has a name as a word of its own.
+fn has_name(text: &str, name: &str) -> bool {
+    text.match_indices(name).any(|(at, _)| {
+        let before = text[..at].chars().next_back();
+        let behind = text[at + name.len()..].chars().next();
+        !before.is_some_and(of_a_name) && !behind.is_some_and(of_a_name)
+    })
 }
 
-/// The names that some texts declare.
-fn names<'a>(texts: impl IntoIterator<Item = &'a String>) -> BTreeSet<&'a str> {
-    texts
-        .into_iter()
-        .flat_map(|text| text.lines().filter_map(declared))
+/// The names in a piece of a cell, each between two back ticks; of `Factor::power` the last part.
+fn names(piece: &str) -> impl Iterator<Item = &str> {
+    piece
+        .split('`')
+        .skip(1)
+        .step_by(2)
+        .map(|name| name.rsplit("::").next().unwrap_or(name))
+}
+
+/// What is wrong with a piece of a cell: a file that is not there, or a name that it does not have.
+fn faults(piece: &str) -> Vec<String> {
+    let Some(file) = piece.split_whitespace().find_map(named_file) else {
+        return Vec::new();
+    };
+    let Ok(text) = fs::read_to_string(&file) else {
+        return vec![format!("no {}", file.display())];
+    };
+    names(piece)
+        .filter(|name| !has_name(&text, name))
+        .map(|name| format!("no {name} in {}", file.display()))
         .collect()
 }
 
-fn texts(folder: &str, ending: &str) -> Vec<String> {
-    files(&root().join(folder), ending)
-        .iter()
-        .filter(|file| !file.to_string_lossy().contains("/target/"))
-        .map(|file| fs::read_to_string(file).expect("a text"))
-        .collect()
-}
-
-/// What is wrong with a piece of a cell: a file that is not there, or a name that the file before it does not declare. A name with no file
-/// of a crate before it is a file of the tree, a crate, or is among the names `anywhere`.
-fn faults(piece: &str, anywhere: &BTreeSet<&str>) -> Vec<String> {
-    let mut found = Vec::new();
-    let mut before: Option<String> = None;
-    for (k, part) in piece.split('`').enumerate() {
-        if k % 2 == 0 {
-            for file in part.split_whitespace().filter_map(named_file) {
-                let Ok(text) = fs::read_to_string(&file) else {
-                    found.push(format!("no {}", file.display()));
-                    continue;
-                };
-                before = (!file.to_string_lossy().ends_with(".edit")).then_some(text);
-            }
+fn edits() -> BTreeSet<String> {
+    let mut found = BTreeSet::new();
+    for entry in fs::read_dir(root().join("crates")).expect("the crates") {
+        let name = entry
+            .expect("a crate")
+            .file_name()
+            .into_string()
+            .expect("a crate's name");
+        let Ok(folder) = fs::read_dir(root().join("crates").join(&name).join("must-fail")) else {
             continue;
-        }
-        let name = part.rsplit("::").next().unwrap_or(part);
-        let there = match &before {
-            Some(text) => names([text]).contains(name),
-            None => {
-                anywhere.contains(name)
-                    || [part, &format!("crates/{part}")]
-                        .iter()
-                        .any(|path| root().join(path).exists())
-            }
         };
-        if !there {
-            found.push(format!("no {name} where '{}' has it", piece.trim()));
+        for edit in folder {
+            let edit = edit
+                .expect("an edit")
+                .file_name()
+                .into_string()
+                .expect("an edit's name");
+            found.insert(format!(
+                "{name}/must-fail/{}",
+                edit.trim_end_matches(".edit")
+            ));
         }
     }
     found
 }
 
-/// What is wrong with the tables of a document.
-fn wrong(document: &str) -> Vec<String> {
-    let texts: Vec<String> = [("crates", ".antt"), ("crates", ".rt"), ("host", ".rs")]
-        .iter()
-        .flat_map(|(folder, ending)| texts(folder, ending))
-        .collect();
-    let anywhere = names(&texts);
-    document
-        .lines()
+fn pieces(text: &str) -> impl Iterator<Item = &str> {
+    text.lines()
         .filter(|line| line.starts_with('|'))
         .flat_map(|line| line.split(['|', ';']))
-        .flat_map(|piece| faults(piece, &anywhere))
-        .collect()
-}
-
-/// The must-fail edits, as CRATE/must-fail/LABEL.
-fn edits() -> Vec<String> {
-    let crates = root().join("crates");
-    files(&crates, ".edit")
-        .iter()
-        .map(|file| file.strip_prefix(&crates).expect("a file of the crates"))
-        .map(|file| file.with_extension("").to_string_lossy().into_owned())
-        .collect()
 }
 
 #[test]
 fn files_and_names_of_the_trace_are_there() {
     let trace = document("TRACE.md");
-    let named = trace.split_whitespace().filter_map(named_file).count();
+    let named = pieces(&trace)
+        .filter(|piece| {
+            piece
+                .split_whitespace()
+                .any(|word| named_file(word).is_some())
+        })
+        .count();
     assert!(named > 200, "the trace names {named} files");
-    assert_eq!(wrong(&trace), Vec::<String>::new());
+    let faults: Vec<String> = pieces(&trace).flat_map(faults).collect();
+    assert_eq!(faults, Vec::<String>::new());
 }
 
 #[test]
 fn every_edit_is_a_wrong_answer_and_every_wrong_answer_has_its_edit() {
-    let answers = document("WRONG-ANSWERS.md");
-    assert_eq!(wrong(&answers), Vec::<String>::new());
-    let named: BTreeSet<PathBuf> = answers.split_whitespace().filter_map(named_file).collect();
+    let wrong = document("WRONG-ANSWERS.md");
+    let faults: Vec<String> = pieces(&wrong).flat_map(faults).collect();
+    assert_eq!(faults, Vec::<String>::new());
     let edits = edits();
     assert!(edits.len() > 40);
     let unnamed: Vec<&String> = edits
         .iter()
-        .filter(|edit| !named.contains(&named_file(edit).expect("an edit's name")))
+        .filter(|edit| !has_name(&wrong, edit))
         .collect();
     assert_eq!(unnamed, Vec::<&String>::new());
-}
-
-/// A name that the file uses and another declares, a test that is gone, and a file that is not there.
-#[test]
-fn a_name_that_stands_elsewhere_is_seen() {
-    let text =
-        "kept-worst (baseOf e)\n  pub kept-least : (w : Loss) -> Least w\npub worst-is\n    : T\n"
-            .to_string();
-    assert_eq!(names([&text]), BTreeSet::from(["kept-least", "worst-is"]));
-    let anywhere = BTreeSet::from(["a_test"]);
-    assert_eq!(
-        faults("margin/proofs/Discarding.antt `kept-worst`", &anywhere),
-        Vec::<String>::new()
-    );
-    assert_eq!(
-        faults("margin/proofs/Choosing.antt `kept-worst`", &anywhere).len(),
-        1
-    );
-    assert_eq!(faults("compare, `a_test`", &anywhere), Vec::<String>::new());
-    assert_eq!(faults("compare, `a_test_that_went`", &anywhere).len(), 1);
-    assert_eq!(faults("margin/proofs/NoSuch.antt", &anywhere).len(), 1);
 }

@@ -12,7 +12,7 @@ fn printed(input: &[u8]) -> String {
         .stdin(Stdio::piped())
         .stdout(Stdio::piped())
         .spawn()
-        .expect("target/bin/list, which `rt check list` makes");
+        .expect("target/bin/list, which `.ci/archives` makes");
     // it stops reading behind the longest book, so a longer input may not be taken whole
     let _ = run.stdin.take().unwrap().write_all(input);
     let output = run.wait_with_output().unwrap();

@@ -62,7 +62,8 @@ pub fn limits() -> Constants {
     all
 }
 
-/// Numbers of bytes and of components, and the version.
+/// Numbers of bytes and of components, and the last request of document 02,
+/// which the wrapper names too.
 pub fn add_sizes(all: &mut Constants) {
     let largest = BLOCK * limits::MAX_BLOCKS;
     let components = Node::default().components.len();
@@ -74,6 +75,7 @@ pub fn add_sizes(all: &mut Constants) {
         ("PAGE_SIZE", PAGE),
         ("LARGEST_BOOK", largest),
         ("COMPONENTS", components),
+        ("VERSION", 7),
         ("VERSION", VERSION as usize),
     ];
     for (name, size) in sizes {
