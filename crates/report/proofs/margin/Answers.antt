@@ -13,13 +13,13 @@ pub returns-in-Refused : goal.returns-in-Refused
 returns-in-Refused c =
     let a = c.args in
     let p = refused-book a.book.now a.used a.day a.out.now _ _ (sym c.check-v.ensures ∙ c.in-Refused.is) in
-    (p.0, (p.1, demand-met a.book.now a.used a.day a.out-1.now p.0 p.1))
+    record { value = p.0; out_after = p.1; bounded = demand-met a.book.now a.used a.day a.out.now p.0 p.1 }
 
 pub returns-in-Accepted : goal.returns-in-Accepted
 returns-in-Accepted c =
     let a = c.args in
     let p = c.fill_report.ensures in
     let then = accepted-book-reported a.book.now a.used a.day a.out.now (sym c.check-v.ensures ∙ c.in-Accepted.is) in
-    let answer = p.0 ∙ sym then.0 in
-    let written = p.1 ∙ sym then.1 in
-    (answer, (written, demand-met a.book.now a.used a.day a.out-1.now answer written))
+    let answer = p.value ∙ sym then.0 in
+    let written = p.out_after ∙ sym then.1 in
+    record { value = answer; out_after = written; bounded = demand-met a.book.now a.used a.day a.out.now answer written }

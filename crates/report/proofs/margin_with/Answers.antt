@@ -35,9 +35,8 @@ curve_figures-m-requires c =
 -- in the loop: a place is free
 below : (c : In-loop-k) → c.loop-k.k < 8
 below c =
-    let counted = c.before.before.before in
-    let b = here counted in
-    omega (arith, counted.curve_count-count.ensures.value, b.most)
+    let b = sound c.args.book.now c.requires.0.used c.requires.0.accepted in
+    omega (arith, c.curve_count-count.ensures.value, b.most)
 
 -- a turn, behind its call
 
@@ -54,13 +53,13 @@ module _ (c : After-loop-k) where
   all =
       let e : c.loop-k.k ≡ c.curve_count-count.result = omega arith in
       let placed : CurvesPlaced c.args.book.now c.loop-k.curves c.curve_count-count.result = placed-as _ _ e c.loop-k.invariant.2 in
-      placed-all _ _ _ placed count-is (omega (arith, count-is, (here c).most))
+      placed-all _ _ _ placed count-is (omega (arith, count-is, (sound c.args.book.now c.requires.0.used c.requires.0.accepted).most))
 
   limits : PlacesLimits c.loop-k.curves c.curve_count-count.result
-  limits = placed-limits c.args.book.now _ (here c) _ _ count-is all
+  limits = placed-limits c.args.book.now _ (sound c.args.book.now c.requires.0.used c.requires.0.accepted) _ _ count-is all
 
 pub account-requires : goal.account-requires
-account-requires c = let b = here c in omega (arith, b.blocks, b.lent)
+account-requires c = let b = here (goal.at.account-requires c).Start in omega (arith, b.blocks, b.lent)
 
 pub margin_of-requires : goal.margin_of-requires
 margin_of-requires c = limits (goal.at.margin_of-requires c).After-loop-k
@@ -69,8 +68,8 @@ pub returns : goal.returns
 unfolding margin_in
 returns c =
     c.margin_of.ensures
-    ∙ margin-of c.loop-k.curves c.curve_count-count.result (exposures ((goal.at.returns c).After-loop-k).args.book.now) (all (goal.at.returns c).After-loop-k) c.account.result
-    ∙ ap (λ (a : ℕ). margin_of a (exposures ((goal.at.returns c).After-loop-k).args.book.now)) c.account.ensures.value
+    ∙ margin-of c.loop-k.curves c.curve_count-count.result (exposures c.args.book.now) (all (goal.at.returns c).After-loop-k) c.account.result
+    ∙ ap (λ (a : ℕ). margin_of a (exposures c.args.book.now)) c.account.ensures.value
 
 pub no_curve-curves-requires : goal.no_curve-curves-requires
 no_curve-curves-requires c = tt
