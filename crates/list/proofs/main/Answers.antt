@@ -12,8 +12,9 @@ slice_bounds-text-end c =
 
 -- the text's first bytes, as many as list_text answers
 pub slice_bounds-write_all-end : goal.slice_bounds-write_all-end
-slice_bounds-write_all-end c = let fits = slice_bounds-text-end c.before in sym (length-take-le _ _ (search rules))
+slice_bounds-write_all-end c =
+    let n = length-listed _ _ _ c.list_text-written.ensures.value (search rules) c.in-Length.is in
+    sym (length-take-le _ _ (search rules))
 
 pub refused-requires : goal.refused-requires
-refused-requires c =
-    never-refused _ _ _ c.list_text-written.ensures.value (search rules) c.in-Refused.is
+refused-requires c = never-refused _ _ _ c.list_text-written.ensures.value (search rules) c.in-Refused.is

@@ -1,0 +1,9 @@
+-- `list::read_full` is safe and ends: each turn reads a byte at least.
+use Rattle.std.proofs.Common.{length, ◌-◌, ◌≤◌}
+use Rattle.list.proofs.read_full.Given as goal
+
+abbrev pub invariant-loop-done : goal.invariant-loop-done
+invariant-loop-done g l = l.done ≤ length l.space
+
+abbrev pub decreases-loop-done : goal.decreases-loop-done
+decreases-loop-done g l = length l.initial.space - l.done
