@@ -3,7 +3,9 @@
 
 mod book_text;
 
+ghost use Rattle.std.specs.Prelude.{◌<◌, IfOk, length, take};
 ghost use Rattle.std.specs.Io.{ReadsAtMost};
+ghost use Rattle.std.specs.Io.KnownBytes.{Consumes, IsAtEnd};
 
 use ground::Written;
 use std::io;
@@ -14,15 +16,17 @@ fn refused()
     requires { ⊥ }
 {}
 
-// Reads until the space is full or the input ends, and answers how many bytes stand at its start.
-fn read_full(input: &mut impl Read, space: &mut [u8]) -> io::Result<usize>
-    ensures { ReadsAtMost result space.new }
+// Reads until the space is full or the input ends, and answers how many bytes it put at the space's start: the input's next.
+fn read_full<R: Read>(input: &mut R, space: &mut [u8]) -> io::Result<usize>
+    ensures bound { ReadsAtMost result space.new }
+    ensures bytes { IfOk result (λ n. Consumes (R.remaining input.old) (R.remaining input.new) (take n space.new)) }
+    ensures end { IfOk result (λ n. n < length space.new → IsAtEnd (R.remaining input.new)) }
 {
     let mut done = 0;
     while done < space.len() {
         let n = input.read(&mut space[done..])?;
         if n == 0 {
-            break;
+            return Ok(done);
         }
         done += n;
     }
