@@ -3,9 +3,10 @@
 
 mod book_text;
 
-ghost use Rattle.std.specs.Prelude.{◌<◌, IfOk, length, take};
+ghost use Rattle.std.specs.Prelude.{◌<◌, IfOk, IfSome, OnOk, length, take};
 ghost use Rattle.std.specs.Io.{ReadsAtMost};
-ghost use Rattle.std.specs.Io.KnownBytes.{Consumes, IsAtEnd};
+ghost use Rattle.std.specs.Io.KnownBytes.{Appends, Consumes, IsAtEnd};
+ghost use Rattle.list.specs.Text.{printed};
 
 use ground::Written;
 use std::io;
@@ -33,17 +34,24 @@ fn read_full<R: Read>(input: &mut R, space: &mut [u8]) -> io::Result<usize>
     Ok(done)
 }
 
-// A book has at most 65,536 bytes. Of a longer input one more byte is kept, so that its length is refused.
-fn main(rt: HostRuntime) -> io::Result<()> {
+// Prints the text of the book that an input is. A book has at most 65,536 bytes. Of a longer input one more byte is kept, so that its length is
+// refused.
+fn print_listing<R: Read, W: Write>(input: &mut R, output: &mut W) -> io::Result<()>
+    ensures { OnOk result (IfSome (R.remaining input.old) (λ bytes. Appends (W.contents output.old) (W.contents output.new) (printed bytes))) }
+{
     let mut book = [0u8; 65537];
-    let used = read_full(&mut rt.stdin(), &mut book)?;
+    let used = read_full(input, &mut book)?;
     let mut text = [0u8; 1481];
-    let written = book_text::list_text(&book, used, &mut text);
+    let written = book_text::list_text(&book[..used], used, &mut text);
     match written {
-        Written::Length(n) => rt.stdout().write_all(&text[..n]),
+        Written::Length(n) => output.write_all(&text[..n]),
         Written::Refused(_, _) => {
             refused();
             Ok(())
         }
     }
+}
+
+fn main(rt: HostRuntime) -> io::Result<()> {
+    print_listing(&mut rt.stdin(), &mut rt.stdout())
 }
