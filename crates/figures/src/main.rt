@@ -9,31 +9,29 @@ mod worked;
 use decimal::round::half_up;
 use extension::found_rate;
 use figure::{COUNT, Figure, Work, figure_at};
+use std::io;
 use worked::worked;
 
 // What a figure is.
-fn write_name(w: Work) -> bool {
+fn write_name(rt: &impl Print, w: Work) -> io::Result<()> {
     match w {
-        Work::Price(a, b) => io::write_all(1, b": settlement price of 100 "),
-        Work::Cash(a, b, c) => io::write_all(1, b": settlement cash "),
-        Work::Indexed(a, b, c, d) => io::write_all(1, b": indexed payment "),
-        Work::Present(a, b, c) => io::write_all(1, b": present value "),
-        Work::Variation(a, b) => io::write_all(1, b": variation margin "),
-        Work::Interest(a, b, c) => io::write_all(1, b": interest "),
-        Work::Withholding(a, b, c) => io::write_all(1, b": withholding "),
-        Work::SecondLeg(a, b, c) => io::write_all(1, b": second leg "),
+        Work::Price(a, b) => print!(rt; ": settlement price of 100 "),
+        Work::Cash(a, b, c) => print!(rt; ": settlement cash "),
+        Work::Indexed(a, b, c, d) => print!(rt; ": indexed payment "),
+        Work::Present(a, b, c) => print!(rt; ": present value "),
+        Work::Variation(a, b) => print!(rt; ": variation margin "),
+        Work::Interest(a, b, c) => print!(rt; ": interest "),
+        Work::Withholding(a, b, c) => print!(rt; ": withholding "),
+        Work::SecondLeg(a, b, c) => print!(rt; ": second leg "),
     }
 }
 
 // A price shows its hundredths, an amount is in whole lira.
-fn write_figure(w: Work, n: u64) {
+fn write_figure(rt: &impl Print, w: Work, n: u64) -> io::Result<()> {
     if let Work::Price(a, b) = w {
-        io::print_decimal(1, n / 100);
-        io::write_all(1, b".");
-        io::print_decimal(1, n / 10 % 10);
-        io::print_decimal(1, n % 10);
+        print!(rt; "{}.{:02}", n / 100, n % 100)
     } else {
-        io::print_decimal(1, n);
+        print!(rt; "{n}")
     }
 }
 
@@ -46,65 +44,58 @@ fn rounded(w: Work, n: u64) -> u64 {
 }
 
 // One line, and whether the figures agree.
-fn compare(f: Figure) -> bool {
+fn compare(rt: &impl Print, f: Figure) -> io::Result<bool> {
     let work = f.1;
     let engine = rounded(work, worked(work));
-    io::write_all(1, b"line ");
-    io::print_decimal(1, f.0);
-    write_name(work);
-    write_figure(work, f.2);
-    io::write_all(1, b", engine ");
-    write_figure(work, engine);
+    print!(rt; "line {}", f.0)?;
+    write_name(rt, work)?;
+    write_figure(rt, work, f.2)?;
+    print!(rt; ", engine ")?;
+    write_figure(rt, work, engine)?;
     if engine == f.2 {
-        io::write_all(1, b", agrees\n");
-        return true;
+        println!(rt; ", agrees")?;
+        return Ok(true);
     }
-    io::write_all(1, b", differs\n");
-    false
+    println!(rt; ", differs")?;
+    Ok(false)
 }
 
 // Four digits behind the point.
-fn write_fraction(n: u64) {
-    io::write_all(1, b".");
-    io::print_decimal(1, n / 1000 % 10);
-    io::print_decimal(1, n / 100 % 10);
-    io::print_decimal(1, n / 10 % 10);
-    io::print_decimal(1, n % 10);
+fn write_fraction(rt: &impl Print, n: u64) -> io::Result<()> {
+    print!(rt; ".{:04}", n % 10_000)
 }
 
 // The bootstrap of 004: it discounts by simple interest, where its other examples compound, and leaves the rate open.
-fn write_extension() {
+fn write_extension(rt: &impl Print) -> io::Result<()> {
     let value = worked(Work::Present(500_000_000, 105_000, 170)) / 10_000;
     let rate = found_rate();
-    io::write_all(
-        1,
-        b"line 318: present value of 5 by simple interest 4.767, engine ",
-    );
-    io::print_decimal(1, value / 10_000);
-    write_fraction(value);
-    io::write_all(1, b"\nline 319: rate of day 350 left open, engine ");
-    io::print_decimal(1, rate / 10_000);
-    write_fraction(rate);
-    io::write_all(1, b"%\n");
+    print!(rt;
+        "line 318: present value of 5 by simple interest 4.767, engine {}",
+        value / 10_000
+    )?;
+    write_fraction(rt, value)?;
+    print!(rt;
+        "\nline 319: rate of day 350 left open, engine {}",
+        rate / 10_000
+    )?;
+    write_fraction(rt, rate)?;
+    println!(rt; "%")
 }
 
 // The last line.
-fn write_count(agreed: u64) {
-    io::print_decimal(1, COUNT as u64);
-    io::write_all(1, b" figures, ");
-    io::print_decimal(1, agreed);
-    io::write_all(1, b" agree\n");
+fn write_count(rt: &impl Print, agreed: u64) -> io::Result<()> {
+    println!(rt; "{COUNT} figures, {agreed} agree")
 }
 
-fn main() {
+fn main(rt: HostRuntime) -> io::Result<()> {
     let mut agreed: u64 = 0;
     let mut i = 0;
     while i < COUNT {
-        if compare(figure_at(i)) {
+        if compare(&rt, figure_at(i))? {
             agreed += 1;
         }
         i += 1;
     }
-    write_extension();
-    write_count(agreed);
+    write_extension(&rt)?;
+    write_count(&rt, agreed)
 }

@@ -1,1 +1,2 @@
 pub mod Sufficing
+pub mod Printed

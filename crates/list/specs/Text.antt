@@ -1,5 +1,5 @@
 -- The list program's text for a book (document 01, "Checked figures"), and what lent bytes hold of it.
-use Rattle.std.specs.Prelude.{List, ℕ, length}
+use Rattle.std.specs.Prelude.{List, ℕ, length, take}
 use Rattle.ground.specs.declared.Verdict.{Verdict}
 use Rattle.ground.specs.declared.Verdict.TheVariants.{Accepted, Refused}
 use Rattle.ground.specs.declared.Written.{Written}
@@ -34,3 +34,7 @@ list_answer s used space = written_of (list_verdict s used space) (length (list_
 -- the lent bytes: the text and what lies past it, or nothing written
 unfoldable pub list_bytes : List ℕ → ℕ → List ℕ → List ℕ
 list_bytes s used out = bytes_after (list_verdict s used (length out)) out (in_front (list_text s used) out)
+
+-- what the program prints for its input: a book has at most 65,536 bytes, and of a longer input one byte more is kept
+abbrev pub printed : List ℕ → List ℕ
+printed input = list_text (take 65537 input) (length (take 65537 input))

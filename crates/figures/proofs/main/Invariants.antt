@@ -1,8 +1,5 @@
 -- `figures::main` is safe and ends: no more figures agree than are passed.
 use Prim.Native.Nat.{◌≤◌, ◌-◌}
-use mathlib.Core.Logic.{⊎_elim}
-use native.Mathlib.Omega.{arith}
-use borrow.Author.Rules.{rules}
 use Rattle.figures.proofs.main.Given as goal
 
 abbrev pub invariant-loop-i : goal.invariant-loop-i

@@ -1,5 +1,4 @@
 -- `figures::extension::coupon_bond` meets its contract: the fields stand as they were put.
-use borrow.Author.Rules.{rules}
 use Rattle.figures.specs.Extension.{coupon_bond}
 use Rattle.figures.proofs.Fields.{next_field}
 use Rattle.figures.proofs.extension.coupon_bond.Goals as goal

@@ -3,8 +3,6 @@ use mathlib.Core.Path.{◌≡◌, sym, ap, ◌∙◌}
 use mathlib.Core.Bool.{true, false}
 use mathlib.Core.List.{List}
 use Prim.Native.Nat.{ℕ}
-use borrow.Author.Rules.{rules}
-use borrow.Author.Tests.{not-true, not-false}
 use lib.ListN.{replicate}
 use Rattle.ground.specs.Verdicts.{is_accepted}
 use Rattle.layout.specs.Bytes.{put}
@@ -17,11 +15,11 @@ use Rattle.figures.proofs.extension.found_rate.Goals.{After-bootstrap-v, After-c
 
 -- the book and the quote, in the contract's terms
 module _ (c : After-bootstrap-v) where
-  is-book : c.copy_in-2.last.0 ≡ known_book
+  is-book : c.copy_in-2.new.dst ≡ known_book
   unfolding known_book
   is-book =
       c.copy_in-2.ensures
-      ∙ ap (λ (b : List ℕ). put c.copy_in.last.0 512 b) c.known_curve.ensures
+      ∙ ap (λ (b : List ℕ). put c.copy_in.new.dst 512 b) c.known_curve.ensures
       ∙ ap (λ (b : List ℕ). put b 512 known_curve) (c.copy_in.ensures ∙ ap (put (replicate 1024 0) 0) c.header.ensures)
 
   judged : c.bootstrap-v.result ≡ bootstrap_verdict known_book 1024 0 bond_quote
@@ -36,14 +34,12 @@ pub returns-then-not-is_accepted : goal.returns-then-not-is_accepted
 unfolding rate_found
 returns-then-not-is_accepted c =
     let e : is_accepted (bootstrap_verdict known_book 1024 0 bond_quote) ≡ false =
-    ap is_accepted (sym (judged (goal.at.returns-then-not-is_accepted c).After-bootstrap-v)) ∙ sym c.is_accepted.ensures ∙ c.if-not-is_accepted.true in
+    ap is_accepted (sym (judged c.before.before.before)) ∙ sym c.is_accepted.ensures ∙ c.if-not-is_accepted.true in
     rw e
 
 pub returns : goal.returns
 unfolding rate_found
 returns c =
-    let passed = c.before.before in
-    let called = let told = passed.before in told.before.before in
     let e : is_accepted (bootstrap_verdict known_book 1024 0 bond_quote) ≡ true =
-    ap is_accepted (sym (judged called)) ∙ sym passed.is_accepted.ensures ∙ passed.if-not-is_accepted.false in
-    c.u32_at.ensures.value ∙ ap (λ (b : List ℕ). u32_at b 576) (written called) ∙ rw e
+    ap is_accepted (sym (judged c.before.before.before.before.before)) ∙ sym c.is_accepted.ensures ∙ c.if-not-is_accepted.false in
+    c.u32_at.ensures.value ∙ ap (λ (b : List ℕ). u32_at b 576) (written c.before.before.before.before.before) ∙ rw e

@@ -1,6 +1,5 @@
 -- `figures::extension::known_curve` meets its contract: the fields stand as they were put, and the check behind them.
 use mathlib.Core.Path.{ap, ◌∙◌}
-use borrow.Author.Rules.{rules}
 use Rattle.layout.specs.Check.{sealed}
 use Rattle.figures.specs.Extension.{known_curve}
 use Rattle.figures.proofs.Fields.{next_field}
@@ -13,5 +12,4 @@ returns c =
     c.seal.ensures
     ∙ ap sealed
     (next_field 44 4 105000 c.put_le-8.ensures
-    (next_field 40 2 323 c.put_le-7.ensures
-    (next_field 24 4 105000 c.put_le-6.ensures (next_field 20 2 170 c.put_le-5.ensures named))))
+    (next_field 40 2 323 c.put_le-7.ensures (next_field 24 4 105000 c.put_le-6.ensures (next_field 20 2 170 c.put_le-5.ensures named))))

@@ -1,5 +1,4 @@
 -- `figures::worked::amount` meets its contract.
-use borrow.Author.Rules.{rules}
 use Rattle.decimal.specs.Product.{unit}
 use Rattle.figures.proofs.worked.amount.Goals as goal
 

@@ -1,7 +1,6 @@
 -- `figures::worked::indexed` meets its contract: a coupon is at most its nominal.
 use mathlib.Core.Path.{◌≡◌, sym, ap, ◌∙◌}
 use native.Mathlib.Omega.{arith}
-use borrow.Author.Rules.{rules}
 use Rattle.flows.proofs.Bounds.{millionths-bound}
 use Rattle.decimal.specs.HalfUp.{millionths_of, indexed_by, scaled_to}
 use Rattle.figures.specs.Worked.{amount_in, rate_in, index_in, scaled_amount, indexed_for}
@@ -10,9 +9,7 @@ use Rattle.figures.proofs.worked.indexed.Goals.{After-indexed_by-scaled}
 
 pub indexed_by-scaled-requires : goal.indexed_by-scaled-requires
 indexed_by-scaled-requires c =
-    let n = c.amount in
-    let r = c.rate in
-    omega (arith, c.millionths_of-payment.ensures, millionths-bound n.result r.result 1 n.ensures.1 r.ensures.2)
+    omega (arith, c.millionths_of-payment.ensures, millionths-bound c.amount.result c.rate.result 1 c.amount.ensures.1 c.rate.ensures.2)
 
 told : (c : After-indexed_by-scaled) →
     let a = c.args in
@@ -23,8 +20,8 @@ told c =
 
 pub returns-in-Within : goal.returns-in-Within
 unfolding indexed_for
-returns-in-Within c = ap scaled_amount (sym c.in-Within.is ∙ told (goal.at.returns-in-Within c).After-indexed_by-scaled)
+returns-in-Within c = ap scaled_amount (sym c.in-Within.is ∙ told c.before)
 
 pub returns-in-Over : goal.returns-in-Over
 unfolding indexed_for
-returns-in-Over c = ap scaled_amount (sym c.in-Over.is ∙ told (goal.at.returns-in-Over c).After-indexed_by-scaled)
+returns-in-Over c = ap scaled_amount (sym c.in-Over.is ∙ told c.before)

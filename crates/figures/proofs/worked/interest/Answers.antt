@@ -1,6 +1,5 @@
 -- `figures::worked::interest` meets its contract.
 use mathlib.Core.Path.{◌∙◌}
-use borrow.Author.Rules.{rules}
 use Rattle.flows.proofs.Bounds.{interest-bound}
 use Rattle.figures.specs.Worked.{interest_for}
 use Rattle.figures.proofs.worked.interest.Goals as goal

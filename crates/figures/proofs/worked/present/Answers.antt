@@ -1,6 +1,5 @@
 -- `figures::worked::present` meets its contract.
 use mathlib.Core.Path.{◌∙◌}
-use borrow.Author.Rules.{rules}
 use Rattle.figures.specs.Worked.{present_for}
 use Rattle.figures.proofs.worked.present.Goals as goal
 

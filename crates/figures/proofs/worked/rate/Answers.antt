@@ -1,5 +1,4 @@
 -- `figures::worked::rate` meets its contract.
-use borrow.Author.Rules.{rules}
 use Rattle.discount.specs.Discount.{million}
 use Rattle.figures.proofs.worked.rate.Goals as goal
 

@@ -1,6 +1,5 @@
 -- `figures::worked::second_leg` meets its contract.
 use mathlib.Core.Path.{◌∙◌}
-use borrow.Author.Rules.{rules}
 use Rattle.figures.specs.Worked.{second_leg_for}
 use Rattle.figures.proofs.worked.second_leg.Goals as goal
 

@@ -1,7 +1,6 @@
 -- `figures::worked::settlement` meets its contract.
 use mathlib.Core.Path.{◌∙◌}
 use native.Mathlib.Omega.{arith}
-use borrow.Author.Rules.{rules}
 use Rattle.figures.specs.Worked.{cash_for}
 use Rattle.figures.proofs.worked.settlement.Goals as goal
 

@@ -1,6 +1,5 @@
 -- `figures::worked::withholding` meets its contract.
 use mathlib.Core.Path.{ap, ◌∙◌}
-use borrow.Author.Rules.{rules}
 use Rattle.decimal.specs.HalfUp.{withholding_on}
 use Rattle.figures.proofs.worked.withholding.Goals as goal
 

@@ -1,6 +1,5 @@
 -- `figures::worked::worked` meets its contract, case by case.
 use mathlib.Core.Path.{◌∙◌}
-use borrow.Author.Rules.{rules}
 use Rattle.figures.specs.Worked.{worked_of}
 use Rattle.figures.proofs.worked.worked.Goals as goal
 

@@ -26,7 +26,7 @@ unfolding list_text
 returns-in-Refused c =
     let e = own-day _ _ ∙ sym c.check-v.ensures ∙ c.in-Refused.is in
     let w = c.write_refused.ensures in
-    rw (e, ← c.number.ensures) (w.0, (w.1.0, omega (arith, w.1.1)))
+    rw (e, ← c.number.ensures) (record { value = w.value; out_after = w.out_after; upper_bound = omega (arith, w.upper_bound) })
 
 pub returns-in-Accepted : goal.returns-in-Accepted
 unfolding list_text
