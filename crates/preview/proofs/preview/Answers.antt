@@ -28,8 +28,8 @@ record-long c = search rules
 pub returns-in-Refused : goal.returns-in-Refused
 returns-in-Refused c =
     let a = c.args in
-    let p = refused-by-append a.book.now a.used a.day a.r a.out-1.now _ _ (sym c.append_verdict-v.ensures ∙ c.in-Refused.is) in
-    (sym p.0, (sym p.1, preview-bounded a.book.now a.used a.day a.r a.out-1.now (sym p.0) (sym p.1)))
+    let p = refused-by-append a.book.now a.used a.day a.r a.out.now _ _ (sym c.append_verdict-v.ensures ∙ c.in-Refused.is) in
+    record { value = sym p.0; out_after = sym p.1; bounded = preview-bounded a.book.now a.used a.day a.r a.out.now (sym p.0) (sym p.1) }
 
 -- taken by it
 module _ (c : In-Accepted) where
@@ -50,7 +50,6 @@ slice_bounds-copy_in-end-in-Accepted c = let b = sound _ _ (given (goal.at.slice
 
 pub copy_in-requires : goal.copy_in-requires
 copy_in-requires c =
-    let c = c.before.before in
     let a = c.args in
     copy-fits zeros zeros-room a.book.now a.used a.r (given (goal.at.copy_in-requires c).In-Accepted) (a.used - 0) (omega arith)
 
@@ -59,16 +58,15 @@ module _ (c : After-copy_in) where
   abbrev used : ℕ
   used = c.args.used
 
-  is-copy : c.copy_in.new.dst ≡ put zeros 0 (take used (s c))
+  is-copy : c.copy_in.new.dst ≡ put zeros 0 (take used c.args.book.now)
   is-copy =
       let whole : used - 0 ≡ used = omega arith in
-      c.copy_in.ensures ∙ ap (λ (n : ℕ). put zeros 0 (take n (s c))) whole
-
-  admits-record : Admitted c.copy_in.new.dst used c.args.r
-  admits-record = copy-admits-record zeros zeros-room (s c) used c.args.r (given c) c.copy_in.new.dst is-copy (bytes c)
+      c.copy_in.ensures ∙ ap (λ (n : ℕ). put zeros 0 (take n c.args.book.now)) whole
 
 pub add-requires : goal.add-requires
-add-requires c = let w = admits-record (goal.at.add-requires c).After-copy_in in (w.accepted, record-taken _ _ _ w)
+add-requires c =
+    let w = copy-admits-record zeros zeros-room c.args.book.now c.args.used c.args.r (given (goal.at.add-requires c).In-Accepted) c.copy_in.new.dst (is-copy (goal.at.add-requires c).After-copy_in) (bytes (goal.at.add-requires c).In-Accepted) in
+    (w.accepted, record-taken _ _ _ w)
 
 pub fill_report-requires : goal.fill_report-requires
 fill_report-requires c =
@@ -81,9 +79,7 @@ fill_report-requires c =
 
 pub returns-in-Accepted : goal.returns-in-Accepted
 returns-in-Accepted c =
-    let filled = c.before.before in
-    let with-record = let arg = filled.before in arg.before.before.before in
-    let a = with-record.args in
+    let a = c.args in
     let p = copy-shown zeros zeros-room a.book.now a.used a.r (given (goal.at.returns-in-Accepted c).In-Accepted) _ (is-copy (goal.at.returns-in-Accepted c).After-copy_in) (bytes (goal.at.returns-in-Accepted c).In-Accepted) (record-long (goal.at.returns-in-Accepted c).Start) _ _
-    with-record.add.ensures.value with-record.add.ensures.book_after a.day (ok (goal.at.returns-in-Accepted c).In-Accepted) a.out-1.now filled.fill_report.ensures.value filled.fill_report.ensures.out_after in
-    (p.0, (p.1, preview-bounded a.book.now a.used a.day a.r a.out-1.now p.0 p.1))
+    c.add.ensures.value c.add.ensures.book_after a.day (ok (goal.at.returns-in-Accepted c).In-Accepted) a.out.now c.fill_report.ensures.value c.fill_report.ensures.out_after in
+    record { value = p.0; out_after = p.1; bounded = preview-bounded a.book.now a.used a.day a.r a.out.now p.0 p.1 }

@@ -34,18 +34,21 @@ page_length-needed-requires c =
 module _ (c : After-page_length-needed) where
   needed : c.page_length-needed.result ≡ length (page_of c.args.book.now)
   needed =
-      let e = length-page_of c.args.book.now _ here in
+      let e = length-page_of c.args.book.now _ (sound c.args.book.now c.requires.used c.requires.accepted) in
       rw (e, ← c.margin_of_book-m.ensures, ← c.trade_count.ensures, ← c.curve_count.ensures.value) c.page_length-needed.ensures
 
 pub returns-then-breaks_space : goal.returns-then-breaks_space
 returns-then-breaks_space c =
     let a = c.args in
-    let p = text-too-long (page_of a.book.now) a.out-1.now (rw (needed (goal.at.returns-then-breaks_space c).After-page_length-needed) at (sym c.breaks_space.ensures ∙ c.if-breaks_space.true)) in
+    let p = text-too-long (page_of a.book.now) a.out.now (rw (needed (goal.at.returns-then-breaks_space c).After-page_length-needed) at (sym c.breaks_space.ensures ∙ c.if-breaks_space.true)) in
     record { value = p.answer; out_after = p.bytes }
 
 -- there is text-fits
-spacious : (c : Else-breaks_space) → let a = c.args in breaks_space (length (page_of a.book.now)) (length a.out-1.now) ≡ false
-spacious c = rw (needed c.before.before) at (sym c.breaks_space.ensures ∙ c.if-breaks_space.false)
+spacious : (c : Else-breaks_space) → let a = c.args in breaks_space (length (page_of a.book.now)) (length a.out.now) ≡ false
+spacious c =
+    let e = length-page_of c.args.book.now _ (sound c.args.book.now c.requires.used c.requires.accepted) in
+    let needed : c.page_length-needed.result ≡ length (page_of c.args.book.now) = rw (e, ← c.margin_of_book-m.ensures, ← c.trade_count.ensures, ← c.curve_count.ensures.value) c.page_length-needed.ensures in
+    rw needed at (sym c.breaks_space.ensures ∙ c.if-breaks_space.false)
 
 pub write_page-requires : goal.write_page-requires
 write_page-requires c =
@@ -54,5 +57,5 @@ write_page-requires c =
 pub returns : goal.returns
 returns c =
     let a = c.args in
-    let p = text_in-front (page_of a.book.now) a.out-1.now (spacious (goal.at.returns c).Else-breaks_space) c.write_page.ensures.value c.write_page.ensures.out_after in
+    let p = text_in-front (page_of a.book.now) a.out.now (spacious (goal.at.returns c).Else-breaks_space) c.write_page.ensures.value c.write_page.ensures.out_after in
     record { value = p.answer; out_after = p.bytes }

@@ -54,18 +54,18 @@ record_at-r-requires c =
 
 pub fields_of-requires : goal.fields_of-requires
 fields_of-requires c =
-    ap length c.record_at-r.ensures ∙ length-record_at (book (goal.at.fields_of-requires c).In-loop-i) _ (here (goal.at.fields_of-requires c).Start) (i (goal.at.fields_of-requires c).In-loop-i) (below (goal.at.fields_of-requires c).In-loop-i)
+    ap length c.record_at-r.ensures ∙ length-record_at c.args.book.now _ (here (goal.at.fields_of-requires c).Start) c.loop-i.i (below (goal.at.fields_of-requires c).In-loop-i)
 
 -- after the record is read: it is the one at the position
-fields-is : (c : After-fields_of) → let read = c.before.before.before in c.fields_of.result ≡ fields_of (record_at (book read.before) (i read.before))
-fields-is c = let read = c.before.before.before in c.fields_of.ensures ∙ ap fields_of read.record_at-r.ensures
+fields-is : (c : After-fields_of) → c.fields_of.result ≡ fields_of (record_at c.args.book.now c.loop-i.i)
+fields-is c = c.fields_of.ensures ∙ ap fields_of c.record_at-r.ensures
 
 pub put_trade-next-requires : goal.put_trade-next-requires
 put_trade-next-requires c =
-    let limits = record-limits (book (goal.at.put_trade-next-requires c).In-loop-i) _ (here (goal.at.put_trade-next-requires c).Start) (i (goal.at.put_trade-next-requires c).In-loop-i) (below (goal.at.put_trade-next-requires c).In-loop-i) in
-    let long = length-trade-line (i (goal.at.put_trade-next-requires c).In-loop-i) (fields_of (record_at (book (goal.at.put_trade-next-requires c).In-loop-i) (i (goal.at.put_trade-next-requires c).In-loop-i))) limits in
-    let room = text-room (record_line (i (goal.at.put_trade-next-requires c).In-loop-i) (record_at (book (goal.at.put_trade-next-requires c).In-loop-i) (i (goal.at.put_trade-next-requires c).In-loop-i))) (rest (goal.at.put_trade-next-requires c).In-loop-i) (rw (next (goal.at.put_trade-next-requires c).In-loop-i) at c.loop-i.invariant.1) c.requires.book_in_bounds in
-    (omega (arith, long, room), rw (fields-is c) limits)
+    let limits = record-limits c.args.book.now _ (here (goal.at.put_trade-next-requires c).Start) c.loop-i.i (below (goal.at.put_trade-next-requires c).In-loop-i) in
+    let long = length-trade-line c.loop-i.i (fields_of (record_at c.args.book.now c.loop-i.i)) limits in
+    let room = text-room (record_line c.loop-i.i (record_at c.args.book.now c.loop-i.i)) (rest (goal.at.put_trade-next-requires c).In-loop-i) (rw (next (goal.at.put_trade-next-requires c).In-loop-i) at c.loop-i.invariant.1) c.requires.book_in_bounds in
+    (omega (arith, long, room), rw (fields-is (goal.at.put_trade-next-requires c).After-fields_of) limits)
 
 pub loop-i-preserved : goal.loop-i-preserved
 loop-i-preserved c =

@@ -11,11 +11,12 @@ fill_page-requires c = record { used = _; accepted = (book-accepted _ _ _ (sym c
 pub returns-in-Refused : goal.returns-in-Refused
 returns-in-Refused c =
     let a = c.args in
-    refused-statement a.book.now a.used a.day a.out-1.now _ _ (sym c.check-v.ensures ∙ c.in-Refused.is)
+    let p = refused-statement a.book.now a.used a.day a.out.now _ _ (sym c.check-v.ensures ∙ c.in-Refused.is) in
+    record { value = p.0; out_after = p.1 }
 
 pub returns-in-Accepted : goal.returns-in-Accepted
 returns-in-Accepted c =
     let a = c.args in
     let p = c.fill_page.ensures in
-    let then = accepted-statement a.book.now a.used a.day a.out-1.now (sym c.check-v.ensures ∙ c.in-Accepted.is) in
-    record { value = p.0 ∙ sym then.0; out_after = p.1 ∙ sym then.1 }
+    let then = accepted-statement a.book.now a.used a.day a.out.now (sym c.check-v.ensures ∙ c.in-Accepted.is) in
+    record { value = p.value ∙ sym then.0; out_after = p.out_after ∙ sym then.1 }

@@ -38,7 +38,7 @@ module _ (s : Start) where
   whole = ap (λ (x : Margin). page (curve_count book) x (records book)) s.requires.starts_with_book.1
 
   -- the parts have room
-  room : length (title_line m.account) + length (lines_of record_line 0 (records book)) + length (lines_of curve_line 1 (take (curve_count book) m.curves-1)) + length (lines_of (currency_part_of (take (curve_count book) m.curves-1)) 1 m.currencies-1) ≤ length s.args.out.now
+  room : length (title_line m.account) + length (lines_of record_line 0 (records book)) + length (lines_of curve_line 1 (take (curve_count book) m.curves)) + length (lines_of (currency_part_of (take (curve_count book) m.curves)) 1 m.currencies) ≤ length s.args.out.now
   room = omega (arith, ap length whole, length-parts-of (curve_count book) m (records book), s.requires.book_in_bounds)
 
 pub curve_count-count-requires : goal.curve_count-count-requires
@@ -55,13 +55,13 @@ put_trades-second-requires c =
 pub put_curves-third-requires : goal.put_curves-third-requires
 put_curves-third-requires c =
     let e = c.curve_count-count.ensures.value in
-    rw e ((limits (goal.at.put_curves-third-requires c).Start).curves-1, omega (arith, room (goal.at.put_curves-third-requires c).Start, c.put_title-first.ensures.place, c.put_trades-second.ensures.place))
+    rw e ((limits (goal.at.put_curves-third-requires c).Start).curves, omega (arith, room (goal.at.put_curves-third-requires c).Start, c.put_title-first.ensures.place, c.put_trades-second.ensures.place))
 
 pub put_currencies-requires : goal.put_currencies-requires
 put_currencies-requires c =
     let e = c.curve_count-count.ensures.value in
     let third = rw e at c.put_curves-third.ensures in
-    rw e record { count_bound = ((limits (goal.at.put_currencies-requires c).Start).curves-1.most, (limits (goal.at.put_currencies-requires c).Start).currencies-1); currencies_in_bounds = omega (arith, room (goal.at.put_currencies-requires c).Start, c.put_title-first.ensures.place, c.put_trades-second.ensures.place, third.place) }
+    rw e record { count_bound = ((limits (goal.at.put_currencies-requires c).Start).curves.most, (limits (goal.at.put_currencies-requires c).Start).currencies); currencies_in_bounds = omega (arith, room (goal.at.put_currencies-requires c).Start, c.put_title-first.ensures.place, c.put_trades-second.ensures.place, third.place) }
 
 pub returns : goal.returns
 unfolding page
@@ -69,4 +69,5 @@ returns c =
     let e = c.curve_count-count.ensures.value in
     let first = and_then (and_then c.put_title-first.ensures c.put_trades-second.ensures) (rw e at c.put_curves-third.ensures) in
     let parts = and_then first (rw e at c.put_currencies.ensures) in
-    written_as (page_of (book (goal.at.returns c).Start)) parts (whole (goal.at.returns c).Start) c.requires.book_in_bounds
+    let p = written_as (page_of (book (goal.at.returns c).Start)) parts (whole (goal.at.returns c).Start) c.requires.book_in_bounds in
+    record { value = p.0; out_after = p.1 }
