@@ -13,4 +13,4 @@ pub returns : goal.returns
 returns c =
     let a = c.args in
     let quote : c.quote_of-quote.result ≡ quote_of a.curve a.bond.now a.cash a.first a.second a.third =
-    c.quote_of-quote.ensures ∙ rw (to_z-of_z c.ranges.first, to_z-of_z c.ranges.second, to_z-of_z c.ranges.third) in record { value = c.verdict_answer.ensures ∙ rw c.bootstrap.ensures.value (ap (λ (q : Quote). verdict_answer (bootstrap_verdict a.book-1.now a.used a.day q)) quote); book_after = c.bootstrap.ensures.book_after ∙ ap (bootstrapped a.book-1.now a.used a.day) quote }
+    c.quote_of-quote.ensures ∙ rw (to_z-of_z c.ranges.first, to_z-of_z c.ranges.second, to_z-of_z c.ranges.third) in record { value = c.verdict_answer.ensures ∙ rw c.bootstrap.ensures.value (ap (λ (q : Quote). verdict_answer (bootstrap_verdict a.book.now a.used a.day q)) quote); book_after = c.bootstrap.ensures.book_after ∙ ap (bootstrapped a.book.now a.used a.day) quote }

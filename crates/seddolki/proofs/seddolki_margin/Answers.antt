@@ -9,4 +9,8 @@ pub returns : goal.returns
 returns c =
     let m = c.margin.ensures in
     let answer = c.verdict_answer.ensures in
-    (rw (answer, m.0), (m.1.0, λ done. m.1.1 (done-accepted _ (ap (λ (a : Answer). a.number) (sym answer) ∙ done))))
+    record {
+      value = rw (answer, m.value);
+      report_after = m.out_after;
+      bounded = λ done. m.bounded (done-accepted _ (ap (λ (a : Answer). a.number) (sym answer) ∙ done));
+    }

@@ -9,4 +9,8 @@ pub returns : goal.returns
 returns c =
     let p = c.preview.ensures in
     let answer = c.verdict_answer.ensures in
-    (rw (answer, p.0), (p.1.0, λ done. p.1.1 (done-accepted _ (ap (λ (a : Answer). a.number) (sym answer) ∙ done))))
+    record {
+      value = rw (answer, p.value);
+      report_after = p.out_after;
+      bounded = λ done. p.bounded (done-accepted _ (ap (λ (a : Answer). a.number) (sym answer) ∙ done));
+    }
