@@ -12,7 +12,7 @@ use Rattle.laws.proofs.Bools.{both}
 use Rattle.laws.proofs.Tests.{all-at}
 use Rattle.laws.proofs.Every.{every-at}
 use Rattle.ground.specs.declared.Verdict.TheVariants.{Accepted}
-use Rattle.layout.specs.Bytes.{byte_at, AreBytes, zeros}
+use Rattle.layout.specs.Bytes.{byte_at, AreBytes}
 use Rattle.layout.specs.Field.{number_at, u16_at, u32_at, i32_at}
 use Rattle.layout.proofs.Bytes.{zeros-at}
 use Rattle.layout.proofs.Field.{field-byte, field_bound, field-determines, signed-determines}

@@ -1,5 +1,4 @@
 -- `acceptance::breaks_valuation_day` meets its contract: in each arm the case is told.
-use borrow.Author.Rules.{rules}
 use Rattle.acceptance.specs.Verdict.{breaks_valuation_day}
 use Rattle.acceptance.proofs.breaks_valuation_day.Goals as goal
 

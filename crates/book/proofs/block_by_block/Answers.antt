@@ -1,10 +1,6 @@
 -- `book::block_by_block` meets its contract.
-use mathlib.Core.Path.{◌≡◌, refl, sym, ◌∙◌}
-use Prim.Native.Nat.{◌≤◌, ◌-◌}
+use mathlib.Core.Path.{refl, sym, ◌∙◌}
 use native.Mathlib.Omega.{arith}
-use borrow.Author.Rules.{rules}
-use borrow.Author.Tests.{not-true, not-false}
-use Rattle.book.specs.Verdict.{first_of, block_verdict}
 use Rattle.book.proofs.First.{first-passed, first-stopped, first-end}
 use Rattle.book.proofs.block_by_block.Goals as goal
 

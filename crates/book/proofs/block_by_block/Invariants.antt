@@ -1,11 +1,7 @@
 -- `book::block_by_block` meets its contract.
-use mathlib.Core.Path.{◌≡◌, refl, sym, ◌∙◌}
+use mathlib.Core.Path.{◌≡◌}
 use Prim.Native.Nat.{◌≤◌, ◌-◌}
-use native.Mathlib.Omega.{arith}
-use borrow.Author.Rules.{rules}
-use borrow.Author.Tests.{not-true, not-false}
 use Rattle.book.specs.Verdict.{first_of, block_verdict}
-use Rattle.book.proofs.First.{first-passed, first-stopped, first-end}
 use Rattle.book.proofs.block_by_block.Given as goal
 
 abbrev pub invariant-loop-k : goal.invariant-loop-k

@@ -1,5 +1,4 @@
 -- `curve::interpolate` meets its contract: proofs/Interpolation.antt names what each operation gives, and its size.
-use borrow.Author.Rules.{rules}
 use native.Mathlib.Omega.{arith}
 use Rattle.laws.proofs.Signed.{fits, to-u64}
 use Rattle.curve.proofs.Interpolation.{run_is, interpolated-is, rise-size, gone-size, run-size, product-size, quot-size, interpolated-size, code-rise, code-gone, code-run, code-product, code-quot, code-interpolated, interpolated-read}

@@ -1,5 +1,4 @@
 -- `curve::shift` meets its contract: proofs/Shifting.antt names what each operation gives, and its size.
-use borrow.Author.Rules.{rules}
 use native.Mathlib.Omega.{arith}
 use lib.Dec.{lit<}
 use Rattle.laws.proofs.Signed.{fits, read_is}

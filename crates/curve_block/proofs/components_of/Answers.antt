@@ -1,5 +1,4 @@
 -- `curve_block::components_of` meets its contract.
-use borrow.Author.Rules.{rules}
 use Rattle.curve_block.specs.Parts.{components_of}
 use Rattle.curve_block.proofs.components_of.Goals as goal
 

@@ -1,15 +1,9 @@
 -- `curve_block::curve_of` meets its contract.
-use mathlib.Core.Path.{◌≡◌, refl, sym, ap, ◌∙◌}
+use mathlib.Core.Path.{◌≡◌}
 use Prim.Native.Nat.{ℕ, ◌≤◌, ◌<◌, ◌-◌}
-use native.Mathlib.Omega.{arith}
-use borrow.Author.Rules.{rules}
-use borrow.Author.Count.{below_more}
-use lib.ListN.{length, get_or, length-set}
-use lib.Seq.{get_or-set_same, get_or-set_other, ext_get_or}
-use Rattle.laws.specs.Walk.{table}
-use Rattle.laws.proofs.Walk.{length-table, get_d-table}
+use lib.ListN.{length, get_or}
 use Rattle.curve.specs.Limits.{zero_node}
-use Rattle.curve_block.specs.Parts.{node_at, curve_of}
+use Rattle.curve_block.specs.Parts.{node_at}
 use Rattle.curve_block.proofs.curve_of.Given as goal
 
 abbrev pub invariant-loop-i : goal.invariant-loop-i

@@ -1,6 +1,5 @@
 -- `curve_block::node_at` meets its contract.
 use native.Mathlib.Omega.{arith}
-use borrow.Author.Rules.{rules}
 use Rattle.laws.proofs.Signed.{read_is}
 use Rattle.curve_block.specs.Parts.{node_at}
 use Rattle.curve_block.proofs.node_at.Goals as goal

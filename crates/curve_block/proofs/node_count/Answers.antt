@@ -1,6 +1,5 @@
 -- `curve_block::node_count` meets its contract.
 use native.Mathlib.Omega.{arith}
-use borrow.Author.Rules.{rules}
 use Rattle.curve_block.proofs.node_count.Goals as goal
 
 pub overflow_cast-result : goal.overflow_cast-result

@@ -1,5 +1,4 @@
 -- `curve_edit::add_node` meets its contract: the node, the count, the check.
-use borrow.Author.Rules.{rules}
 use mathlib.Core.Path.{◌∙◌}
 use native.Mathlib.Omega.{arith}
 use lib.ListN.{length-set}

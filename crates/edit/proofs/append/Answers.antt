@@ -2,7 +2,6 @@
 use mathlib.Core.Path.{sym, ◌∙◌}
 use Rattle.edit.specs.Edits.{append_answer, appended}
 use Rattle.edit.proofs.Given.{record-taken, admitted}
-use borrow.Author.Rules.{rules}
 use Rattle.edit.proofs.append.Goals as goal
 
 pub add-requires : goal.add-requires

@@ -4,7 +4,6 @@ use native.Mathlib.Omega.{arith}
 use Rattle.book.proofs.Accepted.{sound, blocks-for}
 use Rattle.edit.specs.Edits.{found}
 use Rattle.edit.proofs.Given.{has-trade}
-use borrow.Author.Rules.{rules}
 use Rattle.edit.proofs.read.Goals as goal
 
 pub record_at-bytes-requires : goal.record_at-bytes-requires

@@ -5,7 +5,6 @@ use Rattle.layout.specs.Bytes.{AreBytes}
 use Rattle.book.specs.Parts.{curve_count}
 use Rattle.book.proofs.Accepted.{sound, blocks-for, trade-count-most}
 use Rattle.edit.proofs.Fewer.{curves-same, last_block, struck-lent}
-use borrow.Author.Rules.{rules}
 use Rattle.edit.proofs.remove.Goals as goal
 
 pub trade_count-left-requires : goal.trade_count-left-requires
@@ -32,6 +31,7 @@ move_up-requires c =
     let t = blocks-for _ _ b in
     let m = trade-count-most _ _ b in
     omega (arith, c.requires.1)
+
 pub cut_back-requires : goal.cut_back-requires
 cut_back-requires c =
     let s = c.args.book.now in

@@ -2,7 +2,6 @@
 use mathlib.Core.Path.{sym, ◌∙◌}
 use Rattle.edit.specs.Edits.{strike_answer, struck}
 use Rattle.edit.proofs.Given.{has-trade}
-use borrow.Author.Rules.{rules}
 use Rattle.edit.proofs.strike.Goals as goal
 
 pub remove-requires : goal.remove-requires

@@ -1,5 +1,4 @@
 -- `ground::number` meets its contract: in each arm the case is told.
-use borrow.Author.Rules.{rules}
 use Rattle.ground.proofs.number.Goals as goal
 
 pub returns-in-Length : goal.returns-in-Length

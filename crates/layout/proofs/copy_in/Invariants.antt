@@ -1,8 +1,6 @@
 -- `layout::copy_in` meets its contract: what is copied and what is left to copy are together all.
-use Rattle.std.proofs.Common.{◌≡◌, suc, ◌+◌, ◌-◌, ◌<◌, ◌≤◌, length, drop, sym, refl, ◌∙◌, add-zero, add-one, arith, length-set, drop-cons}
-use lib.Seq.{drop-length}
+use Rattle.std.proofs.Common.{◌≡◌, ◌+◌, ◌-◌, ◌≤◌, length, drop}
 use Rattle.layout.specs.Bytes.{put}
-use Rattle.layout.proofs.Bytes.{put-none, put-cons}
 use Rattle.layout.proofs.copy_in.Given as goal
 
 abbrev pub invariant-loop-j : goal.invariant-loop-j

@@ -1,5 +1,5 @@
 -- `layout::i32_at` meets its contract.
-use Rattle.std.proofs.Common.{◌≡◌, ℕ, ◌<◌, ◌≤◌, pos, ◌-ℤ◌, nat_abs, ◌∙◌, arith, to_z-of_z, w64, to_z, rules, le-ltb, lt-ltb}
+use Rattle.std.proofs.Common.{◌≡◌, ℕ, ◌<◌, ◌≤◌, pos, ◌-ℤ◌, nat_abs, ◌∙◌, arith, to_z-of_z, w64, to_z, le-ltb, lt-ltb}
 use mir.Facts.{to_z_pos}
 use Rattle.laws.proofs.Signed.{fits, abs-sub}
 use Rattle.layout.specs.Field.{signed_of}

@@ -1,7 +1,5 @@
 -- `layout::put_le` meets its contract: what is written and what is left to write are together all.
-use Rattle.std.proofs.Common.{◌≡◌, suc, ◌+◌, ◌-◌, ◌≤◌, length, sym, refl, ◌∙◌, arith, length-set, rules}
-use Rattle.layout.specs.Bytes.{put}
-use Rattle.layout.specs.Field.{bytes_of}
+use Rattle.std.proofs.Common.{◌≡◌, suc, ◌+◌, ◌-◌, sym, refl, ◌∙◌, arith, length-set, rules}
 use Rattle.layout.proofs.Field.{put_next, put_last}
 use Rattle.layout.proofs.put_le.Goals as goal
 

@@ -1,8 +1,7 @@
 -- `layout::put_le` meets its contract: what is written and what is left to write are together all.
-use Rattle.std.proofs.Common.{◌≡◌, suc, ◌+◌, ◌-◌, ◌≤◌, length, sym, refl, ◌∙◌, arith, length-set, rules}
+use Rattle.std.proofs.Common.{◌≡◌, ◌+◌, ◌-◌, ◌≤◌, length}
 use Rattle.layout.specs.Bytes.{put}
 use Rattle.layout.specs.Field.{bytes_of}
-use Rattle.layout.proofs.Field.{put_next, put_last}
 use Rattle.layout.proofs.put_le.Given as goal
 
 abbrev pub invariant-loop-i : goal.invariant-loop-i

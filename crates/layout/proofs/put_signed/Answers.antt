@@ -1,5 +1,5 @@
 -- `layout::put_signed` meets its contract.
-use Rattle.std.proofs.Common.{◌∙◌, rules}
+use Rattle.std.proofs.Common.{◌∙◌}
 use Rattle.layout.proofs.Signed.{code_read}
 use Rattle.layout.proofs.put_signed.Goals as goal
 

@@ -1,5 +1,5 @@
 -- `layout::u16_at` meets its contract: a field is its bytes.
-use Rattle.std.proofs.Common.{◌+◌, arith, rules}
+use Rattle.std.proofs.Common.{◌+◌, arith}
 use Rattle.layout.proofs.Field.{field-add, field-byte}
 use Rattle.layout.proofs.u16_at.Goals as goal
 

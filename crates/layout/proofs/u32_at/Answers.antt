@@ -1,5 +1,5 @@
 -- `layout::u32_at` meets its contract: a field is its two halves.
-use Rattle.std.proofs.Common.{arith, rules}
+use Rattle.std.proofs.Common.{arith}
 use Rattle.layout.proofs.Field.{field-add}
 use Rattle.layout.proofs.u32_at.Goals as goal
 

@@ -1,5 +1,5 @@
 -- `layout::u64_at` meets its contract: a field is its two halves.
-use Rattle.std.proofs.Common.{arith, rules}
+use Rattle.std.proofs.Common.{arith}
 use Rattle.layout.proofs.Field.{field-add}
 use Rattle.layout.proofs.u64_at.Goals as goal
 

@@ -1,7 +1,6 @@
 -- `layout::zeros` meets its contract.
-use Rattle.std.proofs.Common.{◌≡◌, ℕ, ◌-◌, ◌≤◌, eqb, sym, refl, ◌∙◌, arith, rules, eq-eqb, ne_eqb}
+use Rattle.std.proofs.Common.{◌≡◌, ℕ, ◌-◌, ◌≤◌, eqb}
 use Rattle.laws.specs.Every.{every}
-use Rattle.laws.proofs.Every.{every-passed, every-failed, every-end}
 use Rattle.layout.specs.Bytes.{byte_at, zeros}
 use Rattle.layout.proofs.zeros.Given as goal
 

@@ -1,14 +1,9 @@
 -- `listing::put_currency_lines` meets its contract: what is written and what is left to write are together all.
 use mathlib.Core.Path.{◌≡◌}
 use Prim.Native.Nat.{◌+◌, ◌*◌, ◌-◌, ◌≤◌}
-use native.Mathlib.Omega.{arith}
-use borrow.Author.Rules.{rules}
 use lib.ListN.{length, take, drop}
-use Rattle.laws.proofs.Arrays.{length-mapped}
-use Rattle.margin.specs.Margins.{no_currency}
 use Rattle.text.specs.Text.{lines_of}
-use Rattle.text.proofs.Lines.{lines_next, lines_none}
-use Rattle.text.proofs.Writing.{TextLeft, text-all, text-next, text-none}
+use Rattle.text.proofs.Writing.{TextLeft}
 use Rattle.listing.specs.Listing.{currency_listed_in}
 use Rattle.listing.proofs.put_currency_lines.Given as goal
 

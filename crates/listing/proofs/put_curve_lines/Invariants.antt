@@ -1,14 +1,9 @@
 -- `listing::put_curve_lines` meets its contract: what is written and what is left to write are together all.
 use mathlib.Core.Path.{◌≡◌}
 use Prim.Native.Nat.{◌+◌, ◌*◌, ◌-◌, ◌≤◌}
-use native.Mathlib.Omega.{arith}
-use borrow.Author.Rules.{rules}
 use lib.ListN.{length, take, drop}
-use Rattle.laws.proofs.Arrays.{length-mapped}
-use Rattle.margin.specs.Margins.{no_curve}
 use Rattle.text.specs.Text.{lines_of}
-use Rattle.text.proofs.Lines.{first-lines-next, first-lines-none}
-use Rattle.text.proofs.Writing.{TextLeft, text-all, text-next, text-none}
+use Rattle.text.proofs.Writing.{TextLeft}
 use Rattle.listing.specs.Listing.{curve_listed}
 use Rattle.listing.proofs.put_curve_lines.Given as goal
 

@@ -1,7 +1,6 @@
 -- `listing::write_refused` meets its contract.
 use Prim.Native.Nat.{◌≤◌}
 use native.Mathlib.Omega.{arith}
-use borrow.Author.Rules.{rules}
 use Rattle.text.specs.Text.{ascii}
 use Rattle.listing.specs.Listing.{refused_line}
 use Rattle.text.proofs.Writing.{and_then, written-front}

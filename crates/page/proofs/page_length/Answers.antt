@@ -1,5 +1,4 @@
 -- `page::page_length` meets its contract.
-use borrow.Author.Rules.{rules}
 use Rattle.page.proofs.page_length.Goals as goal
 
 pub returns : goal.returns

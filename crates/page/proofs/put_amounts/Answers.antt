@@ -1,6 +1,5 @@
 -- `page::put_amounts` meets its contract: three columns, one behind the other.
 use native.Mathlib.Omega.{arith}
-use borrow.Author.Rules.{rules}
 use Rattle.layout.proofs.Signed.{code_read}
 use Rattle.page.proofs.LineWritten.{one-amount, more-amounts}
 use Rattle.page.proofs.put_amounts.Goals as goal

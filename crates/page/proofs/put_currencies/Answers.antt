@@ -1,17 +1,14 @@
 -- `page::put_currencies` meets its contract: what is written and what is left to write are together all.
 use mathlib.Core.Path.{◌≡◌}
-use mathlib.Core.List.{List, ◌++◌}
-use Prim.Native.Nat.{ℕ, ◌+◌, ◌-◌, ◌≤◌, ◌<◌}
+use Prim.Native.Nat.{◌+◌, ◌<◌}
 use native.Mathlib.Omega.{arith}
 use borrow.Author.Rules.{rules}
 use lib.ListN.{length, get_or, take, drop}
 use Rattle.laws.proofs.Arrays.{length-mapped}
-use Rattle.margin.specs.declared.CurveMargin.{CurveMargin}
-use Rattle.margin.specs.declared.CurrencyMargin.{CurrencyMargin}
 use Rattle.margin.specs.Margins.{no_currency, has_currency}
 use Rattle.text.specs.Text.{lines_of}
 use Rattle.text.proofs.Lines.{lines_next, lines_none}
-use Rattle.text.proofs.Writing.{TextLeft, text-all, text-room, text-next, text-none}
+use Rattle.text.proofs.Writing.{text-all, text-room, text-next, text-none}
 use Rattle.page.specs.Page.{currency_part_of}
 use Rattle.page.proofs.Lengths.{length_part}
 use Rattle.page.proofs.put_currencies.Goals as goal

@@ -1,5 +1,4 @@
 -- `page::put_currency_part` meets its contract: the line, or nothing.
-use borrow.Author.Rules.{rules}
 use Rattle.text.proofs.Writing.{written_none}
 use Rattle.page.specs.Page.{currency_part}
 use Rattle.page.proofs.put_currency_part.Goals as goal

@@ -1,9 +1,6 @@
 -- `page::put_curve_left` meets its contract: its parts, one behind the other.
-use Prim.Native.Nat.{◌≤◌}
 use native.Mathlib.Omega.{arith}
-use borrow.Author.Rules.{rules}
-use lib.ListN.{length}
-use Rattle.text.specs.Text.{ascii, decimal_of}
+use Rattle.text.specs.Text.{ascii}
 use Rattle.text.proofs.Writing.{and_then}
 use Rattle.page.specs.Page.{curve_left}
 use Rattle.page.proofs.Lengths.{length-id, length-scenario}

@@ -1,7 +1,6 @@
 -- `page::put_curves` meets its contract: what is written and what is left to write are together all.
 use mathlib.Core.Path.{◌≡◌}
-use mathlib.Core.List.{◌++◌}
-use Prim.Native.Nat.{ℕ, ◌+◌, ◌-◌, ◌≤◌, ◌<◌}
+use Prim.Native.Nat.{◌+◌, ◌≤◌, ◌<◌}
 use native.Mathlib.Omega.{arith}
 use borrow.Author.Rules.{rules}
 use lib.ListN.{length, get_or, take, drop}
@@ -9,7 +8,7 @@ use Rattle.laws.proofs.Arrays.{length-mapped}
 use Rattle.margin.specs.Margins.{no_curve}
 use Rattle.text.specs.Text.{lines_of}
 use Rattle.text.proofs.Lines.{first-lines-next, first-lines-none}
-use Rattle.text.proofs.Writing.{TextLeft, text-all, text-room, text-next, text-none}
+use Rattle.text.proofs.Writing.{text-all, text-room, text-next, text-none}
 use Rattle.page.specs.Page.{curve_line}
 use Rattle.page.proofs.Lengths.{length-curve-line}
 use Rattle.page.proofs.put_curves.Goals as goal

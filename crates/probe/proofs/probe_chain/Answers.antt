@@ -1,6 +1,5 @@
 -- `probe::probe_chain` meets its contract, by that of `compound`.
 use native.Mathlib.Omega.{arith}
-use borrow.Author.Rules.{rules}
 use Rattle.decimal.specs.Product.{unit}
 use Rattle.probe.proofs.probe_chain.Goals as goal
 

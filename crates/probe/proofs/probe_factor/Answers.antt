@@ -1,7 +1,6 @@
 -- `probe::probe_factor` meets its contract, by that of `factor`.
 use mathlib.Core.Path.{ap, ◌∙◌}
 use Prim.Native.Nat.{ℕ}
-use borrow.Author.Rules.{rules}
 use Rattle.discount.specs.Discount.{factor}
 use Rattle.probe.proofs.probe_factor.Goals as goal
 

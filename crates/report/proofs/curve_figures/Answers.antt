@@ -1,7 +1,6 @@
 -- `report::curve_figures` meets its contract: the ladder has the curve's flows, and the block gives a proper curve.
 use mathlib.Core.Path.{refl, ◌∙◌}
 use native.Mathlib.Omega.{arith}
-use borrow.Author.Rules.{rules}
 use Rattle.book.proofs.Accepted.{sound, curve-sound}
 use Rattle.exposure.specs.Exposures.{exposure_at}
 use Rattle.report.proofs.curve_figures.Goals as goal

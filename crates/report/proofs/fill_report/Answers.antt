@@ -1,6 +1,5 @@
 -- `report::fill_report` meets its contract.
 use mathlib.Core.Path.{sym, ◌∙◌}
-use borrow.Author.Rules.{rules}
 use Rattle.report.proofs.Answers.{no-space, space, filled}
 use Rattle.report.proofs.fill_report.Goals as goal
 
@@ -18,6 +17,6 @@ pub returns : goal.returns
 returns c =
     let a = c.args in
     let p =
-        filled a.book.now a.out.now c.margin_of_book.result _ (sym c.breaks_space.ensures ∙ c.if-breaks_space.false)
-        c.margin_of_book.ensures c.write_report.ensures in
+    filled a.book.now a.out.now c.margin_of_book.result _ (sym c.breaks_space.ensures ∙ c.if-breaks_space.false)
+    c.margin_of_book.ensures c.write_report.ensures in
     record { value = p.0; out_after = p.1 }

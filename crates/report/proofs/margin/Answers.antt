@@ -1,6 +1,5 @@
 -- `report::margin` meets its contract, by those of `check` and `fill_report`.
 use mathlib.Core.Path.{sym, ◌∙◌}
-use borrow.Author.Rules.{rules}
 use Rattle.acceptance.proofs.Laws.{book-accepted}
 use Rattle.report.proofs.Answers.{refused-book, accepted-book-reported}
 use Rattle.report.proofs.Demand.{demand-met}

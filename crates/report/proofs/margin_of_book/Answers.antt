@@ -1,7 +1,6 @@
 -- `report::margin_of_book` meets its contract: either ladder has room for three legs of each trade.
 use Prim.Native.Nat.{ℕ}
 use native.Mathlib.Omega.{arith}
-use borrow.Author.Rules.{rules}
 use lib.ListN.{length-replicate}
 use Rattle.book.proofs.Accepted.{Sound, sound, trade-count-most}
 use Rattle.report.proofs.margin_of_book.Goals as goal

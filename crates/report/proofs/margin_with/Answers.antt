@@ -1,10 +1,10 @@
 -- `report::margin_with` meets its contract. The invariant: the first k places hold the figures of the first k curves.
 use mathlib.Core.Path.{◌≡◌, refl, ap, ◌∙◌}
 use mathlib.Core.List.{map}
-use Prim.Native.Nat.{ℕ, ◌-◌, ◌≤◌, ◌<◌}
+use Prim.Native.Nat.{ℕ, ◌<◌}
 use native.Mathlib.Omega.{arith}
 use borrow.Author.Rules.{rules}
-use lib.ListN.{length, take}
+use lib.ListN.{take}
 use Rattle.book.specs.Parts.{curve_count}
 use Rattle.book.proofs.Accepted.{Sound, sound}
 use Rattle.margin.specs.Margins.{curve_margin, margin_of, PlacesLimits}

@@ -1,10 +1,9 @@
 -- `report_block::put_curves` meets its contract: what is written and what is left to write are together all.
-use Prim.Native.Nat.{◌-◌}
 use borrow.Author.Rules.{rules}
 use Rattle.laws.proofs.Arrays.{length-mapped}
 use Rattle.margin.specs.Margins.{no_curve}
 use Rattle.report_block.specs.Report.{curve_bytes}
-use Rattle.report_block.proofs.Records.{RecordsLeft, records-all, records-next, records-none}
+use Rattle.report_block.proofs.Records.{records-all, records-next, records-none}
 use Rattle.report_block.proofs.Report.{length-curve}
 use Rattle.report_block.proofs.put_curves.Goals as goal
 

@@ -1,6 +1,5 @@
 -- `seddolki::seddolki_bootstrap` meets its contract: the answer and what is written are those of the entry.
 use mathlib.Core.Path.{◌≡◌, ap, ◌∙◌}
-use borrow.Author.Rules.{rules}
 use mir.Facts.{to_z-of_z}
 use Rattle.bootstrap.specs.declared.Quote.{Quote}
 use Rattle.bootstrap.specs.Bought.{quote_of}

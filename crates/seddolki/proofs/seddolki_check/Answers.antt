@@ -1,5 +1,4 @@
 -- `seddolki::seddolki_check` meets its contract: the answer is that of the entry.
-use borrow.Author.Rules.{rules}
 use Rattle.seddolki.proofs.seddolki_check.Goals as goal
 
 pub returns : goal.returns

@@ -1,6 +1,5 @@
 -- `seddolki::seddolki_preview` meets its contract: the answer and what is written are those of the entry, and number 0 is its `Accepted`.
 use mathlib.Core.Path.{sym, ap, ◌∙◌}
-use borrow.Author.Rules.{rules}
 use Rattle.seddolki.specs.declared.Answer.{Answer}
 use Rattle.seddolki.proofs.Theorems.{done-accepted}
 use Rattle.seddolki.proofs.seddolki_preview.Goals as goal

@@ -1,5 +1,4 @@
 -- `seddolki::seddolki_statement` meets its contract: the answer and what is written are those of the entry.
-use borrow.Author.Rules.{rules}
 use Rattle.seddolki.proofs.seddolki_statement.Goals as goal
 
 pub returns : goal.returns

@@ -1,6 +1,5 @@
 -- `statement::statement` meets its contract, by those of `check` and `fill_page`.
 use mathlib.Core.Path.{sym, ◌∙◌}
-use borrow.Author.Rules.{rules}
 use Rattle.acceptance.proofs.Laws.{book-accepted}
 use Rattle.statement.proofs.Answers.{refused-statement, accepted-statement}
 use Rattle.statement.proofs.statement.Goals as goal

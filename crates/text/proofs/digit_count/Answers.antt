@@ -1,10 +1,8 @@
 -- `text::digit_count` meets its contract: each turn takes the last digit off.
-use mathlib.Core.Path.{◌≡◌, ap}
-use Prim.Native.Nat.{◌+◌, ◌≤◌}
+use mathlib.Core.Path.{ap}
 use native.Mathlib.Omega.{arith}
 use borrow.Author.Rules.{rules}
 use lib.ListN.{length}
-use Rattle.text.specs.Text.{decimal_of}
 use Rattle.text.proofs.Digits.{decimal-one, decimal-longer, length-decimal}
 use Rattle.text.proofs.digit_count.Goals as goal
 

@@ -1,11 +1,8 @@
 -- `text::digit_count` meets its contract: each turn takes the last digit off.
-use mathlib.Core.Path.{◌≡◌, ap}
+use mathlib.Core.Path.{◌≡◌}
 use Prim.Native.Nat.{◌+◌, ◌≤◌}
-use native.Mathlib.Omega.{arith}
-use borrow.Author.Rules.{rules}
 use lib.ListN.{length}
 use Rattle.text.specs.Text.{decimal_of}
-use Rattle.text.proofs.Digits.{decimal-one, decimal-longer, length-decimal}
 use Rattle.text.proofs.digit_count.Given as goal
 
 abbrev pub invariant-loop-rest : goal.invariant-loop-rest

@@ -1,13 +1,9 @@
 -- `text::put_counted` meets its contract: the digits written, from the last on, and those of what is left are together all.
-use mathlib.Core.Path.{◌≡◌, refl, sym, ap, ◌∙◌}
-use Prim.Native.Nat.{◌+◌, ◌-◌, ◌/◌, ◌%◌, ◌^◌, ◌≤◌, ◌<◌}
-use native.Mathlib.Omega.{arith}
-use borrow.Author.Rules.{rules}
-use lib.ListN.{length, length-set}
+use mathlib.Core.Path.{◌≡◌}
+use Prim.Native.Nat.{◌+◌, ◌≤◌}
+use lib.ListN.{length}
 use Rattle.layout.specs.Bytes.{put}
-use Rattle.layout.proofs.Bytes.{put_byte, last-first}
-use Rattle.text.specs.Text.{digit, decimal_of}
-use Rattle.text.proofs.Digits.{decimal-one, decimal-more, decimal-longer, length-rises}
+use Rattle.text.specs.Text.{decimal_of}
 use Rattle.text.proofs.put_counted.Given as goal
 
 abbrev pub invariant-loop-rest : goal.invariant-loop-rest

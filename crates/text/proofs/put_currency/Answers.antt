@@ -1,6 +1,5 @@
 -- `text::put_currency` meets its contract: a word, and the letters right behind it.
 use native.Mathlib.Omega.{arith}
-use borrow.Author.Rules.{rules}
 use Rattle.text.proofs.Writing.{and_then}
 use Rattle.text.proofs.put_currency.Goals as goal
 

@@ -1,6 +1,5 @@
 -- `text::put_digits` meets its contract.
 use native.Mathlib.Omega.{arith}
-use borrow.Author.Rules.{rules}
 use Rattle.text.proofs.put_digits.Goals as goal
 
 pub put_counted-requires : goal.put_counted-requires

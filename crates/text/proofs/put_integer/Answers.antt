@@ -1,9 +1,6 @@
 -- `text::put_integer` meets its contract.
-use mathlib.Core.Path.{◌≡◌, ◌∙◌}
 use Prim.Native.Nat.{ℕ, ◌≤◌}
 use native.Mathlib.Omega.{arith}
-use borrow.Author.Rules.{rules}
-use lib.IntN.{nat_abs}
 use lib.ListN.{length, length-set}
 use Rattle.layout.proofs.Signed.{code_read, natural-of}
 use Rattle.text.specs.Text.{decimal_of}

@@ -1,6 +1,5 @@
 -- `text::put_letters` meets its contract, currency by currency.
 use native.Mathlib.Omega.{arith}
-use borrow.Author.Rules.{rules}
 use borrow.Author.Tests.{eq-eqb, ne_eqb}
 use Rattle.text.specs.Text.{ascii, letters}
 use Rattle.text.proofs.put_letters.Goals as goal

@@ -1,6 +1,5 @@
 -- `text::put_number` meets its contract: a word, and the digits right behind it.
 use native.Mathlib.Omega.{arith}
-use borrow.Author.Rules.{rules}
 use Rattle.text.proofs.Digits.{length-decimal}
 use Rattle.text.proofs.Writing.{and_then}
 use Rattle.text.proofs.put_number.Goals as goal

@@ -1,5 +1,4 @@
 -- `bond::rate::breaks_rate_range` meets its contract.
-use borrow.Author.Rules.{rules}
 use Rattle.bond.specs.Value.{breaks_rate_range}
 use Rattle.bond.proofs.rate.breaks_rate_range.Goals as goal
 

@@ -1,10 +1,7 @@
 -- `bond::rate::rate_for` meets its contract.
-use Prim.Native.Nat.{◌-◌}
 use native.Mathlib.Omega.{arith}
 use borrow.Author.Rules.{rules}
-use Rattle.curve.specs.Rates.{nodes_of}
-use Rattle.legs.specs.Runs.{leg_flows}
-use Rattle.bond.proofs.Halves.{Left, left-all, left-low, left-high, left_one}
+use Rattle.bond.proofs.Halves.{left-all, left-low, left-high, left_one}
 use Rattle.bond.proofs.rate.rate_for.Goals as goal
 
 pub loop-low-init : goal.loop-low-init

@@ -1,10 +1,8 @@
 -- `bond::rate::rate_for` meets its contract.
 use Prim.Native.Nat.{◌-◌}
-use native.Mathlib.Omega.{arith}
-use borrow.Author.Rules.{rules}
 use Rattle.curve.specs.Rates.{nodes_of}
 use Rattle.legs.specs.Runs.{leg_flows}
-use Rattle.bond.proofs.Halves.{Left, left-all, left-low, left-high, left_one}
+use Rattle.bond.proofs.Halves.{Left}
 use Rattle.bond.proofs.rate.rate_for.Given as goal
 
 abbrev pub invariant-loop-low : goal.invariant-loop-low

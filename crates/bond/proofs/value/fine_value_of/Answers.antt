@@ -1,5 +1,4 @@
 -- `bond::value::fine_value_of` meets its contract.
-use borrow.Author.Rules.{rules}
 use Rattle.curve.proofs.Rates.{curve-rate-limit}
 use Rattle.bond.proofs.value.fine_value_of.Goals as goal
 

@@ -1,7 +1,5 @@
 -- `bond::value::payment` meets its contract.
-use mathlib.Core.Logic.{⊎_elim}
 use native.Mathlib.Omega.{arith}
-use borrow.Author.Rules.{rules}
 use borrow.Author.Tests.{eq-eqb, ne_eqb}
 use Rattle.bond.proofs.Values.{payment-day-most}
 use Rattle.bond.proofs.value.payment.Goals as goal

@@ -1,7 +1,6 @@
 -- `bond::value::payments_up_to` meets its contract.
-use Prim.Native.Nat.{◌-◌}
 use borrow.Author.Rules.{rules}
-use Rattle.bond.proofs.Reach.{Walked, walked_none, walked_next, reached-here, reached-all}
+use Rattle.bond.proofs.Reach.{walked_none, walked_next, reached-here, reached-all}
 use Rattle.bond.proofs.value.payments_up_to.Goals as goal
 
 pub returns-then-day-f : goal.returns-then-day-f

@@ -1,7 +1,6 @@
 -- `bond::value::payments_up_to` meets its contract.
 use Prim.Native.Nat.{◌-◌}
-use borrow.Author.Rules.{rules}
-use Rattle.bond.proofs.Reach.{Walked, walked_none, walked_next, reached-here, reached-all}
+use Rattle.bond.proofs.Reach.{Walked}
 use Rattle.bond.proofs.value.payments_up_to.Given as goal
 
 abbrev pub invariant-loop-k : goal.invariant-loop-k

@@ -1,14 +1,10 @@
 -- `bond::value::value_between` meets its contract: what is held, with the value of the payments left, is the value of all.
 use mathlib.Core.Path.{◌≡◌}
-use Prim.Native.Nat.{◌+◌, ◌-◌, ◌*◌, ◌≤◌}
-use native.Mathlib.Omega.{arith}
-use borrow.Author.Rules.{rules}
+use Prim.Native.Nat.{◌+◌, ◌-◌, ◌≤◌}
 use Rattle.laws.specs.Walk.{table}
-use Rattle.decimal.specs.Product.{unit}
 use Rattle.curve.specs.Rates.{nodes_of}
 use Rattle.legs.specs.Runs.{flow_of}
 use Rattle.bond.specs.Value.{bond_value}
-use Rattle.bond.proofs.Values.{value-two, value-one, value_none, value-most, payment-kept}
 use Rattle.bond.proofs.value.value_between.Given as goal
 
 abbrev pub invariant-loop-k : goal.invariant-loop-k

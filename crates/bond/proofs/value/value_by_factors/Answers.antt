@@ -1,7 +1,6 @@
 -- `bond::value::value_by_factors` meets its contract.
 use mathlib.Core.Path.{◌≡◌}
 use native.Mathlib.Omega.{arith}
-use borrow.Author.Rules.{rules}
 use Rattle.decimal.specs.Product.{unit}
 use Rattle.discount.specs.Flows.{flow_value}
 use Rattle.curve.specs.Rates.{nodes_of, rate_at}

@@ -1,5 +1,4 @@
 -- `bond::value::value_of` meets its contract.
-use borrow.Author.Rules.{rules}
 use Rattle.bond.proofs.Values.{rate-most}
 use Rattle.bond.proofs.value.value_of.Goals as goal
 

@@ -2,7 +2,6 @@
 use mathlib.Core.Path.{◌≡◌}
 use mathlib.Core.Bool.{true}
 use native.Mathlib.Omega.{arith}
-use borrow.Author.Rules.{rules}
 use Rattle.laws.proofs.Bools.{both}
 use Rattle.decimal.specs.Product.{unit}
 use Rattle.discount.specs.Flows.{flow_value}

@@ -1,7 +1,6 @@
 -- `book::blocks::block_verdict` meets its contract.
 use mathlib.Core.Path.{◌≡◌, ap, ◌∙◌}
 use native.Mathlib.Omega.{arith}
-use borrow.Author.Rules.{rules}
 use Rattle.record.specs.declared.Curves.{Curves}
 use Rattle.book.specs.Parts.{curve_count}
 use Rattle.book.proofs.Places.{curves-count}

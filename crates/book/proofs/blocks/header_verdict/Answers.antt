@@ -1,6 +1,5 @@
 -- `book::blocks::header_verdict` meets its contract.
 use mathlib.Core.Path.{refl, ◌∙◌}
-use borrow.Author.Rules.{rules}
 use Rattle.ground.specs.declared.Ground.TheVariants.{Check, Place, Header}
 use Rattle.ground.specs.declared.Verdict.TheVariants.{Accepted}
 use Rattle.ground.proofs.Verdicts.{in-turn, also}

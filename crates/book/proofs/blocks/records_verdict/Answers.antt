@@ -1,12 +1,9 @@
 -- `book::blocks::records_verdict` meets its contract.
 use mathlib.Core.Path.{◌≡◌, sym, ◌∙◌}
-use Prim.Native.Nat.{ℕ, ◌≤◌, ◌-◌}
 use native.Mathlib.Nat.{sub-zero}
 use native.Mathlib.Omega.{arith}
-use borrow.Author.Rules.{rules}
-use borrow.Author.Tests.{not-true, not-false}
 use Rattle.book.specs.Parts.{record_in}
-use Rattle.book.specs.Verdict.{bytes_verdict, first_of, records_verdict}
+use Rattle.book.specs.Verdict.{bytes_verdict, records_verdict}
 use Rattle.book.proofs.First.{first-passed, first-stopped, first-end}
 use Rattle.book.proofs.blocks.records_verdict.Goals as goal
 use Rattle.book.proofs.blocks.records_verdict.Goals.{After-is_accepted, In-loop-i}

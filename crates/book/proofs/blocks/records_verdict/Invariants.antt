@@ -1,13 +1,8 @@
 -- `book::blocks::records_verdict` meets its contract.
-use mathlib.Core.Path.{◌≡◌, sym, ◌∙◌}
+use mathlib.Core.Path.{◌≡◌}
 use Prim.Native.Nat.{ℕ, ◌≤◌, ◌-◌}
-use native.Mathlib.Nat.{sub-zero}
-use native.Mathlib.Omega.{arith}
-use borrow.Author.Rules.{rules}
-use borrow.Author.Tests.{not-true, not-false}
 use Rattle.book.specs.Parts.{record_in}
 use Rattle.book.specs.Verdict.{bytes_verdict, first_of, records_verdict}
-use Rattle.book.proofs.First.{first-passed, first-stopped, first-end}
 use Rattle.book.proofs.blocks.records_verdict.Given as goal
 
 abbrev pub invariant-loop-i : goal.invariant-loop-i

@@ -1,7 +1,6 @@
 -- `book::blocks::trades_verdict` meets its contract.
 use mathlib.Core.Path.{◌≡◌, refl, sym, ◌∙◌}
 use borrow.Author.Rules.{rules}
-use borrow.Author.Tests.{not-true, not-false}
 use Rattle.ground.specs.declared.Ground.TheVariants.{Check, Place, TradeBlock}
 use Rattle.ground.specs.declared.Verdict.TheVariants.{Accepted}
 use Rattle.ground.specs.Verdicts.{first_broken}

@@ -1,7 +1,6 @@
 -- `book::parts::block_at` meets its contract.
 use native.Mathlib.Nat.{add-sub_cancel_left}
 use native.Mathlib.Omega.{arith}
-use borrow.Author.Rules.{rules}
 use lib.ListN.{length-take, length-drop}
 use Rattle.book.proofs.parts.block_at.Goals as goal
 

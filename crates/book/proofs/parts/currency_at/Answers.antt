@@ -1,5 +1,4 @@
 -- `book::parts::currency_at` meets its contract.
-use borrow.Author.Rules.{rules}
 use Rattle.book.proofs.Places.{curve-block, no-curve-block}
 use Rattle.book.proofs.parts.currency_at.Goals as goal
 

@@ -1,17 +1,10 @@
 -- `book::parts::curves_of` meets its contract.
-use mathlib.Core.Path.{◌≡◌, refl, sym, ap, ◌∙◌}
-use mathlib.Core.List.{List, []}
+use mathlib.Core.Path.{◌≡◌}
+use mathlib.Core.List.{[]}
 use Prim.Native.Nat.{ℕ, ◌≤◌, ◌<◌, ◌-◌}
-use native.Mathlib.Omega.{arith}
-use borrow.Author.Rules.{rules}
-use borrow.Author.Count.{below_more}
-use lib.ListN.{length, get_or, length-set}
-use lib.Seq.{get_or-set_same, get_or-set_other, ext_get_or}
-use Rattle.laws.specs.Walk.{table}
-use Rattle.laws.proofs.Walk.{length-table, get_d-table}
+use lib.ListN.{length, get_or}
 use Rattle.curve_block.specs.Parts.{currency_of}
-use Rattle.book.specs.Parts.{curve_blocks, curves_in}
-use Rattle.book.proofs.Places.{length-curve_blocks}
+use Rattle.book.specs.Parts.{curve_blocks}
 use Rattle.book.proofs.parts.curves_of.Given as goal
 
 abbrev pub invariant-loop-k : goal.invariant-loop-k

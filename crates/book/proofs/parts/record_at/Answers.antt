@@ -1,6 +1,5 @@
 -- `book::parts::record_at` meets its contract.
 use mathlib.Core.Path.{◌∙◌}
-use borrow.Author.Rules.{rules}
 use Rattle.book.specs.Parts.{record_at}
 use Rattle.layout.proofs.Bytes.{put_whole}
 use Rattle.book.proofs.parts.record_at.Goals as goal

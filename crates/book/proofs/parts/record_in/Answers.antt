@@ -1,7 +1,6 @@
 -- `book::parts::record_in` meets its contract.
 use native.Mathlib.Nat.{add-sub_cancel_left}
 use native.Mathlib.Omega.{arith}
-use borrow.Author.Rules.{rules}
 use lib.ListN.{length-take, length-drop}
 use Rattle.book.proofs.parts.record_in.Goals as goal
 

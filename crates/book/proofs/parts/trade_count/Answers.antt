@@ -1,5 +1,4 @@
 -- `book::parts::trade_count` meets its contract.
-use borrow.Author.Rules.{rules}
 use borrow.Author.Tests.{eq-eqb, ne_eqb}
 use Rattle.book.specs.Parts.{trade_count}
 use Rattle.book.proofs.parts.trade_count.Goals as goal

@@ -1,5 +1,4 @@
 -- `book::rules::breaks_header` meets its contract.
-use borrow.Author.Rules.{rules}
 use Rattle.book.specs.Rules.{breaks_header}
 use Rattle.book.proofs.rules.breaks_header.Goals as goal
 

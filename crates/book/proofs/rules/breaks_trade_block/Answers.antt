@@ -1,8 +1,6 @@
 -- `book::rules::breaks_trade_block` meets its contract.
 use mathlib.Core.Path.{sym, ◌∙◌}
 use native.Mathlib.Omega.{arith}
-use borrow.Author.Rules.{rules}
-use borrow.Author.Tests.{not-true, not-false}
 use Rattle.book.specs.Rules.{breaks_trade_block}
 use Rattle.book.proofs.Sound.{Counted, counted}
 use Rattle.book.proofs.rules.breaks_trade_block.Goals as goal

@@ -1,6 +1,5 @@
 -- `bootstrap::bought::payments_of` meets its contract.
 use mathlib.Core.Path.{◌≡◌, ◌∙◌, ap}
-use borrow.Author.Rules.{rules}
 use Rattle.trade.specs.declared.Trade.{Trade}
 use Rattle.legs.specs.declared.Legs.{Legs}
 use Rattle.flows.specs.Capped.{capped_legs}

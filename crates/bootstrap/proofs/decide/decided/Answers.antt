@@ -1,6 +1,5 @@
 -- `bootstrap::decide::decided` meets its contract.
 use mathlib.Core.Path.{sym, ◌∙◌}
-use borrow.Author.Rules.{rules}
 use Rattle.acceptance.proofs.Laws.{book-accepted}
 use Rattle.bootstrap.specs.Refusals.{bootstrap_verdict}
 use Rattle.bootstrap.proofs.decide.decided.Goals as goal

@@ -1,7 +1,6 @@
 -- `bootstrap::decide::extended` meets its contract.
 use mathlib.Core.Path.{◌≡◌, sym, ◌∙◌}
 use Prim.Native.Nat.{ℕ}
-use borrow.Author.Rules.{rules}
 use lib.ListN.{length-replicate}
 use Rattle.bootstrap.specs.Refusals.{open_node, breaks_curve_end, extension_verdict}
 use Rattle.bootstrap.specs.Bootstrap.{new_node}

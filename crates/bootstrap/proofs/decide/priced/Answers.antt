@@ -1,11 +1,7 @@
 -- `bootstrap::decide::priced` meets its contract.
 use mathlib.Core.Path.{◌≡◌, sym, ap, ◌∙◌}
-use borrow.Author.Rules.{rules}
-use Rattle.curve.specs.declared.Node.{Node}
-use Rattle.curve.specs.declared.Curve.{Curve}
 use Rattle.curve.specs.Lengthen.{at_rate}
 use Rattle.curve.specs.Rates.{nodes_of}
-use Rattle.legs.specs.declared.Leg.{Leg}
 use Rattle.legs.specs.Runs.{leg_flows}
 use Rattle.bond.specs.Value.{breaks_rate_range, rate_for}
 use Rattle.bootstrap.specs.declared.decide.Decision.TheVariants.{Add}

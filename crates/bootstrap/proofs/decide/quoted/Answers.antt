@@ -1,7 +1,6 @@
 -- `bootstrap::decide::quoted` meets its contract.
 use mathlib.Core.Path.{◌≡◌, sym, ◌∙◌}
 use native.Mathlib.Omega.{arith}
-use borrow.Author.Rules.{rules}
 use Rattle.ground.specs.declared.Verdict.TheVariants.{Accepted}
 use Rattle.record.proofs.Limits.{InLimits}
 use Rattle.book.specs.Parts.{curve_count, curves_of}

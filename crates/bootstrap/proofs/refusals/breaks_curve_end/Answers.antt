@@ -1,5 +1,4 @@
 -- `bootstrap::refusals::breaks_curve_end` meets its contract.
-use borrow.Author.Rules.{rules}
 use Rattle.bootstrap.specs.Refusals.{breaks_curve_end}
 use Rattle.bootstrap.proofs.refusals.breaks_curve_end.Goals as goal
 

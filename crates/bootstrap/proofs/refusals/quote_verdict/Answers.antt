@@ -1,6 +1,5 @@
 -- `bootstrap::refusals::quote_verdict` meets its contract.
 use mathlib.Core.Path.{◌≡◌, ◌∙◌}
-use borrow.Author.Rules.{rules}
 use Rattle.ground.specs.declared.Ground.TheVariants.{Node, Amounts}
 use Rattle.ground.proofs.Verdicts.{in-turn, also}
 use Rattle.flows.specs.Verdict.{record_verdict}

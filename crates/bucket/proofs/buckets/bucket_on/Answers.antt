@@ -1,5 +1,4 @@
 -- `bucket::buckets::bucket_on` meets its contract: the day is in its bucket, and the bucket in its segment of days.
-use borrow.Author.Rules.{rules}
 use borrow.Author.Tests.{le-leb, lt-leb, lt-ltb, le-ltb}
 use Prim.Native.Nat.{ℕ, ◌+◌, ◌-◌, ◌*◌, ◌≤◌}
 use native.Mathlib.Nat.{mul-le-mul, div-le_self}

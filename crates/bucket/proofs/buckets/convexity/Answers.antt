@@ -1,5 +1,4 @@
 -- `bucket::buckets::convexity` meets its contract: the products of its numbers fit 64 bits.
-use borrow.Author.Rules.{rules}
 use mathlib.Core.Path.{refl}
 use Prim.Native.Nat.{ℕ, ◌+◌, ◌*◌, ◌/◌, ◌≤◌}
 use native.Mathlib.Nat.{mul-le-mul}

@@ -1,5 +1,4 @@
 -- `bucket::buckets::fitting` meets its contract.
-use borrow.Author.Rules.{rules}
 use borrow.Author.Tests.{eq-eqb, ne_eqb, lt-ltb, le-ltb}
 use Rattle.bucket.specs.Buckets.{fitting}
 use Rattle.bucket.proofs.buckets.fitting.Goals as goal

@@ -1,5 +1,4 @@
 -- `bucket::buckets::last_day_of` meets its contract.
-use borrow.Author.Rules.{rules}
 use native.Mathlib.Omega.{arith}
 use Rattle.bucket.proofs.buckets.last_day_of.Goals as goal
 

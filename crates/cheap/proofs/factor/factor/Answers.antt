@@ -1,6 +1,5 @@
 -- `cheap::factor::factor` meets its contract.
 use mathlib.Core.Path.{ap, ◌∙◌}
-use borrow.Author.Rules.{rules}
 use Rattle.logarithm.proofs.Rows.{exponent-le}
 use Rattle.cheap.specs.Cheap.{cheap_log, cheap_power, cheap_factor}
 use Rattle.cheap.proofs.CheapLogs.{cheap-log-le}

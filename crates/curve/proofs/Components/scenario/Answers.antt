@@ -1,5 +1,4 @@
 -- `curve::Components::scenario` meets its contract.
-use borrow.Author.Rules.{rules}
 use native.Mathlib.Omega.{arith}
 use mathlib.Core.Path.{◌≡◌, sym}
 use Prim.Native.Nat.{◌/◌, ◌%◌}

@@ -1,5 +1,4 @@
 -- `curve::Components::scenario_count` meets its contract.
-use borrow.Author.Rules.{rules}
 use native.Mathlib.Omega.{arith}
 use Rattle.curve.proofs.Scenarios.{two-most, scenarios-most}
 use Rattle.curve.proofs.Components.scenario_count.Goals as goal

@@ -1,6 +1,5 @@
 -- `curve::Curve::lengthened` meets its contract.
 use mathlib.Core.Path.{refl}
-use borrow.Author.Rules.{rules}
 use Rattle.curve.specs.Lengthen.{lengthened_curve}
 use Rattle.curve.proofs.Curve.lengthened.Goals as goal
 

@@ -1,8 +1,7 @@
 -- `curve::Curve::rate_at` meets its contract.
 use borrow.Author.Rules.{rules}
 use mathlib.Core.Path.{sym, ◌∙◌}
-use Prim.Native.Nat.{◌-◌}
-use Rattle.curve.proofs.Search.{Passed, before-all, passed_first, passed-between, passed-interpolated, passed-next, passed-all}
+use Rattle.curve.proofs.Search.{before-all, passed_first, passed-between, passed-interpolated, passed-next, passed-all}
 use Rattle.curve.proofs.Curve.rate_at.Goals as goal
 
 pub returns-then-t-a : goal.returns-then-t-a

@@ -1,8 +1,6 @@
 -- `curve::Curve::rate_at` meets its contract.
-use borrow.Author.Rules.{rules}
-use mathlib.Core.Path.{sym, ◌∙◌}
 use Prim.Native.Nat.{◌-◌}
-use Rattle.curve.proofs.Search.{Passed, before-all, passed_first, passed-between, passed-interpolated, passed-next, passed-all}
+use Rattle.curve.proofs.Search.{Passed}
 use Rattle.curve.proofs.Curve.rate_at.Given as goal
 
 abbrev pub invariant-loop-i : goal.invariant-loop-i

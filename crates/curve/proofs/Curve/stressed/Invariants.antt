@@ -1,7 +1,6 @@
 -- `curve::Curve::stressed` meets its contract.
-use borrow.Author.Rules.{rules}
 use Prim.Native.Nat.{◌-◌}
-use Rattle.curve.proofs.Stress.{Partly, partly_none, partly-limits, partly-next, partly-all}
+use Rattle.curve.proofs.Stress.{Partly}
 use Rattle.curve.proofs.Curve.stressed.Given as goal
 
 abbrev pub invariant-loop-i : goal.invariant-loop-i

@@ -1,7 +1,5 @@
 -- `curve_block::rules::breaks_curve` meets its contract.
 use mathlib.Core.Path.{sym, ◌∙◌}
-use borrow.Author.Tests.{not-true, not-false}
-use borrow.Author.Rules.{rules}
 use Rattle.curve_block.specs.Rules.{breaks_curve}
 use Rattle.curve_block.proofs.Accepted.{count_most}
 use Rattle.curve_block.proofs.rules.breaks_curve.Goals as goal

@@ -1,13 +1,11 @@
 -- `curve_block::rules::breaks_node` meets its contract.
 use mathlib.Core.Path.{◌≡◌, refl, sym, ◌∙◌}
-use mathlib.Core.Bool.{Bool, not}
+use mathlib.Core.Bool.{Bool}
 use mathlib.Core.List.{List}
-use Prim.Native.Nat.{ℕ, ◌+◌, ◌≤◌, ◌-◌}
+use Prim.Native.Nat.{ℕ, ◌+◌}
 use native.Mathlib.Nat.{sub-zero}
 use native.Mathlib.Numerals.{add-one}
 use borrow.Author.Rules.{rules}
-use borrow.Author.Tests.{not-true, not-false}
-use Rattle.laws.specs.Every.{every}
 use Rattle.laws.proofs.Every.{every-passed, every-failed, every-end}
 use Rattle.curve.specs.declared.Node.{Node}
 use Rattle.curve_block.specs.Parts.{node_at}

@@ -1,17 +1,9 @@
 -- `curve_block::rules::breaks_node` meets its contract.
-use mathlib.Core.Path.{◌≡◌, refl, sym, ◌∙◌}
-use mathlib.Core.Bool.{Bool, not}
-use mathlib.Core.List.{List}
-use Prim.Native.Nat.{ℕ, ◌+◌, ◌≤◌, ◌-◌}
-use native.Mathlib.Nat.{sub-zero}
-use native.Mathlib.Numerals.{add-one}
-use borrow.Author.Rules.{rules}
-use borrow.Author.Tests.{not-true, not-false}
+use mathlib.Core.Path.{◌≡◌}
+use mathlib.Core.Bool.{not}
+use Prim.Native.Nat.{◌≤◌, ◌-◌}
 use Rattle.laws.specs.Every.{every}
-use Rattle.laws.proofs.Every.{every-passed, every-failed, every-end}
-use Rattle.curve.specs.declared.Node.{Node}
-use Rattle.curve_block.specs.Parts.{node_at}
-use Rattle.curve_block.specs.Rules.{node_sound, day_before, sound_at, breaks_node}
+use Rattle.curve_block.specs.Rules.{day_before, sound_at, breaks_node}
 use Rattle.curve_block.proofs.rules.breaks_node.Given as goal
 
 abbrev pub invariant-loop-i : goal.invariant-loop-i

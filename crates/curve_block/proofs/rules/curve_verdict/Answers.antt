@@ -1,7 +1,5 @@
 -- `curve_block::rules::curve_verdict` meets its contract.
 use mathlib.Core.Path.{◌≡◌, refl, sym, ◌∙◌}
-use borrow.Author.Rules.{rules}
-use borrow.Author.Tests.{not-true, not-false}
 use lib.ListN.{take, drop}
 use Rattle.ground.specs.declared.Verdict.TheVariants.{Accepted}
 use Rattle.ground.specs.declared.Ground.TheVariants.{Check, Place, Curve, Node}

@@ -1,10 +1,9 @@
 -- `curve_block::rules::gaps_zero` meets its contract.
 use mathlib.Core.Path.{◌≡◌, sym, ◌∙◌}
-use Prim.Native.Nat.{◌+◌, ◌≤◌, ◌-◌}
+use Prim.Native.Nat.{◌+◌}
 use native.Mathlib.Nat.{sub-zero}
 use borrow.Author.Rules.{rules}
 use borrow.Author.Tests.{eq-eqb, ne_eqb}
-use Rattle.laws.specs.Every.{every}
 use Rattle.laws.proofs.Every.{every-passed, every-failed, every-end}
 use Rattle.layout.specs.Field.{u16_at}
 use Rattle.curve_block.specs.Parts.{node_place}

@@ -1,5 +1,4 @@
 -- `curve_block::rules::numbers_sound` meets its contract.
-use borrow.Author.Rules.{rules}
 use Rattle.curve_block.specs.Rules.{numbers_sound}
 use Rattle.curve_block.proofs.rules.numbers_sound.Goals as goal
 

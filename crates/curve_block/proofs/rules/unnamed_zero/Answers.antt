@@ -1,5 +1,4 @@
 -- `curve_block::rules::unnamed_zero` meets its contract.
-use borrow.Author.Rules.{rules}
 use Rattle.curve_block.specs.Rules.{unnamed_zero}
 use Rattle.curve_block.proofs.rules.unnamed_zero.Goals as goal
 

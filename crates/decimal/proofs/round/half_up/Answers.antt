@@ -3,7 +3,6 @@ use mathlib.Core.Path.{◌≡◌, sym, ap, ◌∙◌}
 use Prim.Native.Nat.{ℕ, ◌+◌, ◌/◌, ◌%◌, ◌<◌}
 use native.Mathlib.Nat.{mod-lt, div-add-mod', mul-le-mul_left}
 use native.Mathlib.Omega.{arith}
-use borrow.Author.Rules.{rules}
 use Rattle.decimal.specs.HalfUp.{half_up}
 use Rattle.decimal.proofs.HalfUp.{half-up-multiple, half-up-rest, half-down-rest}
 use Rattle.decimal.proofs.round.half_up.Goals as goal

@@ -1,7 +1,6 @@
 -- `discount::daily::day_power` meets its contract, by those of `run` and `power_from_guess`.
 use Prim.Native.Nat.{zero-le}
 use native.Mathlib.Omega.{arith}
-use borrow.Author.Rules.{rules}
 use Rattle.decimal.specs.Product.{unit}
 use Rattle.discount.specs.Discount.{year}
 use Rattle.discount.proofs.Compounding.{powers-none}

@@ -2,7 +2,6 @@
 use mathlib.Core.Path.{◌≡◌, ap, ◌∙◌}
 use Prim.Native.Nat.{ℕ}
 use native.Mathlib.Omega.{arith}
-use borrow.Author.Rules.{rules}
 use Rattle.discount.specs.Discount.{power, root}
 use Rattle.discount.proofs.Compounding.{power_le}
 use Rattle.discount.proofs.Roots.{root-le}

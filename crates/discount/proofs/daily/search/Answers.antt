@@ -1,11 +1,8 @@
 -- `discount::daily::search` meets its contract. The invariant: q is below one. The measure is how far q stands from the root, to which every
 -- turn comes one nearer.
-use Prim.Native.Nat.{◌<◌, zero-le}
+use Prim.Native.Nat.{zero-le}
 use native.Mathlib.Omega.{arith}
-use borrow.Author.Rules.{rules}
-use Rattle.decimal.specs.Product.{unit}
-use Rattle.discount.specs.Discount.{year, root}
-use Rattle.discount.specs.Powers.{gap}
+use Rattle.discount.specs.Discount.{year}
 use Rattle.discount.proofs.Compounding.{powers-none}
 use Rattle.discount.proofs.daily.search.Goals as goal
 

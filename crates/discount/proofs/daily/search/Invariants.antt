@@ -1,12 +1,9 @@
 -- `discount::daily::search` meets its contract. The invariant: q is below one. The measure is how far q stands from the root, to which every
 -- turn comes one nearer.
-use Prim.Native.Nat.{◌<◌, zero-le}
-use native.Mathlib.Omega.{arith}
-use borrow.Author.Rules.{rules}
+use Prim.Native.Nat.{◌<◌}
 use Rattle.decimal.specs.Product.{unit}
-use Rattle.discount.specs.Discount.{year, root}
+use Rattle.discount.specs.Discount.{root}
 use Rattle.discount.specs.Powers.{gap}
-use Rattle.discount.proofs.Compounding.{powers-none}
 use Rattle.discount.proofs.daily.search.Given as goal
 
 abbrev pub invariant-loop-q : goal.invariant-loop-q

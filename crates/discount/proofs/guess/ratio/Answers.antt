@@ -2,7 +2,6 @@
 use Prim.Native.Nat.{◌*◌, ◌/◌, ◌%◌, ◌≤◌}
 use native.Mathlib.Nat.{mod-lt, div-le_self, div-le_of_le-mul}
 use native.Mathlib.Omega.{arith}
-use borrow.Author.Rules.{rules}
 use Rattle.discount.proofs.guess.ratio.Goals as goal
 use Rattle.discount.proofs.guess.ratio.Goals.{Start}
 

@@ -1,8 +1,5 @@
 -- `discount::guess::series` meets its contract. The invariant: s is at most one, and i at most 9. The measure is i.
-use Prim.Native.Nat.{◌+◌, ◌*◌, ◌≤◌}
-use native.Mathlib.Nat.{div-le_self}
-use native.Mathlib.Omega.{arith}
-use borrow.Author.Rules.{rules}
+use Prim.Native.Nat.{◌≤◌}
 use Rattle.discount.proofs.guess.series.Given as goal
 
 abbrev pub invariant-loop-i : goal.invariant-loop-i

@@ -1,7 +1,5 @@
 -- `discount::pair::factors` meets its contract, by those of `day_powers` and `compound`.
 use native.Mathlib.Omega.{arith}
-use borrow.Author.Rules.{rules}
-use borrow.Author.Tests.{eqb-false}
 use Rattle.decimal.specs.Product.{unit}
 use Rattle.discount.specs.Discount.{year}
 use Rattle.discount.proofs.Factors.{factor-is}

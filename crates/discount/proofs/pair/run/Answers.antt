@@ -1,9 +1,6 @@
 -- `discount::pair::run` meets its contract. The invariant: the chains stand at the powers by i. The measure is what is left of k.
 use mathlib.Core.Path.{◌≡◌}
-use Prim.Native.Nat.{◌-◌, ◌≤◌}
 use native.Mathlib.Omega.{arith}
-use borrow.Author.Rules.{rules}
-use Rattle.discount.specs.Powers.{PowersBy}
 use Rattle.discount.proofs.Compounding.{powers-le, powers-next}
 use Rattle.discount.proofs.pair.run.Goals as goal
 

@@ -1,7 +1,6 @@
 -- `discount::value::factor` meets its contract, by those of `day_power` and `compound`.
 use mathlib.Core.Path.{sym, ◌∙◌}
 use native.Mathlib.Omega.{arith}
-use borrow.Author.Rules.{rules}
 use Rattle.decimal.specs.Product.{unit}
 use Rattle.discount.specs.Discount.{year}
 use Rattle.discount.proofs.Factors.{factor-one, factor-is}

@@ -1,6 +1,5 @@
 -- `discount::value::present_value` meets its contract, by those of `factor` and `discounted`.
 use mathlib.Core.Path.{◌∙◌, ap}
-use borrow.Author.Rules.{rules}
 use Rattle.decimal.specs.HalfUp.{discounted}
 use Rattle.discount.specs.Discount.{present_value}
 use Rattle.discount.proofs.value.present_value.Goals as goal

@@ -1,7 +1,5 @@
 -- `edit::refusals::append_verdict` meets its contract.
 use mathlib.Core.Path.{sym, ◌∙◌}
-use borrow.Author.Rules.{rules}
-use borrow.Author.Tests.{not-true, not-false}
 use Rattle.ground.proofs.Verdicts.{is-accepted, stops}
 use Rattle.acceptance.proofs.Laws.{book-accepted}
 use Rattle.edit.specs.Refusals.{append_verdict}

@@ -1,7 +1,6 @@
 -- `edit::refusals::breaks_book_space` meets its contract.
 use mathlib.Core.Path.{refl}
 use Rattle.edit.specs.Refusals.{breaks_book_space}
-use borrow.Author.Rules.{rules}
 use Rattle.edit.proofs.refusals.breaks_book_space.Goals as goal
 
 pub returns : goal.returns

@@ -1,6 +1,5 @@
 -- `edit::refusals::breaks_position` meets its contract.
 use Rattle.edit.specs.Refusals.{breaks_position}
-use borrow.Author.Rules.{rules}
 use Rattle.edit.proofs.refusals.breaks_position.Goals as goal
 
 pub returns : goal.returns

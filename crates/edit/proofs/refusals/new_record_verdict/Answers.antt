@@ -1,6 +1,5 @@
 -- `edit::refusals::new_record_verdict` meets its contract.
 use native.Mathlib.Omega.{arith}
-use borrow.Author.Rules.{rules}
 use Rattle.ground.specs.declared.Ground.TheVariants.{BookSpace}
 use Rattle.ground.proofs.Verdicts.{also}
 use Rattle.book.proofs.Accepted.{sound}

@@ -1,8 +1,6 @@
 -- `edit::refusals::position_verdict` meets its contract.
 use mathlib.Core.Path.{sym, ◌∙◌}
 use native.Mathlib.Omega.{arith}
-use borrow.Author.Rules.{rules}
-use borrow.Author.Tests.{not-true, not-false}
 use Rattle.ground.specs.declared.Ground.TheVariants.{Position}
 use Rattle.ground.proofs.Verdicts.{is-accepted, stops, also}
 use Rattle.book.proofs.Accepted.{sound}

@@ -1,11 +1,8 @@
 -- `estimate::days::list_days` meets its contract: what is listed and what is left are together all.
-use borrow.Author.Rules.{rules}
-use mathlib.Core.Logic.{⊎_elim}
-use Prim.Native.Nat.{◌-◌}
 use native.Mathlib.Omega.{arith}
 use lib.IntN.{pos}
 use lib.ListN.{get_or}
-use Rattle.estimate.proofs.Listing.{none-tested, some-tested, Listing, listing_none, listing-more, listing-kept, listing-past, listing-all}
+use Rattle.estimate.proofs.Listing.{none-tested, some-tested, listing_none, listing-more, listing-kept, listing-past, listing-all}
 use Rattle.estimate.proofs.days.list_days.Goals as goal
 use Rattle.estimate.proofs.days.list_days.Goals.{then-nets-day-ne0, else-nets-day-ne0}
 
@@ -20,7 +17,7 @@ loop-day-preserved c =
     let more = listing-more _ _ _ _ _ c.loop-day.invariant k c.requires.0 in
     let kept = listing-kept _ _ _ _ _ c.loop-day.invariant k c.requires.0 in
     elim c.if-nets-day-ne0.branch [
-      then-nets-day-ne0 w ↦ rw w.count-is (listing-past _ _ _ _ _ (more (some-tested x w.if-nets-day-ne0.true)) _ c.pass_empty-day-in-loop-day.ensures)
+      | then-nets-day-ne0 w ↦ rw w.count-is (listing-past _ _ _ _ _ (more (some-tested x w.if-nets-day-ne0.true)) _ c.pass_empty-day-in-loop-day.ensures)
       | else-nets-day-ne0 w ↦ rw w.count-is (listing-past _ _ _ _ _ (kept (none-tested x c.t11-1.given w.if-nets-day-ne0.false)) _ c.pass_empty-day-in-loop-day.ensures)
     ]
 

@@ -1,11 +1,6 @@
 -- `estimate::days::list_days` meets its contract: what is listed and what is left are together all.
-use borrow.Author.Rules.{rules}
-use mathlib.Core.Logic.{⊎_elim}
 use Prim.Native.Nat.{◌-◌}
-use native.Mathlib.Omega.{arith}
-use lib.IntN.{pos}
-use lib.ListN.{get_or}
-use Rattle.estimate.proofs.Listing.{none-tested, some-tested, Listing, listing_none, listing-more, listing-kept, listing-past, listing-all}
+use Rattle.estimate.proofs.Listing.{Listing}
 use Rattle.estimate.proofs.days.list_days.Given as goal
 
 abbrev pub invariant-loop-day : goal.invariant-loop-day

@@ -1,8 +1,6 @@
 -- `estimate::ends::days_before` meets its contract: the days passed come before the day.
-use borrow.Author.Rules.{rules}
 use Prim.Native.Nat.{◌-◌}
-use native.Mathlib.Omega.{arith}
-use Rattle.estimate.proofs.Ending.{Earlier, earlier-none, earlier-next, earlier-stop, earlier-all}
+use Rattle.estimate.proofs.Ending.{Earlier}
 use Rattle.estimate.proofs.ends.days_before.Given as goal
 
 abbrev pub invariant-loop-i : goal.invariant-loop-i

@@ -1,8 +1,6 @@
 -- `estimate::ends::fill_ends` meets its contract: the nodes passed have their places.
-use borrow.Author.Rules.{rules}
-use Prim.Native.Nat.{◌-◌}
 use native.Mathlib.Omega.{arith}
-use Rattle.estimate.proofs.Ending.{Ending, ending-none, ending-next, ending-all}
+use Rattle.estimate.proofs.Ending.{ending-none, ending-next, ending-all}
 use Rattle.estimate.proofs.ends.fill_ends.Goals as goal
 use Rattle.estimate.proofs.ends.fill_ends.Goals.{At-loop-i, Start}
 

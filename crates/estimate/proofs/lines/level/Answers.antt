@@ -1,5 +1,4 @@
 -- `estimate::lines::level` meets its contract.
-use borrow.Author.Rules.{rules}
 use native.Mathlib.Omega.{arith}
 use Prim.Native.Nat.{◌*◌}
 use Rattle.laws.proofs.Signed.{cast_is}

@@ -1,5 +1,4 @@
 -- `estimate::lines::line_from` meets its contract.
-use borrow.Author.Rules.{rules}
 use Prim.Native.Nat.{ℕ, ◌+◌, ◌*◌, ◌≤◌}
 use native.Mathlib.Omega.{arith}
 use Rattle.laws.proofs.Signed.{fits, read_is, back}

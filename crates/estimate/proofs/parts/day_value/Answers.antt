@@ -1,5 +1,4 @@
 -- `estimate::parts::day_value` meets its contract.
-use borrow.Author.Rules.{rules}
 use native.Mathlib.Omega.{arith}
 use Rattle.laws.proofs.Signed.{read_is, back}
 use Rattle.cheap.specs.Cheap.{whole}

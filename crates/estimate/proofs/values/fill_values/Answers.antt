@@ -1,12 +1,11 @@
 -- `estimate::values::fill_values` meets its contract: the scenarios passed have their values.
-use borrow.Author.Rules.{rules}
-use Prim.Native.Nat.{ℕ, ◌-◌, ◌<◌}
+use Prim.Native.Nat.{ℕ, ◌<◌}
 use native.Mathlib.Omega.{arith}
 use lib.ListN.{length-replicate}
 use Rattle.curve.specs.Scenarios.{scenario_count}
 use Rattle.curve.proofs.Scenarios.{scenarios-most, scenario-limits}
 use Rattle.estimate.proofs.ListedDays.{rising-listed}
-use Rattle.estimate.proofs.ScenarioValues.{scenario-read, Filled, filled_none, filled_next, filled-all}
+use Rattle.estimate.proofs.ScenarioValues.{scenario-read, filled_none, filled_next, filled-all}
 use Rattle.estimate.proofs.values.fill_values.Goals as goal
 use Rattle.estimate.proofs.values.fill_values.Goals.{After-ends-1, At-loop-s, In-loop-s, Start}
 

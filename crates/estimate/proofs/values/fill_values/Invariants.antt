@@ -1,12 +1,6 @@
 -- `estimate::values::fill_values` meets its contract: the scenarios passed have their values.
-use borrow.Author.Rules.{rules}
-use Prim.Native.Nat.{ℕ, ◌-◌, ◌<◌}
-use native.Mathlib.Omega.{arith}
-use lib.ListN.{length-replicate}
-use Rattle.curve.specs.Scenarios.{scenario_count}
-use Rattle.curve.proofs.Scenarios.{scenarios-most, scenario-limits}
-use Rattle.estimate.proofs.ListedDays.{rising-listed}
-use Rattle.estimate.proofs.ScenarioValues.{scenario-read, Filled, filled_none, filled_next, filled-all}
+use Prim.Native.Nat.{◌-◌}
+use Rattle.estimate.proofs.ScenarioValues.{Filled}
 use Rattle.estimate.proofs.values.fill_values.Given as goal
 
 abbrev pub invariant-loop-s : goal.invariant-loop-s

@@ -1,5 +1,4 @@
 -- `estimate::values::value_in` meets its contract.
-use borrow.Author.Rules.{rules}
 use mathlib.Core.Path.{◌≡◌, ◌∙◌, ap}
 use mathlib.Core.List.{List, map}
 use lib.IntN.{ℤ}

@@ -1,5 +1,4 @@
 -- `estimate::values::value_on` meets its contract: from node to node, what is valued and what is left are together all.
-use borrow.Author.Rules.{rules}
 use mathlib.Core.Path.{◌≡◌, subst}
 use Prim.Native.Nat.{ℕ, ◌-◌}
 use native.Mathlib.Omega.{arith}

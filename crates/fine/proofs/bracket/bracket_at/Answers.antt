@@ -1,6 +1,5 @@
 -- `fine::bracket::bracket_at` meets its contract: document 01's factor lies there (`Bound.antt`).
 use mathlib.Core.Path.{◌≡◌, ◌∙◌, ap}
-use borrow.Author.Rules.{rules}
 use Rattle.fine.specs.Fine.{bracket_of, bracket_at}
 use Rattle.fine.proofs.Bound.{fine-between}
 use Rattle.fine.proofs.bracket.bracket_at.Goals as goal

@@ -3,7 +3,6 @@ use mathlib.Core.Path.{◌≡◌, refl}
 use Prim.Native.Nat.{ℕ, ◌+◌, ◌-◌, ◌*◌, ◌/◌, ◌≤◌}
 use native.Mathlib.Nat.{mul-le-mul}
 use native.Mathlib.Omega.{arith}
-use borrow.Author.Rules.{rules}
 use Rattle.fine.specs.Fine.{spread, below, above, bracket_of}
 use Rattle.logarithm.proofs.Rows.{fine-is}
 use Rattle.fine.proofs.bracket.bracket_of.Goals as goal
@@ -73,8 +72,11 @@ pub returns : goal.returns
 unfolding bracket_of below above spread
 returns c =
     let s = c.before.before in
-    let few = c.lost-lost.ensures.1 in record { same = rw (c.less-low.ensures.0, c.lost-lost.ensures.0) refl; limits = record {
+    let few = c.lost-lost.ensures.1 in record {
+      same = rw (c.less-low.ensures.0, c.lost-lost.ensures.0) refl;
+      limits = record {
         order = omega (arith, c.less-low.ensures.1);
         most = high_le s _ few;
         width = wide _ _ _ _ c.less-low.ensures.0 (sum-le _ _ (short-le (goal.at.returns c).Start) (under-le (goal.at.returns c).Start _ few)) (over-le (goal.at.returns c).Start _ few);
-      } }
+      };
+    }

@@ -2,7 +2,6 @@
 use mathlib.Core.Path.{◌≡◌, refl}
 use Prim.Native.Nat.{ℕ, ◌+◌, ◌/◌, ◌%◌, ◌≤◌}
 use native.Mathlib.Omega.{arith}
-use borrow.Author.Rules.{rules}
 use lib.ListN.{get_or}
 use Rattle.logarithm.specs.Logarithms.{fine_whole, power_row, middle_base, upper_base}
 use Rattle.logarithm.proofs.Rows.{middle-le, upper-le, power-row-le}

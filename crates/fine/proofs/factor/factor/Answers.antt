@@ -1,6 +1,5 @@
 -- `fine::factor::factor` meets its contract.
 use mathlib.Core.Path.{ap, ◌∙◌}
-use borrow.Author.Rules.{rules}
 use Rattle.logarithm.proofs.Rows.{exponent-le}
 use Rattle.fine.specs.Fine.{log_at, antilog, fine_factor}
 use Rattle.fine.proofs.Bound.{log-at-le}

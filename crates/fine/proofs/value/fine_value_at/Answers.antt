@@ -1,5 +1,4 @@
 -- `fine::value::fine_value_at` meets its contract.
-use borrow.Author.Rules.{rules}
 use mathlib.Core.Path.{◌∙◌, ap}
 use Rattle.fine.specs.FineValue.{fine_value_in, fine_value_at}
 use Rattle.fine.proofs.value.fine_value_at.Goals as goal

@@ -1,5 +1,4 @@
 -- `fine::value::fine_value_in` meets its contract: what both ends agree on is the present value (`FineValues.antt`).
-use borrow.Author.Rules.{rules}
 use mathlib.Core.Path.{refl}
 use native.Mathlib.Omega.{arith}
 use Rattle.fine.specs.FineValue.{fine_value_in}

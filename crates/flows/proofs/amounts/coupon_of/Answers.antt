@@ -1,6 +1,5 @@
 -- `flows::amounts::coupon_of` meets its contract.
 use native.Mathlib.Omega.{arith}
-use borrow.Author.Rules.{rules}
 use Rattle.flows.specs.Amounts.{coupon_of}
 use Rattle.flows.proofs.Bounds.{millionths-bound}
 use Rattle.flows.proofs.amounts.coupon_of.Goals as goal

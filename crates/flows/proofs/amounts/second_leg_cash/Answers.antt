@@ -1,7 +1,6 @@
 -- `flows::amounts::second_leg_cash` meets its contract.
 use Prim.Native.Nat.{◌*◌, ◌≤◌}
 use native.Mathlib.Omega.{arith}
-use borrow.Author.Rules.{rules}
 use Rattle.decimal.specs.Product.{unit}
 use Rattle.flows.specs.Amounts.{second_leg_cash}
 use Rattle.flows.proofs.Bounds.{interest-bound, withholding-bound}

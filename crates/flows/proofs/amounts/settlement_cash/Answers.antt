@@ -1,5 +1,4 @@
 -- `flows::amounts::settlement_cash` meets its contract.
-use borrow.Author.Rules.{rules}
 use Rattle.flows.specs.Amounts.{settlement_cash}
 use Rattle.flows.proofs.amounts.settlement_cash.Goals as goal
 

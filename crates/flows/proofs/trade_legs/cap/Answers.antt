@@ -1,5 +1,4 @@
 -- `flows::trade_legs::cap` meets its contract.
-use borrow.Author.Rules.{rules}
 use mathlib.Core.Path.{sym}
 use Rattle.decimal.specs.Product.{unit}
 use Rattle.flows.proofs.Capped.{capped_small, capped-large}

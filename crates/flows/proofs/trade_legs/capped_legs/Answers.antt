@@ -2,7 +2,6 @@
 use mathlib.Core.Path.{subst, ◌∙◌}
 use native.Mathlib.Omega.{arith}
 use Rattle.flows.specs.Limits.{TradeLimits}
-use borrow.Author.Rules.{rules}
 use Rattle.flows.proofs.trade_legs.capped_legs.Goals as goal
 
 pub signs_of-requires : goal.signs_of-requires

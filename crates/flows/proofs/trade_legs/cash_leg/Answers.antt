@@ -1,7 +1,6 @@
 -- `flows::trade_legs::cash_leg` meets its contract.
 use mathlib.Core.Path.{◌∙◌}
 use Rattle.laws.proofs.Signed.{back}
-use borrow.Author.Rules.{rules}
 use Rattle.legs.specs.Runs.{one_flow}
 use Rattle.flows.proofs.Capped.{signed-capped}
 use Rattle.flows.proofs.trade_legs.cash_leg.Goals as goal

@@ -1,6 +1,5 @@
 -- `flows::trade_legs::coupon_leg` meets its contract.
 use native.Mathlib.Omega.{arith}
-use borrow.Author.Rules.{rules}
 use Rattle.decimal.specs.Product.{unit}
 use Rattle.flows.proofs.trade_legs.coupon_leg.Goals as goal
 

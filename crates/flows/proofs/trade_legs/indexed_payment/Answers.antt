@@ -2,7 +2,6 @@
 use mathlib.Core.Path.{sym, ◌∙◌}
 use Rattle.decimal.specs.Product.{unit}
 use Rattle.flows.specs.Amounts.{indexed_of}
-use borrow.Author.Rules.{rules}
 use Rattle.flows.proofs.Capped.{capped-within, capped-over}
 use Rattle.flows.proofs.trade_legs.indexed_payment.Goals as goal
 

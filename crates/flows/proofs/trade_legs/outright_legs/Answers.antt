@@ -1,7 +1,6 @@
 -- `flows::trade_legs::outright_legs` meets its contract.
 use native.Mathlib.Omega.{arith}
 use Rattle.laws.proofs.Signed.{back}
-use borrow.Author.Rules.{rules}
 use Rattle.flows.specs.Legs.{outright_legs}
 use Rattle.flows.proofs.Bounds.{nominal-bound}
 use Rattle.flows.proofs.Capped.{capped-none}

@@ -1,7 +1,6 @@
 -- `flows::trade_legs::payment_leg` meets its contract.
 use mathlib.Core.Path.{◌∙◌}
 use Rattle.laws.proofs.Signed.{back}
-use borrow.Author.Rules.{rules}
 use Rattle.flows.specs.Legs.{payments_of}
 use Rattle.flows.proofs.Capped.{signed-capped}
 use Rattle.flows.proofs.trade_legs.payment_leg.Goals as goal

@@ -2,7 +2,6 @@
 use mathlib.Core.Path.{sym, subst, ◌∙◌}
 use Rattle.flows.specs.Limits.{SecurityLimits}
 use Rattle.flows.proofs.Capped.{capped-none}
-use borrow.Author.Rules.{rules}
 use Rattle.flows.proofs.trade_legs.payments_of.Goals as goal
 
 pub coupon_leg-requires : goal.coupon_leg-requires

@@ -1,6 +1,5 @@
 -- `flows::trade_legs::repo_legs` meets its contract.
 use Rattle.laws.proofs.Signed.{back}
-use borrow.Author.Rules.{rules}
 use Rattle.flows.specs.Legs.{repo_legs}
 use Rattle.flows.proofs.trade_legs.repo_legs.Goals as goal
 

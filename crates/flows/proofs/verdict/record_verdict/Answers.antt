@@ -1,7 +1,5 @@
 -- `flows::verdict::record_verdict` meets its contract.
 use mathlib.Core.Path.{◌≡◌, refl, sym, ap, ◌∙◌}
-use borrow.Author.Rules.{rules}
-use borrow.Author.Tests.{not-true, not-false}
 use lib.ListN.{take, drop}
 use Rattle.ground.specs.declared.Ground.TheVariants.{Form, Days, Amounts, Currency, FlowLimit}
 use Rattle.ground.specs.declared.Verdict.TheVariants.{Accepted}

@@ -3,7 +3,6 @@ use Rattle.flows.specs.Legs.{breaks_flow_limit}
 use Rattle.flows.specs.Counted.{counted_legs}
 use Rattle.flows.proofs.Above.{any-capped, any-legs}
 use Rattle.flows.proofs.Counted.{flows-counted}
-use borrow.Author.Rules.{rules}
 use Rattle.flows.proofs.walk.breaks_flow_limit.Goals as goal
 
 pub returns : goal.returns

@@ -6,7 +6,6 @@ use Rattle.flows.specs.Counted.{counted_legs}
 use Rattle.flows.proofs.Above.{legs-capped}
 use Rattle.flows.proofs.Counted.{flows-counted}
 use Rattle.flows.proofs.Reach.{counted-legs-reach, capped-reach}
-use borrow.Author.Rules.{rules}
 use Rattle.flows.proofs.walk.legs_of.Goals as goal
 
 pub returns : goal.returns

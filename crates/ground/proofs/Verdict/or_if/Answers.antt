@@ -1,5 +1,4 @@
 -- `ground::Verdict::or_if` meets its contract.
-use borrow.Author.Rules.{rules}
 use Rattle.ground.proofs.Verdict.or_if.Goals as goal
 
 pub returns-then-broken : goal.returns-then-broken

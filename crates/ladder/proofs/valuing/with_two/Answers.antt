@@ -66,10 +66,10 @@ with_flow-one-requires c =
 
 pub with_flow-requires : goal.with_flow-requires
 with_flow-requires c = (
-      rw c.with_flow-one.ensures (total-next (rw (one (goal.at.with_flow-requires c).After-discounted) (value-most _ c.args.f c.requires.2)) c.requires.2 c.requires.0),
-      c.requires.3,
-      rw (other c) (value-most _ c.args.g c.requires.3),
-    )
+  rw c.with_flow-one.ensures (total-next (rw (one (goal.at.with_flow-requires c).After-discounted) (value-most _ c.args.f c.requires.2)) c.requires.2 c.requires.0),
+  c.requires.3,
+  rw (other c) (value-most _ c.args.g c.requires.3),
+)
 
 -- a total with two values, as they are known
 added : (t : Total) (f g : Flow) {u r : Total} {a b x y : ℕ} → a ≡ x → b ≡ y → u ≡ plus_flow t f a → r ≡ plus_flow u g b → r ≡ plus_flow (plus_flow t f x) g y

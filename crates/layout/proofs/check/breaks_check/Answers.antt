@@ -1,5 +1,4 @@
 -- `layout::check::breaks_check` meets its contract.
-use Rattle.std.proofs.Common.{rules}
 use Rattle.layout.specs.Check.{breaks_check}
 use Rattle.layout.proofs.check.breaks_check.Goals as goal
 

@@ -1,5 +1,4 @@
 -- `layout::check::breaks_place` meets its contract.
-use Rattle.std.proofs.Common.{rules}
 use Rattle.layout.specs.Check.{breaks_place}
 use Rattle.layout.proofs.check.breaks_place.Goals as goal
 

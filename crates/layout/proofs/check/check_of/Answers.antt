@@ -1,5 +1,5 @@
 -- `layout::check::check_of` meets its contract. The loop's invariant: the sum is that of the words passed.
-use Rattle.std.proofs.Common.{◌≡◌, ◌-◌, ◌≤◌, refl, ap, ◌∙◌, add-one, arith, rules}
+use Rattle.std.proofs.Common.{◌≡◌, refl, ap, ◌∙◌, add-one, arith}
 use Rattle.layout.specs.Check.{words, check_of}
 use Rattle.layout.proofs.check.check_of.Goals as goal
 

@@ -1,5 +1,4 @@
 -- `layout::check::seal` meets its contract.
-use Rattle.std.proofs.Common.{rules}
 use Rattle.layout.specs.Check.{sealed}
 use Rattle.layout.proofs.check.seal.Goals as goal
 

@@ -1,7 +1,6 @@
 -- `legs::simple_legs::signed_leg` meets its contract.
 use mathlib.Core.Path.{sym, ◌∙◌}
 use Rattle.laws.proofs.Signed.{back}
-use borrow.Author.Rules.{rules}
 use Rattle.legs.proofs.Signed.{signed-in, signed-out, signed-none}
 use Rattle.legs.proofs.simple_legs.signed_leg.Goals as goal
 

@@ -1,6 +1,5 @@
 -- `legs::window::counted_leg` meets its contract.
 use mathlib.Core.Path.{◌∙◌}
-use borrow.Author.Rules.{rules}
 use Rattle.legs.proofs.window.counted_leg.Goals as goal
 
 pub returns-then-settled : goal.returns-then-settled

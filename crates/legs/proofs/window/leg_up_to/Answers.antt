@@ -1,6 +1,5 @@
 -- `legs::window::leg_up_to` meets its contract.
 use mathlib.Core.Path.{◌∙◌}
-use borrow.Author.Rules.{rules}
 use borrow.Author.Tests.{eq-eqb, ne_eqb, lt-ltb, le-ltb}
 use Rattle.legs.specs.Counted.{leg_up_to}
 use Rattle.legs.proofs.window.leg_up_to.Goals as goal

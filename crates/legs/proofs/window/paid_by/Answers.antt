@@ -1,5 +1,4 @@
 -- `legs::window::paid_by` meets its contract.
-use borrow.Author.Rules.{rules}
 use borrow.Author.Tests.{eq-eqb, ne_eqb, lt-ltb, le-ltb}
 use Rattle.legs.specs.Counted.{paid_by}
 use Rattle.legs.proofs.window.paid_by.Goals as goal

@@ -1,15 +1,14 @@
 -- `logarithm::tables::logs` meets its contract. The invariant: each row below i holds its logarithm and its slope, `log` is that of row i, `m` is a
 -- million and what row i is of, and the slice keeps its length.
 use mathlib.Core.Path.{◌≡◌, refl, sym, ap, ◌∙◌}
-use Prim.Native.Nat.{ℕ, ◌+◌, ◌-◌, ◌*◌, ◌/◌, ◌≤◌, ◌<◌}
+use Prim.Native.Nat.{ℕ, ◌+◌, ◌-◌, ◌/◌, ◌≤◌, ◌<◌}
 use native.Mathlib.Nat.{le-div_iff_mul-le}
 use native.Mathlib.Omega.{arith}
 use lib.Dec.{lit≤}
 use borrow.Author.Count.{below_none, below_more}
-use borrow.Author.Rules.{rules}
 use lib.ListN.{length, get_or, set, length-set}
 use lib.Seq.{get_or-set_same, get_or-set_other}
-use Rattle.logarithm.specs.Logarithms.{step, log_of, log_slope}
+use Rattle.logarithm.specs.Logarithms.{log_of, log_slope}
 use Rattle.logarithm.proofs.Steps.{step-le}
 use Rattle.logarithm.proofs.Rows.{log-none, log-more, log-le, slope-is}
 use Rattle.logarithm.proofs.tables.logs.Goals as goal

@@ -4,10 +4,9 @@ use mathlib.Core.Path.{◌≡◌, refl, sym, ap, ◌∙◌}
 use Prim.Native.Nat.{ℕ, ◌+◌, ◌-◌, ◌*◌, ◌/◌, ◌≤◌, ◌<◌}
 use native.Mathlib.Omega.{arith}
 use borrow.Author.Count.{below_more}
-use borrow.Author.Rules.{rules}
 use lib.ListN.{length, get_or, set, length-set}
 use lib.Seq.{get_or-set_same, get_or-set_other}
-use Rattle.logarithm.specs.Logarithms.{power_whole, chain, power_row, short_row}
+use Rattle.logarithm.specs.Logarithms.{power_whole, power_row, short_row}
 use Rattle.logarithm.proofs.Rows.{power-is, chain-none, chain_more, chain-le, power-row-is, short-row-is}
 use Rattle.logarithm.proofs.tables.powers.Goals as goal
 use Rattle.logarithm.proofs.tables.powers.Goals.{In-loop-i}

@@ -1,14 +1,9 @@
 -- `logarithm::tables::powers` meets its contract. The invariant: x is the power that is next, each place passed holds its row, with its short one behind,
 -- the others are as they were, and the slice keeps its length.
-use mathlib.Core.Path.{◌≡◌, refl, sym, ap, ◌∙◌}
-use Prim.Native.Nat.{ℕ, ◌+◌, ◌-◌, ◌*◌, ◌/◌, ◌≤◌, ◌<◌}
-use native.Mathlib.Omega.{arith}
-use borrow.Author.Count.{below_more}
-use borrow.Author.Rules.{rules}
-use lib.ListN.{length, get_or, set, length-set}
-use lib.Seq.{get_or-set_same, get_or-set_other}
-use Rattle.logarithm.specs.Logarithms.{power_whole, chain, power_row, short_row}
-use Rattle.logarithm.proofs.Rows.{power-is, chain-none, chain_more, chain-le, power-row-is, short-row-is}
+use mathlib.Core.Path.{◌≡◌}
+use Prim.Native.Nat.{ℕ, ◌+◌, ◌-◌, ◌≤◌, ◌<◌}
+use lib.ListN.{length, get_or}
+use Rattle.logarithm.specs.Logarithms.{chain, power_row, short_row}
 use Rattle.logarithm.proofs.tables.powers.Given as goal
 
 abbrev pub invariant-loop-i : goal.invariant-loop-i

@@ -1,5 +1,4 @@
 -- `mapping::grid::add_flow` meets its contract.
-use borrow.Author.Rules.{rules}
 use native.Mathlib.Omega.{arith}
 use Rattle.laws.proofs.Signed.{back}
 use Rattle.netting.specs.Netting.{net_on, net_with}

@@ -1,5 +1,4 @@
 -- `mapping::grid::add_mapped` meets its contract.
-use borrow.Author.Rules.{rules}
 use native.Mathlib.Omega.{arith}
 use Rattle.mapping.proofs.NetParts.{first-limits, last-limits, excess-limits, one-length, two-length, one-moved, two-moved}
 use Rattle.mapping.proofs.grid.add_mapped.Goals as goal

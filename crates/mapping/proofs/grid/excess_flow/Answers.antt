@@ -1,5 +1,4 @@
 -- `mapping::grid::excess_flow` meets its contract.
-use borrow.Author.Rules.{rules}
 use Rattle.bucket.specs.Mapped.{excess}
 use Rattle.mapping.proofs.grid.excess_flow.Goals as goal
 

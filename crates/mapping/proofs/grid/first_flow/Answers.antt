@@ -1,5 +1,4 @@
 -- `mapping::grid::first_flow` meets its contract.
-use borrow.Author.Rules.{rules}
 use Rattle.mapping.proofs.NetParts.{part-le}
 use Rattle.mapping.proofs.grid.first_flow.Goals as goal
 

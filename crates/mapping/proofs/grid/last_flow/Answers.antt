@@ -1,5 +1,4 @@
 -- `mapping::grid::last_flow` meets its contract.
-use borrow.Author.Rules.{rules}
 use mathlib.Core.Path.{refl}
 use native.Mathlib.Omega.{arith}
 use Rattle.bucket.specs.Mapped.{last_part}

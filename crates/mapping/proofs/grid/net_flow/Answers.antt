@@ -1,5 +1,4 @@
 -- `mapping::grid::net_flow` meets its contract.
-use borrow.Author.Rules.{rules}
 use native.Mathlib.Omega.{arith}
 use Rattle.laws.proofs.Signed.{read_is}
 use Rattle.mapping.proofs.MappedDays.{received_is}

@@ -1,12 +1,11 @@
 -- `mapping::grid::size_of` meets its contract: what is added up, with the days left, is all.
-use borrow.Author.Rules.{rules}
-use Prim.Native.Nat.{ℕ, ◌+◌, ◌-◌, ◌≤◌, ◌<◌}
+use Prim.Native.Nat.{ℕ, ◌+◌, ◌≤◌, ◌<◌}
 use native.Mathlib.Omega.{arith}
 use lib.IntN.{ℤ, nat_abs}
 use lib.ListN.{get_or}
 use Rattle.laws.proofs.Signed.{back}
 use Rattle.netting.specs.Netting.{net_on}
-use Rattle.mapping.proofs.MappedDays.{Adding, adding-first, adding-day, adding-most, adding-next, adding-all, size-most}
+use Rattle.mapping.proofs.MappedDays.{adding-first, adding-day, adding-most, adding-next, adding-all, size-most}
 use Rattle.mapping.proofs.grid.size_of.Goals as goal
 use Rattle.mapping.proofs.grid.size_of.Goals.{After-shared_slice_known-in-loop-i-1, At-loop-i, In-loop-i, Start}
 

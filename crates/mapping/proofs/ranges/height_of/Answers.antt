@@ -1,5 +1,4 @@
 -- `mapping::ranges::height_of` meets its contract.
-use borrow.Author.Rules.{rules}
 use Rattle.mapping.specs.Ranges.{height_of}
 use Rattle.mapping.proofs.ranges.height_of.Goals as goal
 

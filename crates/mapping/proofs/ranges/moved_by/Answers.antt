@@ -1,5 +1,4 @@
 -- `mapping::ranges::moved_by` meets its contract: the product of a swing and a distance fits.
-use borrow.Author.Rules.{rules}
 use mathlib.Core.Path.{◌≡◌, refl}
 use Prim.Native.Nat.{◌*◌, ◌≤◌}
 use native.Mathlib.Nat.{mul-le-mul}

@@ -1,5 +1,4 @@
 -- `mapping::ranges::range_of` meets its contract.
-use borrow.Author.Rules.{rules}
 use Rattle.mapping.specs.Ranges.{range_of}
 use Rattle.mapping.proofs.ranges.range_of.Goals as goal
 

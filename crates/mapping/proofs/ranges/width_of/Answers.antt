@@ -1,5 +1,4 @@
 -- `mapping::ranges::width_of` meets its contract.
-use borrow.Author.Rules.{rules}
 use Rattle.mapping.specs.Ranges.{width_of}
 use Rattle.mapping.proofs.ranges.width_of.Goals as goal
 

@@ -1,10 +1,7 @@
 -- `mapping::segments::bucket_in` meets its contract.
-use borrow.Author.Rules.{rules}
-use mathlib.Core.Path.{◌≡◌, sym, ◌∙◌}
-use Prim.Native.Nat.{◌-◌, ◌≤◌}
+use mathlib.Core.Path.{sym, ◌∙◌}
 use native.Mathlib.Omega.{arith}
-use Rattle.mapping.specs.Segments.{bucket_in}
-use Rattle.mapping.proofs.SegmentBuckets.{bucket_from, bucket-first, bucket-found, bucket-passed, bucket-none}
+use Rattle.mapping.proofs.SegmentBuckets.{bucket-first, bucket-found, bucket-passed, bucket-none}
 use Rattle.mapping.proofs.segments.bucket_in.Goals as goal
 
 pub loop-i-init : goal.loop-i-init

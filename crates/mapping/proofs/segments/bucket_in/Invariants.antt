@@ -1,10 +1,8 @@
 -- `mapping::segments::bucket_in` meets its contract.
-use borrow.Author.Rules.{rules}
-use mathlib.Core.Path.{◌≡◌, sym, ◌∙◌}
+use mathlib.Core.Path.{◌≡◌}
 use Prim.Native.Nat.{◌-◌, ◌≤◌}
-use native.Mathlib.Omega.{arith}
 use Rattle.mapping.specs.Segments.{bucket_in}
-use Rattle.mapping.proofs.SegmentBuckets.{bucket_from, bucket-first, bucket-found, bucket-passed, bucket-none}
+use Rattle.mapping.proofs.SegmentBuckets.{bucket_from}
 use Rattle.mapping.proofs.segments.bucket_in.Given as goal
 
 abbrev pub invariant-loop-i : goal.invariant-loop-i

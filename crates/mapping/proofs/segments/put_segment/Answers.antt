@@ -1,5 +1,4 @@
 -- `mapping::segments::put_segment` meets its contract.
-use borrow.Author.Rules.{rules}
 use native.Mathlib.Omega.{arith}
 use lib.ListN.{length-set}
 use Rattle.mapping.proofs.segments.put_segment.Goals as goal

@@ -1,14 +1,7 @@
 -- `margin::choice::first_kept` meets its contract: the places passed are above the limit.
 use lib.IntN.{pos}
 use lib.ListN.{get_or}
-use Rattle.laws.proofs.Signed.{cast, back, compared}
-use Rattle.laws.proofs.Integer.{int, le_z-no}
-use borrow.Author.Count.{below_more}
-use mathlib.Core.Path.{◌≡◌}
-use mathlib.Core.Bool.{true, false}
-use lib.Signed.{le_z, ◌<ℤ◌}
-use borrow.Author.Rules.{rules}
-use native.Mathlib.Omega.{arith}
+use lib.Signed.{◌<ℤ◌}
 use Prim.Native.Nat.{ℕ, ◌-◌, ◌≤◌, ◌<◌}
 use Rattle.margin.proofs.choice.first_kept.Given as goal
 

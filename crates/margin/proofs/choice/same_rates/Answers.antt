@@ -1,17 +1,11 @@
 -- `margin::choice::same_rates` meets its contract.
-use mathlib.Core.Bool.{Bool}
 use Rattle.laws.proofs.Every.{every-passed, every-failed, every-end}
-use Rattle.curve.specs.declared.Curve.{Curve}
 use Rattle.margin.specs.Choice.{same_rates}
 use mathlib.Core.Path.{◌≡◌, sym, ◌∙◌}
 use borrow.Author.Tests.{eq-eqb, ne_eqb}
-use lib.Dec.{eqb}
-use lib.ListN.{get_or}
-use Rattle.laws.specs.Every.{every}
-use Rattle.curve.specs.Limits.{zero_node}
 use borrow.Author.Rules.{rules}
 use native.Mathlib.Omega.{arith}
-use Prim.Native.Nat.{ℕ, ◌-◌}
+use Prim.Native.Nat.{◌-◌}
 use Rattle.margin.proofs.choice.same_rates.Invariants.{equal_at}
 use Rattle.margin.proofs.choice.same_rates.Goals as goal
 

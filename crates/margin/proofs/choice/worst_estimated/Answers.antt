@@ -13,7 +13,6 @@ use Rattle.screening.specs.Screening.{Least}
 use Rattle.margin.specs.Choice.{limit_of}
 use Rattle.margin.proofs.Discarding.{not-above}
 use Rattle.margin.proofs.Choosing.{twice-fits, limit-fits, limit-read, estimate-size, worst-is}
-use borrow.Author.Rules.{rules}
 use Rattle.margin.proofs.choice.worst_estimated.Goals as goal
 use Rattle.margin.proofs.choice.worst_estimated.Goals.{After-least_of-least, After-scenario_count, Start}
 

@@ -1,22 +1,17 @@
 -- `margin::choice::worst_kept` meets its contract: of the scenarios passed that are kept, the worst is held.
-use borrow.Author.Rules.{rules}
 use mathlib.Core.Path.{◌≡◌, refl, ap}
 use mathlib.Core.Bool.{false}
 use mathlib.Core.List.{List}
-use mathlib.Core.Logic.{⊎_elim}
-use Prim.Native.Nat.{ℕ, ◌-◌, ◌≤◌, ◌<◌}
+use Prim.Native.Nat.{ℕ, ◌<◌}
 use native.Mathlib.Omega.{arith}
 use lib.IntN.{ℤ, pos}
 use lib.ListN.{length, get_or}
 use lib.Signed.{le_z}
 use Rattle.laws.proofs.Integer.{le_z-no}
-use Rattle.laws.proofs.Signed.{cast, back, compared}
-use Rattle.discount.specs.Flows.{flow_value}
+use Rattle.laws.proofs.Signed.{back, compared}
 use Rattle.curve.specs.Scenarios.{scenario_count}
 use Rattle.curve.proofs.Scenarios.{scenarios-most}
-use Rattle.ladder.specs.Exposure.{exposure_of}
 use Rattle.margin.specs.declared.losses.Loss.{Loss}
-use Rattle.margin.specs.Losses.{loss_at}
 use Rattle.margin.specs.Choice.{FirstKept, WorstKept}
 use Rattle.margin.proofs.Stressing.{loss-read}
 use Rattle.margin.proofs.Discarding.{kept-first, kept_same, kept_next}
@@ -79,7 +74,7 @@ loop-s-preserved c =
     let h = rw (back limit fl) at c.loop-s.invariant.0 in
     rw (back limit fl) (
       elim c.if-values-s.branch [
-        then-values-s w ↦ rw (w.worst-is, w.worse_with-worst.ensures) (kept_next _ values limit _ _ h _ refl)
+        | then-values-s w ↦ rw (w.worst-is, w.worse_with-worst.ensures) (kept_next _ values limit _ _ h _ refl)
         | else-values-s w ↦ rw w.worst-is (kept_same _ values limit _ _ h (le_z-no v limit (compared le_z v limit false fv fl w.if-values-s.false)))
       ],
       omega (arith, within (goal.at.loop-s-preserved c).In-loop-s),

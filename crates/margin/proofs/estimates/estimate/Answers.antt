@@ -9,7 +9,6 @@ use Rattle.ladder.specs.Ladder.{ladder_flows}
 use Rattle.margin.proofs.Estimating.{estimates}
 use Rattle.ladder.proofs.LadderFlows.{ladder-limits}
 use Rattle.ladder.proofs.Netting.{nets-none, nets-size}
-use borrow.Author.Rules.{rules}
 use Rattle.margin.proofs.estimates.estimate.Goals as goal
 use Rattle.margin.proofs.estimates.estimate.Goals.{After-net_days, Start}
 

@@ -1,5 +1,4 @@
 -- `margin::losses::curve_in` meets its contract.
-use borrow.Author.Rules.{rules}
 use Rattle.curve.proofs.Scenarios.{scenario-limits}
 use Rattle.margin.proofs.losses.curve_in.Goals as goal
 

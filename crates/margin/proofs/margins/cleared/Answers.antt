@@ -1,11 +1,9 @@
 -- `margin::margins::cleared` meets its contract.
 use borrow.Author.Rules.{rules}
 use mathlib.Core.Path.{◌≡◌}
-use Prim.Native.Nat.{◌-◌}
 use native.Mathlib.Omega.{arith}
 use lib.ListN.{length}
-use Rattle.margin.specs.Margins.{no_curve}
-use Rattle.margin.proofs.Places.{Filling, filling-none, filling-next, filling-all}
+use Rattle.margin.proofs.Places.{filling-none, filling-next, filling-all}
 use Rattle.margin.proofs.margins.cleared.Goals as goal
 use Rattle.margin.proofs.margins.cleared.Goals.{Start}
 

@@ -1,11 +1,11 @@
 -- `margin::margins::currency_margin` meets its contract: what is summed and what is left are together all.
 use borrow.Author.Rules.{rules}
 use mathlib.Core.Path.{◌≡◌, ◌∙◌}
-use Prim.Native.Nat.{◌-◌, ◌<◌}
+use Prim.Native.Nat.{◌<◌}
 use lib.ListN.{length}
 use Rattle.laws.proofs.Signed.{fits}
 use Rattle.margin.specs.Margins.{SumsLimits}
-use Rattle.margin.proofs.Currencies.{total_size, code-total, code-figures, Summed, summed-none, summed-room, summed-next, summed-limits, summed-all}
+use Rattle.margin.proofs.Currencies.{total_size, code-total, code-figures, summed-none, summed-room, summed-next, summed-limits, summed-all}
 use Rattle.margin.proofs.margins.currency_margin.Goals as goal
 use Rattle.margin.proofs.margins.currency_margin.Goals.{After-loop-i, Start}
 

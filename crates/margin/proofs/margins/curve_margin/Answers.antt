@@ -1,5 +1,4 @@
 -- `margin::margins::curve_margin` meets its contract.
-use borrow.Author.Rules.{rules}
 use Prim.Native.Nat.{ℕ}
 use lib.ListN.{length-replicate}
 use Rattle.margin.specs.Margins.{curve_margin}

@@ -1,13 +1,8 @@
 -- `margin::margins::has_currency` meets its contract. The loop's invariant: no curve passed has the currency.
-use mathlib.Core.Path.{◌≡◌, refl, sym, ◌∙◌}
+use mathlib.Core.Path.{◌≡◌}
 use Prim.Native.Nat.{◌-◌, ◌≤◌}
-use native.Mathlib.Omega.{arith}
-use borrow.Author.Rules.{rules}
-use borrow.Author.Tests.{eq-eqb, ne_eqb}
 use lib.ListN.{length, take, drop}
-use Rattle.laws.proofs.Arrays.{length-mapped}
 use Rattle.margin.specs.Margins.{has_currency}
-use Rattle.margin.proofs.Currencies.{has-next, has-none}
 use Rattle.margin.proofs.margins.has_currency.Given as goal
 
 abbrev pub invariant-loop-i : goal.invariant-loop-i

@@ -1,5 +1,4 @@
 -- `netting::value::deviation` meets its contract: a day's distance is at most 393.
-use borrow.Author.Rules.{rules}
 use mathlib.Core.Path.{refl}
 use Prim.Native.Nat.{◌*◌, ◌≤◌}
 use native.Mathlib.Nat.{mul-le-mul}

@@ -1,6 +1,5 @@
 -- `page::line::line_day` meets its contract.
 use mathlib.Core.Path.{sym, ◌∙◌}
-use borrow.Author.Rules.{rules}
 use Rattle.page.specs.Line.{line_day}
 use Rattle.page.proofs.line.line_day.Goals as goal
 

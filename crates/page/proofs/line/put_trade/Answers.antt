@@ -1,7 +1,6 @@
 -- `page::line::put_trade` meets its contract: its left part, the nominal behind blanks, the line feed.
 use Prim.Native.Nat.{◌+◌, ◌-◌, ◌^◌, ◌<◌}
 use native.Mathlib.Omega.{arith}
-use borrow.Author.Rules.{rules}
 use lib.IntN.{pos}
 use Rattle.laws.proofs.Signed.{cast_is}
 use Rattle.decimal.specs.Product.{unit}

@@ -1,9 +1,6 @@
 -- `page::line::put_trade_left` meets its contract: four numbers, one blank apart.
-use Prim.Native.Nat.{◌≤◌}
 use native.Mathlib.Omega.{arith}
-use borrow.Author.Rules.{rules}
-use lib.ListN.{length}
-use Rattle.text.specs.Text.{ascii, decimal_of}
+use Rattle.text.specs.Text.{ascii}
 use Rattle.text.proofs.Digits.{length-decimal}
 use Rattle.text.proofs.Writing.{and_then}
 use Rattle.page.specs.Line.{trade_left}

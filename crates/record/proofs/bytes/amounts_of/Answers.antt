@@ -1,6 +1,5 @@
 -- `record::bytes::amounts_of` meets its contract.
 use Rattle.record.specs.Bytes.{amounts_of}
-use borrow.Author.Rules.{rules}
 use Rattle.record.proofs.bytes.amounts_of.Goals as goal
 
 pub returns : goal.returns

@@ -1,6 +1,5 @@
 -- `record::bytes::days_of` meets its contract.
 use Rattle.record.specs.Bytes.{days_of}
-use borrow.Author.Rules.{rules}
 use Rattle.record.proofs.bytes.days_of.Goals as goal
 
 pub returns : goal.returns

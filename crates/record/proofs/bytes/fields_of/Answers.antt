@@ -1,6 +1,5 @@
 -- `record::bytes::fields_of` meets its contract.
 use Rattle.record.specs.Bytes.{fields_of}
-use borrow.Author.Rules.{rules}
 use Rattle.record.proofs.bytes.fields_of.Goals as goal
 
 pub returns : goal.returns

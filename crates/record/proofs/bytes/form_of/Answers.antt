@@ -1,6 +1,5 @@
 -- `record::bytes::form_of` meets its contract.
 use Rattle.record.specs.Bytes.{form_of}
-use borrow.Author.Rules.{rules}
 use Rattle.record.proofs.bytes.form_of.Goals as goal
 
 pub returns : goal.returns

@@ -1,6 +1,5 @@
 -- `record::rules::breaks_amounts` meets its contract.
 use Rattle.record.specs.Rules.{breaks_amounts}
-use borrow.Author.Rules.{rules}
 use Rattle.record.proofs.rules.breaks_amounts.Goals as goal
 
 pub returns : goal.returns

@@ -1,6 +1,5 @@
 -- `record::rules::breaks_currency` meets its contract.
 use Rattle.record.specs.Rules.{breaks_currency}
-use borrow.Author.Rules.{rules}
 use Rattle.record.proofs.rules.breaks_currency.Goals as goal
 
 pub returns : goal.returns

@@ -1,6 +1,5 @@
 -- `record::rules::breaks_days` meets its contract.
 use Rattle.record.specs.Rules.{breaks_days}
-use borrow.Author.Rules.{rules}
 use Rattle.record.proofs.rules.breaks_days.Goals as goal
 
 pub returns : goal.returns

@@ -1,6 +1,5 @@
 -- `record::rules::breaks_form` meets its contract.
 use Rattle.record.specs.Rules.{breaks_form}
-use borrow.Author.Rules.{rules}
 use Rattle.record.proofs.rules.breaks_form.Goals as goal
 
 pub returns : goal.returns

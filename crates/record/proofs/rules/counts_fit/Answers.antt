@@ -1,5 +1,4 @@
 -- `record::rules::counts_fit` meets its contract.
-use borrow.Author.Rules.{rules}
 use Rattle.record.proofs.rules.counts_fit.Goals as goal
 
 pub returns : goal.returns

@@ -3,8 +3,7 @@ use mathlib.Core.Path.{◌≡◌, sym, ◌∙◌}
 use mathlib.Core.Bool.{true, false, and-false}
 use native.Mathlib.Omega.{arith}
 use lib.Dec.{leb}
-use borrow.Author.Rules.{rules}
-use borrow.Author.Tests.{leb-true, leb-false, lt-leb, not-true, not-false}
+use borrow.Author.Tests.{leb-true, leb-false, lt-leb}
 use Rattle.ground.specs.Limits.{last_day}
 use Rattle.record.specs.Uses.{last_payment_day}
 use Rattle.record.specs.Rules.{counts_fit}

@@ -1,5 +1,4 @@
 -- `record::rules::coupons_fit` meets its contract.
-use borrow.Author.Rules.{rules}
 use Rattle.record.proofs.rules.coupons_fit.Goals as goal
 
 pub returns : goal.returns

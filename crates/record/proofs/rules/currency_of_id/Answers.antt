@@ -1,7 +1,6 @@
 -- `record::rules::currency_of_id` meets its contract.
 use mathlib.Core.Path.{sym, ◌∙◌}
 use native.Mathlib.Omega.{arith}
-use borrow.Author.Rules.{rules}
 use Rattle.record.proofs.Limits.{InLimits, in-limits}
 use Rattle.record.proofs.rules.currency_of_id.Goals as goal
 use Rattle.record.proofs.rules.currency_of_id.Goals.{Then-in_limits}

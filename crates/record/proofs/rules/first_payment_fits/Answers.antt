@@ -1,5 +1,4 @@
 -- `record::rules::first_payment_fits` meets its contract.
-use borrow.Author.Rules.{rules}
 use Rattle.record.proofs.rules.first_payment_fits.Goals as goal
 
 pub returns : goal.returns

@@ -1,5 +1,4 @@
 -- `record::rules::has_settled` meets its contract.
-use borrow.Author.Rules.{rules}
 use Rattle.record.proofs.rules.has_settled.Goals as goal
 
 pub returns : goal.returns

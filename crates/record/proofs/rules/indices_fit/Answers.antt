@@ -1,5 +1,4 @@
 -- `record::rules::indices_fit` meets its contract.
-use borrow.Author.Rules.{rules}
 use Rattle.record.proofs.rules.indices_fit.Goals as goal
 
 pub returns : goal.returns

@@ -1,5 +1,4 @@
 -- `record::rules::legs_ahead` meets its contract.
-use borrow.Author.Rules.{rules}
 use Rattle.record.proofs.rules.legs_ahead.Goals as goal
 
 pub returns : goal.returns

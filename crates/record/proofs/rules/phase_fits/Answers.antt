@@ -1,5 +1,4 @@
 -- `record::rules::phase_fits` meets its contract.
-use borrow.Author.Rules.{rules}
 use Rattle.record.proofs.rules.phase_fits.Goals as goal
 
 pub returns : goal.returns

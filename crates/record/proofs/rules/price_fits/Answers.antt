@@ -1,5 +1,4 @@
 -- `record::rules::price_fits` meets its contract.
-use borrow.Author.Rules.{rules}
 use Rattle.record.proofs.rules.price_fits.Goals as goal
 
 pub returns : goal.returns

@@ -1,5 +1,4 @@
 -- `record::rules::principals_fit` meets its contract.
-use borrow.Author.Rules.{rules}
 use Rattle.decimal.specs.Product.{unit}
 use Rattle.record.proofs.rules.principals_fit.Goals as goal
 

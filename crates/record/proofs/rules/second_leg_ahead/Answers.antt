@@ -1,5 +1,4 @@
 -- `record::rules::second_leg_ahead` meets its contract.
-use borrow.Author.Rules.{rules}
 use Rattle.record.proofs.rules.second_leg_ahead.Goals as goal
 
 pub returns : goal.returns

@@ -1,5 +1,4 @@
 -- `record::rules::used_in_limits` meets its contract.
-use borrow.Author.Rules.{rules}
 use Rattle.record.proofs.rules.used_in_limits.Goals as goal
 
 pub returns : goal.returns

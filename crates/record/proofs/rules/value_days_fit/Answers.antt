@@ -1,5 +1,4 @@
 -- `record::rules::value_days_fit` meets its contract.
-use borrow.Author.Rules.{rules}
 use Rattle.record.proofs.rules.value_days_fit.Goals as goal
 
 pub returns : goal.returns

@@ -1,15 +1,12 @@
 -- `screening::least::least_of` meets its contract: of the values passed, the least is held.
 use mathlib.Core.Path.{◌≡◌}
-use mathlib.Core.Logic.{⊎_elim}
 use mathlib.Core.Bool.{true, false}
 use lib.IntN.{pos}
 use lib.ListN.{get_or}
 use lib.Signed.{lt_z, lt_z_yes, lt_z_no}
 use Rattle.laws.proofs.Signed.{compared}
 use Rattle.screening.proofs.Leasts.{least_first, least-new, least-same}
-use Rattle.screening.specs.Screening.{Least}
 use borrow.Author.Rules.{rules}
-use Prim.Native.Nat.{◌-◌, ◌≤◌}
 use Rattle.screening.proofs.least.least_of.Goals as goal
 use Rattle.screening.proofs.least.least_of.Goals.{then-values-s, else-values-s}
 
@@ -24,7 +21,7 @@ loop-s-preserved c =
     let fa = c.t9-1.given in
     let fb = c.t13-1.given in (
       elim c.if-values-s.branch [
-        then-values-s w ↦ rw w.least-is (least-new values _ _ c.loop-s.invariant.0 (lt_z_yes (rw (compared lt_z a b true fa fb w.if-values-s.true) tt)))
+        | then-values-s w ↦ rw w.least-is (least-new values _ _ c.loop-s.invariant.0 (lt_z_yes (rw (compared lt_z a b true fa fb w.if-values-s.true) tt)))
         | else-values-s w ↦ rw w.least-is (least-same values _ _ c.loop-s.invariant.0 (lt_z_no (rw (compared lt_z a b false fa fb w.if-values-s.false) tt)))
       ],
       search rules,

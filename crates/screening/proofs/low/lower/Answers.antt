@@ -1,12 +1,12 @@
 -- `screening::low::lower` meets its contract: the values passed are lowered.
 use mathlib.Core.Path.{◌≡◌}
-use Prim.Native.Nat.{ℕ, ◌-◌, ◌≤◌}
+use Prim.Native.Nat.{ℕ, ◌≤◌}
 use native.Mathlib.Omega.{arith}
 use lib.IntN.{ℤ, pos, ◌-ℤ◌}
 use lib.ListN.{get_or}
 use Rattle.laws.proofs.Signed.{read, back, read_is, abs-sub}
 use Rattle.screening.specs.Screening.{Small}
-use Rattle.screening.proofs.Lowering.{Lowering, lowering-none, lowering-next}
+use Rattle.screening.proofs.Lowering.{lowering-none, lowering-next}
 use Rattle.screening.proofs.low.lower.Goals as goal
 use Rattle.screening.proofs.low.lower.Goals.{At-loop-s, In-loop-s, Start}
 

@@ -1,12 +1,6 @@
 -- `screening::low::lower` meets its contract: the values passed are lowered.
-use mathlib.Core.Path.{◌≡◌}
-use Prim.Native.Nat.{ℕ, ◌-◌, ◌≤◌}
-use native.Mathlib.Omega.{arith}
-use lib.IntN.{ℤ, pos, ◌-ℤ◌}
-use lib.ListN.{get_or}
-use Rattle.laws.proofs.Signed.{read, back, read_is, abs-sub}
-use Rattle.screening.specs.Screening.{Small}
-use Rattle.screening.proofs.Lowering.{Lowering, lowering-none, lowering-next}
+use Prim.Native.Nat.{◌-◌, ◌≤◌}
+use Rattle.screening.proofs.Lowering.{Lowering}
 use Rattle.screening.proofs.low.lower.Given as goal
 
 abbrev pub invariant-loop-s : goal.invariant-loop-s

@@ -1,20 +1,18 @@
 -- `screening::refine::refine` meets its contract: the scenarios passed are refined.
-use borrow.Author.Rules.{rules}
-use mathlib.Core.Path.{◌≡◌, sym, ap, ◌∙◌}
-use mathlib.Core.Logic.{⊎_elim}
-use Prim.Native.Nat.{ℕ, ◌-◌, ◌≤◌, ◌<◌}
+use mathlib.Core.Path.{◌≡◌, sym, ◌∙◌}
+use Prim.Native.Nat.{ℕ, ◌<◌}
 use native.Mathlib.Omega.{arith}
 use lib.IntN.{ℤ, pos}
 use lib.ListN.{get_or, length-replicate}
 use mir.Syntax.{w64}
 use mir.Val.{to_z}
-use Rattle.laws.proofs.Signed.{cast, read, back}
+use Rattle.laws.proofs.Signed.{read, back}
 use Rattle.curve.specs.Scenarios.{scenario_count}
 use Rattle.curve.proofs.Scenarios.{scenarios-some, scenarios-most, scenario-limits}
 use Rattle.estimate.proofs.ListedDays.{rising-listed}
 use Rattle.estimate.proofs.ScenarioValues.{scenario-read}
 use Rattle.screening.specs.Screening.{refined_value}
-use Rattle.screening.proofs.Refining.{refined-kept, refined-left, Refining, refining-none, refining-next, refined-screened}
+use Rattle.screening.proofs.Refining.{refined-kept, refined-left, refining-none, refining-next, refined-screened}
 use Rattle.screening.proofs.refine.refine.Goals as goal
 use Rattle.screening.proofs.refine.refine.Goals.{then-v-limit, else-v-limit, After-fill_ends, After-value_in-limit, At-loop-s, In-loop-s, Joined-v-limit, Start}
 
@@ -74,8 +72,8 @@ module _ (c : Joined-v-limit) where
       let s = c.loop-s.s in
       let same = back (get_or c.loop-s.values c.loop-s.s (pos 0)) c.v-1.given in
       elim c.if-v-limit.branch [
-        then-v-limit w ↦ w.v-is ∙ scenario-read c.args.curve x nets _ s c.requires.2 _ _ w.scenario-then-v-limit.ensures w.value_in-v.ensures
-        ∙ sym (refined-kept c.args.curve x nets (read limit) s (get_or c.loop-s.values c.loop-s.s (pos 0)) (rw same at w.if-v-limit.true))
+        | then-v-limit w ↦ w.v-is ∙ scenario-read c.args.curve x nets _ s c.requires.2 _ _ w.scenario-then-v-limit.ensures w.value_in-v.ensures
+            ∙ sym (refined-kept c.args.curve x nets (read limit) s (get_or c.loop-s.values c.loop-s.s (pos 0)) (rw same at w.if-v-limit.true))
         | else-v-limit w ↦ w.v-is ∙ same ∙ sym (refined-left c.args.curve x nets (read limit) s (get_or c.loop-s.values c.loop-s.s (pos 0)) (rw same at w.if-v-limit.false))
       ]
 

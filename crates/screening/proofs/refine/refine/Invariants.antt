@@ -1,20 +1,6 @@
 -- `screening::refine::refine` meets its contract: the scenarios passed are refined.
-use borrow.Author.Rules.{rules}
-use mathlib.Core.Path.{◌≡◌, sym, ap, ◌∙◌}
-use mathlib.Core.Logic.{⊎_elim}
-use Prim.Native.Nat.{ℕ, ◌-◌, ◌≤◌, ◌<◌}
-use native.Mathlib.Omega.{arith}
-use lib.IntN.{ℤ, pos}
-use lib.ListN.{get_or, length-replicate}
-use mir.Syntax.{w64}
-use mir.Val.{to_z}
-use Rattle.laws.proofs.Signed.{cast, read, back}
-use Rattle.curve.specs.Scenarios.{scenario_count}
-use Rattle.curve.proofs.Scenarios.{scenarios-some, scenarios-most, scenario-limits}
-use Rattle.estimate.proofs.ListedDays.{rising-listed}
-use Rattle.estimate.proofs.ScenarioValues.{scenario-read}
-use Rattle.screening.specs.Screening.{refined_value}
-use Rattle.screening.proofs.Refining.{refined-kept, refined-left, Refining, refining-none, refining-next, refined-screened}
+use Prim.Native.Nat.{◌-◌, ◌≤◌}
+use Rattle.screening.proofs.Refining.{Refining}
 use Rattle.screening.proofs.refine.refine.Given as goal
 
 abbrev pub invariant-loop-s : goal.invariant-loop-s

@@ -1,7 +1,4 @@
 -- `screening::screen::kept_of` meets its contract.
-use borrow.Author.Rules.{rules}
-use mathlib.Core.Logic.{⊎_elim}
-use Prim.Native.Nat.{◌-◌, ◌≤◌}
 use native.Mathlib.Omega.{arith}
 use Rattle.screening.proofs.screen.kept_of.Goals as goal
 use Rattle.screening.proofs.screen.kept_of.Goals.{then-values-s, else-values-s}

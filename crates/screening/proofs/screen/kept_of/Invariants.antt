@@ -1,8 +1,5 @@
 -- `screening::screen::kept_of` meets its contract.
-use borrow.Author.Rules.{rules}
-use mathlib.Core.Logic.{⊎_elim}
 use Prim.Native.Nat.{◌-◌, ◌≤◌}
-use native.Mathlib.Omega.{arith}
 use Rattle.screening.proofs.screen.kept_of.Given as goal
 
 abbrev pub invariant-loop-s : goal.invariant-loop-s

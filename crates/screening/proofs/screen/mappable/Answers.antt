@@ -1,5 +1,4 @@
 -- `screening::screen::mappable` meets its contract.
-use borrow.Author.Rules.{rules}
 use mathlib.Core.Bool.{false≢true}
 use Rattle.screening.proofs.screen.mappable.Goals as goal
 

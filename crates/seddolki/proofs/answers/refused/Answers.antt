@@ -1,5 +1,4 @@
 -- `seddolki::answers::refused` meets its contract.
-use borrow.Author.Rules.{rules}
 use Rattle.seddolki.proofs.answers.refused.Goals as goal
 
 pub returns : goal.returns

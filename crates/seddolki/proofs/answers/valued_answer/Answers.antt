@@ -1,5 +1,4 @@
 -- `seddolki::answers::valued_answer` meets its contract: each arm knows its case of the enum.
-use borrow.Author.Rules.{rules}
 use Rattle.seddolki.proofs.answers.valued_answer.Goals as goal
 
 pub returns-in-Worth : goal.returns-in-Worth

@@ -1,5 +1,4 @@
 -- `seddolki::answers::verdict_answer` meets its contract: each arm knows its case of the enum.
-use borrow.Author.Rules.{rules}
 use Rattle.seddolki.proofs.answers.verdict_answer.Goals as goal
 
 pub returns-in-Accepted : goal.returns-in-Accepted

@@ -1,5 +1,4 @@
 -- `seddolki::answers::written_answer` meets its contract: each arm knows its case of the enum.
-use borrow.Author.Rules.{rules}
 use Rattle.seddolki.proofs.answers.written_answer.Goals as goal
 
 pub returns-in-Length : goal.returns-in-Length

@@ -1,5 +1,4 @@
 -- `text::columns::put_amount` meets its contract.
-use borrow.Author.Rules.{rules}
 use Rattle.layout.proofs.Signed.{code_read}
 use Rattle.text.proofs.columns.put_amount.Goals as goal
 

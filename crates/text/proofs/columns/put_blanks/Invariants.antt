@@ -1,11 +1,7 @@
 -- `text::columns::put_blanks` meets its contract: the blanks written and those left to write are together all.
-use mathlib.Core.Path.{◌≡◌}
-use Prim.Native.Nat.{◌+◌, ◌-◌, ◌≤◌}
-use native.Mathlib.Omega.{arith}
-use borrow.Author.Rules.{rules}
+use Prim.Native.Nat.{◌-◌, ◌≤◌}
 use Rattle.text.specs.Columns.{blanks}
-use Rattle.text.proofs.Amounts.{blanks-next}
-use Rattle.text.proofs.Writing.{TextLeft, text-all, text-next, text-none, written_byte}
+use Rattle.text.proofs.Writing.{TextLeft}
 use Rattle.text.proofs.columns.put_blanks.Given as goal
 
 abbrev pub invariant-loop-next : goal.invariant-loop-next

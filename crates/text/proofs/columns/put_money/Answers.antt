@@ -1,9 +1,8 @@
 -- `text::columns::put_money` meets its contract: its parts, one behind the other.
 use mathlib.Core.Path.{◌≡◌}
-use Prim.Native.Nat.{◌+◌, ◌/◌, ◌%◌, ◌≤◌}
+use Prim.Native.Nat.{◌+◌, ◌/◌, ◌%◌}
 use native.Mathlib.Omega.{arith}
-use borrow.Author.Rules.{rules}
-use lib.ListN.{length, length-set}
+use lib.ListN.{length-set}
 use Rattle.text.specs.Text.{ascii}
 use Rattle.text.specs.Columns.{money_text}
 use Rattle.text.proofs.Digits.{decimal-one}

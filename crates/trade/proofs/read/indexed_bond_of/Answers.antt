@@ -1,5 +1,4 @@
 -- `trade::read::indexed_bond_of` meets its contract.
-use borrow.Author.Rules.{rules}
 use Rattle.trade.proofs.read.indexed_bond_of.Goals as goal
 
 pub returns : goal.returns

@@ -1,5 +1,4 @@
 -- `trade::read::outright_of` meets its contract.
-use borrow.Author.Rules.{rules}
 use Rattle.trade.proofs.read.outright_of.Goals as goal
 
 pub returns : goal.returns

@@ -1,5 +1,4 @@
 -- `trade::read::repo_of` meets its contract.
-use borrow.Author.Rules.{rules}
 use Rattle.trade.proofs.read.repo_of.Goals as goal
 
 pub returns : goal.returns

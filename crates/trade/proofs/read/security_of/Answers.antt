@@ -1,6 +1,5 @@
 -- `trade::read::security_of` meets its contract.
 use Rattle.trade.specs.Read.{security_of}
-use borrow.Author.Rules.{rules}
 use Rattle.trade.proofs.read.security_of.Goals as goal
 
 pub returns : goal.returns

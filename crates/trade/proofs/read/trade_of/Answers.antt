@@ -1,6 +1,5 @@
 -- `trade::read::trade_of` meets its contract.
 use Rattle.trade.specs.Read.{trade_of}
-use borrow.Author.Rules.{rules}
 use Rattle.trade.proofs.read.trade_of.Goals as goal
 
 pub returns : goal.returns

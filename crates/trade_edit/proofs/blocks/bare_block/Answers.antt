@@ -1,6 +1,5 @@
 -- `trade_edit::blocks::bare_block` meets its contract.
 use Rattle.trade_edit.specs.Blocks.{bare_block}
-use borrow.Author.Rules.{rules}
 use Rattle.trade_edit.proofs.blocks.bare_block.Goals as goal
 
 pub returns : goal.returns

@@ -4,7 +4,6 @@ use mathlib.Core.List.{List, ◌∷◌}
 use Prim.Native.Nat.{ℕ, zero, suc}
 use lib.ListN.{replicate}
 use Rattle.layout.specs.Field.{bytes_of}
-use borrow.Author.Rules.{rules}
 use Rattle.trade_edit.proofs.blocks.clear.Goals as goal
 
 bytes-zero : (n : ℕ) → bytes_of n 0 ≡ replicate n 0

@@ -2,7 +2,6 @@
 use mathlib.Core.Path.{◌∙◌}
 use lib.ListN.{length-set}
 use Rattle.trade_edit.specs.Blocks.{with_record}
-use borrow.Author.Rules.{rules}
 use Rattle.trade_edit.proofs.blocks.put_record.Goals as goal
 
 pub seal-requires : goal.seal-requires

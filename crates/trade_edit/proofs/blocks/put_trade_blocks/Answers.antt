@@ -1,6 +1,5 @@
 -- `trade_edit::blocks::put_trade_blocks` meets its contract.
 use Rattle.trade_edit.specs.Blocks.{with_trade_blocks}
-use borrow.Author.Rules.{rules}
 use Rattle.trade_edit.proofs.blocks.put_trade_blocks.Goals as goal
 
 pub returns : goal.returns

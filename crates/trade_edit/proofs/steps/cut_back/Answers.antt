@@ -7,7 +7,6 @@ use lib.ListN.{length, set, length-set}
 use Rattle.book.specs.Encode.{blocks_for}
 use Rattle.trade_edit.specs.Blocks.{with_trade_blocks, cut_back}
 use Rattle.trade_edit.proofs.StepLaws.{length-with_trade_blocks, block-left, length-cut_back, end-within}
-use borrow.Author.Rules.{rules}
 use Rattle.trade_edit.proofs.steps.cut_back.Goals as goal
 
 pub overflow_sub-used : goal.overflow_sub-used

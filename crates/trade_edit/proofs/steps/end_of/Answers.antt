@@ -1,6 +1,5 @@
 -- `trade_edit::steps::end_of` meets its contract.
 use borrow.Author.Tests.{eq-eqb, ne_eqb}
-use borrow.Author.Rules.{rules}
 use Rattle.trade_edit.proofs.steps.end_of.Goals as goal
 
 pub returns-then-n-eq0 : goal.returns-then-n-eq0

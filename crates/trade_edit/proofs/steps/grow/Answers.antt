@@ -1,7 +1,6 @@
 -- `trade_edit::steps::grow` meets its contract.
 use native.Mathlib.Omega.{arith}
 use Rattle.trade_edit.proofs.StepLaws.{grow-left}
-use borrow.Author.Rules.{rules}
 use Rattle.trade_edit.proofs.steps.grow.Goals as goal
 
 pub returns : goal.returns

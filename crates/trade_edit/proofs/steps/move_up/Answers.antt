@@ -1,12 +1,9 @@
 -- `trade_edit::steps::move_up` meets its contract.
-use mathlib.Core.Path.{◌≡◌, refl, sym, ◌∙◌}
-use Prim.Native.Nat.{◌-◌, ◌≤◌, ◌<◌}
+use mathlib.Core.Path.{refl, sym, ◌∙◌}
+use Prim.Native.Nat.{◌<◌}
 use native.Mathlib.Omega.{arith}
-use lib.ListN.{length}
-use Rattle.laws.specs.Walk.{run}
 use Rattle.laws.proofs.Walk.{run_step, run_end}
 use Rattle.trade_edit.specs.Blocks.{record_moved}
-use borrow.Author.Rules.{rules}
 use Rattle.trade_edit.proofs.steps.move_up.Goals as goal
 
 pub loop-i-init : goal.loop-i-init

@@ -1,5 +1,5 @@
 -- `trade_edit::steps::seal_blocks` meets its contract.
-use mathlib.Core.Path.{◌≡◌, refl, sym, ◌∙◌, ap}
+use mathlib.Core.Path.{refl, sym, ◌∙◌, ap}
 use Prim.Native.Nat.{◌+◌, ◌-◌, ◌*◌, ◌<◌}
 use native.Mathlib.Nat.{add-sub_cancel_left}
 use native.Mathlib.Omega.{arith}
@@ -10,7 +10,6 @@ use Rattle.layout.specs.Check.{sealed}
 use Rattle.layout.proofs.Sealed.{length-sealed}
 use Rattle.trade_edit.specs.Blocks.{block_sealed}
 use Rattle.trade_edit.proofs.StepLaws.{block-left, length-on_block}
-use borrow.Author.Rules.{rules}
 use Rattle.trade_edit.proofs.steps.seal_blocks.Goals as goal
 
 pub loop-k-init : goal.loop-k-init

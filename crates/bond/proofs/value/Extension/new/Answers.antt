@@ -1,7 +1,6 @@
 -- `bond::value::Extension::new` meets its contract.
 use mathlib.Core.Path.{refl}
 use native.Mathlib.Nat.{sub-zero}
-use borrow.Author.Rules.{rules}
 use Rattle.bond.proofs.value.Extension.new.Goals as goal
 
 pub returns : goal.returns

@@ -1,8 +1,6 @@
 -- `discount::factor::Factor::compound` meets its contract. The invariant: after i turns r is the product taken i times.
 use mathlib.Core.Path.{◌≡◌, sym, ap, ◌∙◌}
-use Prim.Native.Nat.{◌-◌, ◌≤◌}
 use native.Mathlib.Omega.{arith}
-use borrow.Author.Rules.{rules}
 use Rattle.discount.specs.Discount.{compound}
 use Rattle.discount.proofs.Compounding.{compound-le, compound-next, compound-none}
 use Rattle.discount.proofs.factor.Factor.compound.Goals as goal

@@ -1,6 +1,5 @@
 -- `discount::factor::Factor::product` meets its contract, by that of `multiply`.
 use native.Mathlib.Omega.{arith}
-use borrow.Author.Rules.{rules}
 use Rattle.decimal.proofs.Products.{product_le}
 use Rattle.discount.proofs.factor.Factor.product.Goals as goal
 

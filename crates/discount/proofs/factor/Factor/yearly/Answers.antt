@@ -1,7 +1,6 @@
 -- `discount::factor::Factor::yearly` meets its contract.
 use mathlib.Core.Path.{refl}
 use native.Mathlib.Omega.{arith}
-use borrow.Author.Rules.{rules}
 use Rattle.decimal.specs.Product.{unit}
 use Rattle.discount.specs.Discount.{million, yearly}
 use Rattle.discount.proofs.Roots.{yearly-le}

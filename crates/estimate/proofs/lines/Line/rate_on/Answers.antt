@@ -1,5 +1,4 @@
 -- `estimate::lines::Line::rate_on` meets its contract.
-use borrow.Author.Rules.{rules}
 use native.Mathlib.Omega.{arith}
 use Rattle.laws.proofs.Signed.{fits, to-u64}
 use Rattle.estimate.specs.Lines.{line_scale, rate_on}

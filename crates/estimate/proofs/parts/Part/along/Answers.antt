@@ -1,7 +1,6 @@
 -- `estimate::parts::Part::along` meets its contract: what is valued and what is left are together all.
-use borrow.Author.Rules.{rules}
 use mathlib.Core.Path.{◌≡◌, ap, ◌∙◌}
-use Prim.Native.Nat.{ℕ, ◌-◌, ◌^◌, ◌<◌}
+use Prim.Native.Nat.{ℕ, ◌^◌, ◌<◌}
 use native.Mathlib.Omega.{arith}
 use lib.IntN.{ℤ, pos, nat_abs, ◌+ℤ◌}
 use lib.ListN.{get_or}
@@ -9,7 +8,7 @@ use Rattle.laws.proofs.Signed.{cast, read, read_is, fits, back}
 use Rattle.netting.specs.Netting.{worth, cheap_on}
 use Rattle.estimate.specs.Lines.{rate_on}
 use Rattle.estimate.specs.Values.{most_size}
-use Rattle.estimate.proofs.LineDays.{cheap-worth, Going, going-first, going_end, going-day, amount-most, sum-size, going_next}
+use Rattle.estimate.proofs.LineDays.{cheap-worth, going-first, going_end, going-day, amount-most, sum-size, going_next}
 use Rattle.estimate.proofs.parts.Part.along.Goals as goal
 use Rattle.estimate.proofs.parts.Part.along.Goals.{After-day_value-value, After-shared_slice_known-in-loop-i-1, After-struct_told-1, At-loop-i, In-loop-i, Start}
 
