@@ -38,4 +38,4 @@ listing n m =
 
 -- a refused one: "one line only, "refused", number and block, a blank apart"
 unfoldable pub refused_line : ℕ → ℕ → List ℕ
-refused_line ground block = figure "refused " ground ++ figure " " block ++ ascii "\n"
+refused_line number block = figure "refused " number ++ figure " " block ++ ascii "\n"

@@ -116,13 +116,13 @@ pub fn write_listing(out: &mut [u8], count: usize, m: Margin) -> usize
 }
 
 // The text of a refused book.
-pub fn write_refused(out: &mut [u8], ground: u64, block: u64) -> usize
+pub fn write_refused(out: &mut [u8], number: u64, block: u64) -> usize
     requires { 50 ≤ length out.old }
-    ensures value { result ≡ length (refused_line ground block) }
-    ensures out_after { out.new ≡ refused_line ground block ++ drop result out.old }
+    ensures value { result ≡ length (refused_line number block) }
+    ensures out_after { out.new ≡ refused_line number block ++ drop result out.old }
     ensures upper_bound { result ≤ 50 }
 {
-    let next = put_number(out, 0, b"refused ", ground);
+    let next = put_number(out, 0, b"refused ", number);
     let end = put_number(out, next, b" ", block);
     put_text(out, end, b"\n")
 }

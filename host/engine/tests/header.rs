@@ -14,8 +14,9 @@ use declared::{Field, Header};
 use layouts::layouts;
 use std::collections::BTreeSet;
 
+// The nine calls, and the version that the archive tells.
 #[test]
-fn the_functions_are_declared() {
+fn the_nine_functions_are_declared() {
     let functions = [
         "version",
         "check",
