@@ -12,11 +12,6 @@ use ground::Written;
 use std::io;
 use std::io::{Read, Write};
 
-// The text's space always suffices.
-fn refused()
-    requires { ⊥ }
-{}
-
 // Reads until the space is full or the input ends, and answers how many bytes it put at the space's start: the input's next.
 fn read_full<R: Read>(input: &mut R, space: &mut [u8]) -> io::Result<usize>
     ensures bound { ReadsAtMost result space.new }
@@ -45,8 +40,9 @@ fn print_listing<R: Read, W: Write>(input: &mut R, output: &mut W) -> io::Result
     let written = book_text::list_text(&book[..used], used, &mut text);
     match written {
         Written::Length(n) => output.write_all(&text[..n]),
+        // The text's space always suffices.
         Written::Refused(_, _) => {
-            refused();
+            prove!(false);
             Ok(())
         }
     }

@@ -18,8 +18,8 @@ slice_bounds-write_all-end g c =
     let n = length-listed _ _ _ c.list_text-written.ensures.value (search rules) c.in-Length.is in
     sym (length-take-le _ _ (search rules))
 
-pub refused-requires : goal.refused-requires
-refused-requires g c = never-refused _ _ _ c.list_text-written.ensures.value (search rules) c.in-Refused.is
+pub prove-unreachable-requires : goal.prove-unreachable-requires
+prove-unreachable-requires g c = never-refused _ _ _ c.list_text-written.ensures.value (search rules) c.in-Refused.is
 
 pub returns-in-Length : goal.returns-in-Length
 returns-in-Length g c =
