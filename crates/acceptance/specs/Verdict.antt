@@ -1,18 +1,19 @@
 -- The whole-book check: "a book is accepted if no ground tested on a book applies to it" (document 01, "The words of demand 3"). It is given a
 -- day or not; entries that are lent a book begin with it.
-use Rattle.std.specs.Prelude.{ℕ, Bool, false, not, List, [], ◌∷◌, eqb}
+use Rattle.std.specs.Prelude.{ℕ, Bool, false, not, List, [], ◌∷◌, eqb, Option, None, Some}
 use Rattle.ground.specs.declared.Ground.TheVariants.{ValuationDay}
-use Rattle.ground.specs.declared.Verdict.{Verdict}
-use Rattle.ground.specs.Verdicts.{or_else, Rule, first_broken}
+use Rattle.ground.specs.Verdicts.{Verdict, or_else, Rule, first_broken}
 use Rattle.book.specs.Parts.{Parts, parts_of}
 use Rattle.book.specs.Verdict.{blocks_verdict}
-use Rattle.acceptance.specs.declared.Today.{Today}
-use Rattle.acceptance.specs.declared.Today.TheVariants.{Given, NotGiven}
+
+-- the current day where an entry is given one, in days since 1 January 2000
+abbrev pub Today : Type 0
+Today = Option ℕ
 
 -- 19. "when the days differ": the book's valuation day, and the current day where one is given
 unfoldable pub breaks_valuation_day : ℕ → Today → Bool
-breaks_valuation_day day (Given today) = not (eqb day today)
-breaks_valuation_day day NotGiven = false
+breaks_valuation_day day (Some today) = not (eqb day today)
+breaks_valuation_day day None = false
 
 -- what is asked of a book as a whole is asked of its parts: "all numbers from 17 on answer block 0"
 abbrev pub book_rules : Parts → Today → List Rule

@@ -31,10 +31,7 @@ module _ {nodes : List Node} {n : Node} {payments : List Flow} {cash : ℕ} wher
   }
 
   module _ {low high : ℕ} (h : Left nodes n payments cash low high) where
-    -- the rates up to one that is enough, or those above one that is not
-    pub left-low : (middle : ℕ) → low ≤ middle → middle ≤ high → bond_value_at nodes n payments middle ≤ cash → Left nodes n payments cash low middle
-    left-low middle l m enough = record { order = l; limit = omega arith; above = h.above; enough = enough }
-
+    -- the rates above one that is not enough
     pub left-high : (middle : ℕ) → middle < high → cash < bond_value_at nodes n payments middle → Left nodes n payments cash (middle + 1) high
     left-high middle m more = record {
       order = omega arith;

@@ -1,32 +1,21 @@
 -- How many payments fall up to a day.
-use Prim.Native.Nat.{ℕ, ◌+◌, ◌≤◌, ◌<◌}
+use Prim.Native.Nat.{ℕ, ◌≤◌, ◌<◌}
 use native.Mathlib.Nat.{mul-le-mul_right}
 use native.Mathlib.Omega.{arith}
-use borrow.Author.Count.{below_more}
+use Rattle.std.specs.Prelude.{Option, Some, None, MatchOption, unwrap_or}
 use Rattle.legs.specs.declared.Leg.{Leg}
 use Rattle.legs.specs.Runs.{flow_of}
 use Rattle.bond.specs.Limits.{PaymentsUpTo}
 
--- the first k do
-pub record Walked (l : Leg) (day k : ℕ) : Type 0 where
-  pub most : k ≤ l.count
-  pub before : (i : ℕ) → i < k → (flow_of l i).day ≤ day
-
 module _ {l : Leg} {day : ℕ} where
-  pub walked_none : Walked l day 0
-  walked_none = record { most = omega arith; before = λ i b. absurd (omega arith) }
-
-  module _ {k : ℕ} (h : Walked l day k) where
-    pub walked_next : k < l.count → (flow_of l k).day ≤ day → Walked l day (k + 1)
-    walked_next m le = record { most = omega arith; before = below_more _ _ h.before le }
-
-    -- and the next does not, so no later one does
-    pub reached-here : day < (flow_of l k).day → PaymentsUpTo l day k
-    reached-here less = record {
-      most = h.most;
-      before = h.before;
-      behind = λ i a b. omega (arith, mul-le-mul_right l.period a);
-    }
-
-    pub reached-all : l.count ≤ k → PaymentsUpTo l day k
-    reached-all m = record { most = h.most; before = h.before; behind = λ i a b. absurd (omega arith) }
+  -- up to the first that does not, since no later one does; all, where there is none
+  pub first-behind : (r : Option ℕ)
+      → MatchOption r ((k : ℕ) → 0 ≤ k → k < l.count → (flow_of l k).day ≤ day) (λ i. (0 ≤ i) × (i < l.count) × (day < (flow_of l i).day) × ((k : ℕ) → 0 ≤ k → k < i → (flow_of l k).day ≤ day))
+      → PaymentsUpTo l day (unwrap_or r l.count)
+  first-behind None h = record { most = omega arith; before = λ i b. h i (omega arith) b; behind = λ i a b. absurd (omega arith) }
+  first-behind (Some n) h =
+      record {
+        most = omega arith;
+        before = λ i b. h.3 i (omega arith) b;
+        behind = λ i a b. omega (arith, h.2, mul-le-mul_right l.period a);
+      }

@@ -92,10 +92,6 @@ module _ (l : Leg) (h : PaymentLimits l) where
       let f = flow_of l k in
       omega (arith, value-le f.amount (rate_at nodes f.day) f.day, payment-most k, value-most nodes (suc k) n, suc-mul n unit)
 
--- as the code holds it
-pub payment-kept : {l : Leg} {f : Flow} {k : ℕ} → PaymentLimits l → f ≡ flow_of l k → k < l.count → (f.amount ≤ unit) × (f.day ≤ last_day)
-payment-kept h e g = rw e (payment-most _ h _, payment-day-most _ h _ g)
-
 -- ---- on a curve
 
 -- its rates can be discounted at

@@ -13,6 +13,7 @@ use crate::value::Extension;
 const HIGHEST: u64 = 1_000_000;
 
 // Ground 18.
+#[tactic(auto, unfolding(crate::specs::Value::breaks_rate_range))]
 pub fn breaks_rate_range(e: Extension, cash: u64, tables: &[u64]) -> bool
     requires { Prepared e × Tables tables.now }
     ensures { result ≡ breaks_rate_range (nodes_of e.curve) e.node (leg_flows e.payments) cash }
@@ -22,7 +23,7 @@ pub fn breaks_rate_range(e: Extension, cash: u64, tables: &[u64]) -> bool
     (cash < least) | (most < cash)
 }
 
-// Halves the rates that are left: below `low` the bond is worth more than the cash, at `high` it is not.
+// Halves the rates that are left: below `low` the bond is worth more than the cash, at `high` it is not. No range has a method that halves it.
 pub fn rate_for(e: Extension, cash: u64, tables: &[u64]) -> u64
     requires prepared { Prepared e × Tables tables.now }
     requires cash_value { breaks_rate_range (nodes_of e.curve) e.node (leg_flows e.payments) cash ≡ false }

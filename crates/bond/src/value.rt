@@ -1,5 +1,5 @@
 // The present value of a bond's payments on a curve.
-ghost use Rattle.std.specs.Prelude.{◌≡◌, true, ◌+◌, ◌-◌, ◌≤◌, ◌<◌};
+ghost use Rattle.std.specs.Prelude.{◌≡◌, ◌+◌, ◌-◌, ◌≤◌, ◌<◌, IfSome};
 ghost use Rattle.laws.specs.Walk.{table};
 ghost use Rattle.ground.specs.Limits.{last_day};
 ghost use Rattle.decimal.specs.Product.{unit};
@@ -16,7 +16,7 @@ use decimal::round::discounted;
 use discount::Flow;
 use discount::pair::factors;
 use discount::value::present_value;
-use fine::value::{FineValue, fine_value_at};
+use fine::value::fine_value_at;
 use legs::Leg;
 
 // Payment k of a leg.
@@ -24,15 +24,11 @@ fn payment(l: Leg, k: u64) -> Flow
     requires { PaymentLimits l × (k < l.count) }
     ensures { result ≡ flow_of l k }
 {
-    let mut amount = l.each;
-    if k + 1 == l.count {
-        amount = l.last;
-    }
     Flow {
         curve: l.curve,
         day: l.first + k * l.period,
         received: l.received,
-        amount: amount,
+        amount: if k + 1 == l.count { l.last } else { l.each },
     }
 }
 
@@ -41,22 +37,15 @@ fn payments_up_to(l: Leg, day: u64) -> u64
     requires { PaymentLimits l }
     ensures { PaymentsUpTo l day result }
 {
-    let n = l.count;
-    let mut k: u64 = 0;
-    while k < n {
-        let f = payment(l, k);
-        if day < f.day {
-            return k;
-        }
-        k += 1;
-    }
-    k
+    (0..l.count)
+        .find(|k| day < payment(l, *k).day)
+        .unwrap_or(l.count)
 }
 
 // The value of a payment where it is known from the tables.
-fn fine_value_of(c: Curve, f: Flow, tables: &[u64]) -> FineValue
+fn fine_value_of(c: Curve, f: Flow, tables: &[u64]) -> Option<u64>
     requires { ProperCurve c × (f.amount ≤ unit) × (f.day ≤ last_day) × Tables tables.now }
-    ensures { result.known ≡ true → result.value ≡ flow_value (rate_at (nodes_of c)) f }
+    ensures { IfSome result (λ v. v ≡ flow_value (rate_at (nodes_of c)) f) }
 {
     fine_value_at(tables, f.amount, c.rate_at(f.day), f.day)
 }
@@ -66,11 +55,10 @@ fn value_of(c: Curve, f: Flow, tables: &[u64]) -> u64
     requires { ProperCurve c × (f.amount ≤ unit) × (f.day ≤ last_day) × Tables tables.now }
     ensures { result ≡ flow_value (rate_at (nodes_of c)) f }
 {
-    let found = fine_value_of(c, f, tables);
-    if found.known {
-        return found.value;
+    match fine_value_of(c, f, tables) {
+        Some(value) => value,
+        None => present_value(f.amount, c.rate_at(f.day), f.day),
     }
-    present_value(f.amount, c.rate_at(f.day), f.day)
 }
 
 // The value of two payments by their factors, which are found side by side: that takes little longer than one.
@@ -79,9 +67,7 @@ fn value_by_factors(c: Curve, f: Flow, g: Flow) -> u64
     ensures { result ≡ flow_value (rate_at (nodes_of c)) f + flow_value (rate_at (nodes_of c)) g }
 {
     let both = factors(c.rate_at(f.day), f.day, c.rate_at(g.day), g.day);
-    let first = both.first;
-    let second = both.second;
-    discounted(f.amount, first.0) + discounted(g.amount, second.0)
+    discounted(f.amount, both.first.0) + discounted(g.amount, both.second.0)
 }
 
 // The value of two payments.
@@ -89,12 +75,10 @@ fn value_of_two(c: Curve, f: Flow, g: Flow, tables: &[u64]) -> u64
     requires { ProperCurve c × (f.amount ≤ unit) × (g.amount ≤ unit) × (f.day ≤ last_day) × (g.day ≤ last_day) × Tables tables.now }
     ensures { result ≡ flow_value (rate_at (nodes_of c)) f + flow_value (rate_at (nodes_of c)) g }
 {
-    let first = fine_value_of(c, f, tables);
-    let second = fine_value_of(c, g, tables);
-    if first.known & second.known {
-        return first.value + second.value;
+    match (fine_value_of(c, f, tables), fine_value_of(c, g, tables)) {
+        (Some(first), Some(second)) => first + second,
+        _ => value_by_factors(c, f, g),
     }
-    value_by_factors(c, f, g)
 }
 
 // The value of the payments from one up to, not including, another: two at a time, and the last alone where one is left.
@@ -102,17 +86,14 @@ fn value_between(c: Curve, l: Leg, from: u64, to: u64, tables: &[u64]) -> u64
     requires { ProperCurve c × PaymentLimits l × (from ≤ to) × (to ≤ l.count) × Tables tables.now }
     ensures { result ≡ bond_value (nodes_of c) (table (flow_of l) from (to - from)) }
 {
-    let mut sum: u64 = 0;
-    let mut k = from;
-    while k + 1 < to {
+    let mut sum = 0;
+    for k in (from..to).step_by(2) {
         let f = payment(l, k);
-        let g = payment(l, k + 1);
-        sum += value_of_two(c, f, g, tables);
-        k += 2;
-    }
-    if k < to {
-        let f = payment(l, k);
-        return sum + value_of(c, f, tables);
+        sum += if k + 1 < to {
+            value_of_two(c, f, payment(l, k + 1), tables)
+        } else {
+            value_of(c, f, tables)
+        };
     }
     sum
 }
@@ -139,8 +120,8 @@ impl Extension {
             curve: c,
             node: n,
             payments: l,
-            within: within,
-            known: known,
+            within,
+            known,
         }
     }
 
@@ -149,10 +130,8 @@ impl Extension {
         requires { Prepared self × (rate ≤ highest_rate) × Tables tables.now }
         ensures { result ≡ bond_value_at (nodes_of self.curve) self.node (leg_flows self.payments) rate }
     {
-        let c = self.curve;
-        let n = self.node;
         let l = self.payments;
-        let longer = c.lengthened(n.at_rate(rate));
+        let longer = self.curve.lengthened(self.node.at_rate(rate));
         self.known + value_between(longer, l, self.within, l.count, tables)
     }
 }

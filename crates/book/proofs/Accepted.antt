@@ -8,8 +8,8 @@ use native.Mathlib.Omega.{arith}
 use borrow.Author.Tests.{ne_eqb}
 use lib.Dec.{eqb}
 use lib.ListN.{length}
+use Rattle.std.specs.Prelude.{Ok}
 use Rattle.ground.specs.declared.Ground.TheVariants.{Length}
-use Rattle.ground.specs.declared.Verdict.TheVariants.{Accepted}
 use Rattle.layout.proofs.Bytes.{length_part}
 use Rattle.ground.proofs.Verdicts.{unless-accepted}
 use Rattle.curve_block.specs.Verdict.{curve_verdict}
@@ -31,19 +31,19 @@ pub record Sound (s : List ℕ) (used : ℕ) : Type 0 where
   pub least : 1 ≤ curve_count s
   pub most : curve_count s ≤ 8
   pub header : HeaderSound (block_at s 0) (1 + curve_count s + trade_blocks s)
-  pub curve : (k : ℕ) → k < curve_count s → curve_verdict (block_at s (1 + k)) (1 + k) ≡ Accepted
+  pub curve : (k : ℕ) → k < curve_count s → curve_verdict (block_at s (1 + k)) (1 + k) ≡ Ok tt
   pub trades : (j : ℕ) → j < trade_blocks s →
       TradesSound (curves_of s) (block_at s (1 + curve_count s + j)) (1 + curve_count s + j) (eqb (1 + curve_count s + j + 1) (1 + curve_count s + trade_blocks s))
 
-module _ (s : List ℕ) (used : ℕ) (h : blocks_verdict s used ≡ Accepted) where
-  pub length-passed : (breaks_length used (length s) ≡ false) × (first_of (block_verdict s (used / 512)) 0 (used / 512) ≡ Accepted)
+module _ (s : List ℕ) (used : ℕ) (h : blocks_verdict s used ≡ Ok tt) where
+  pub length-passed : (breaks_length used (length s) ≡ false) × (first_of (block_verdict s (used / 512)) 0 (used / 512) ≡ Ok tt)
   unfolding blocks_verdict
-  length-passed = unless-accepted (breaks_length used (length s)) Length 0 _ h
+  length-passed = unless-accepted (breaks_length used (length s)) Length 0 _ tt h
 
   fits : Long used (length s)
   fits = long used (length s) length-passed.0
 
-  pub block-passed : (k : ℕ) → k < used / 512 → block_verdict s (used / 512) k ≡ Accepted
+  pub block-passed : (k : ℕ) → k < used / 512 → block_verdict s (used / 512) k ≡ Ok tt
   block-passed k l = first-at (block_verdict s (used / 512)) 0 (used / 512) length-passed.1 k (omega arith) (omega arith)
 
   headed : HeaderSound (block_at s 0) (used / 512)
@@ -74,7 +74,7 @@ module _ (s : List ℕ) (used : ℕ) (h : blocks_verdict s used ≡ Accepted) wh
 -- ---- its curves
 
 module _ (s : List ℕ) (used : ℕ) (b : Sound s used) (k : ℕ) (least : 1 ≤ k) (most : k ≤ curve_count s) where
-  pub curve-block-accepted : curve_verdict (block_at s k) k ≡ Accepted
+  pub curve-block-accepted : curve_verdict (block_at s k) k ≡ Ok tt
   curve-block-accepted = let e : 1 + (k - 1) ≡ k = omega arith in ap (λ (j : ℕ). curve_verdict (block_at s j) j) (sym e) ∙ b.curve (k - 1) (omega arith)
 
   -- a curve's block breaks nothing
@@ -132,7 +132,7 @@ module _ (s : List ℕ) (used : ℕ) (b : Sound s used) where
       (p, omega (arith, held (i / 9) p))
 
   -- every record is accepted, in its block
-  pub accepted-record : (i : ℕ) → i < trade_count s → bytes_verdict (curves_of s) (record_at s i) (1 + curve_count s + i / 9) ≡ Accepted
+  pub accepted-record : (i : ℕ) → i < trade_count s → bytes_verdict (curves_of s) (record_at s i) (1 + curve_count s + i / 9) ≡ Ok tt
   unfolding record_at
   accepted-record i l = let p = place-held i l in (b.trades (i / 9) p.0).each (i % 9) p.1
 

@@ -4,8 +4,8 @@ use mathlib.Core.List.{List, ◌++◌}
 use Prim.Native.Nat.{ℕ, ◌+◌, ◌*◌, ◌/◌, ◌%◌, ◌<◌}
 use native.Mathlib.Omega.{arith}
 use lib.ListN.{length, take, drop, length-take, take-append-drop}
+use Rattle.std.specs.Prelude.{Ok}
 use Rattle.laws.proofs.Tables.{table_same, table-part}
-use Rattle.ground.specs.declared.Verdict.TheVariants.{Accepted}
 use Rattle.layout.specs.Bytes.{AreBytes}
 use Rattle.layout.proofs.Bytes.{bytes-part}
 use Rattle.book.specs.Parts.{block_at, header_of, curve_count, trade_blocks, curve_blocks, curves_of, record_count, record_in, trade_count, record_at, records}
@@ -87,7 +87,7 @@ module _ (s : List ℕ) (used : ℕ) (bytes : AreBytes s) (b : Sound s used) whe
       }
 
 -- every byte of an accepted book is determined by its header, its curve blocks and its records
-module _ (s : List ℕ) (used : ℕ) (bytes : AreBytes s) (h : blocks_verdict s used ≡ Accepted) where
+module _ (s : List ℕ) (used : ℕ) (bytes : AreBytes s) (h : blocks_verdict s used ≡ Ok tt) where
   pub accepted-encoded : take used s ≡ encode (header_of s) (curve_blocks s) (records s)
   accepted-encoded = sound-encoded s used bytes (sound s used h)
 

@@ -3,7 +3,7 @@ use mathlib.Core.Path.{◌≡◌, sym, ap, ◌∙◌}
 use mathlib.Core.List.{List, ◌++◌}
 use Prim.Native.Nat.{ℕ}
 use lib.ListN.{length, take, drop, take-append-drop}
-use Rattle.ground.specs.declared.Verdict.TheVariants.{Accepted}
+use Rattle.std.specs.Prelude.{Ok}
 use Rattle.layout.specs.Bytes.{AreBytes}
 use Rattle.book.specs.Parts.{Parts, header_of, curve_count, curve_blocks, trade_count, records, parts_of}
 use Rattle.book.specs.Verdict.{blocks_verdict}
@@ -24,7 +24,7 @@ module _ (s t : List ℕ) where
   pub same-trade-count : SameBook s t → trade_count t ≡ trade_count s
   same-trade-count same = sym (length-records t) ∙ ap (λ (p : Parts). length p.trades) same ∙ length-records s
 
-  module _ (used : ℕ) (bytes : AreBytes s) (ok : blocks_verdict s used ≡ Accepted) (same : take used t ≡ take used s) where
+  module _ (used : ℕ) (bytes : AreBytes s) (ok : blocks_verdict s used ≡ Ok tt) (same : take used t ≡ take used s) where
     abbrev book : List ℕ
     book = book_of (parts_of s)
 
@@ -37,7 +37,7 @@ module _ (s t : List ℕ) where
     pub same-book : SameBook s t
     same-book = ap parts_of lent ∙ parts-encoded (header_of s) (curve_blocks s) (records s) (sound-encodable s used bytes (sound s used ok)) rest
 
-    pub copy-accepted : blocks_verdict t used ≡ Accepted
+    pub copy-accepted : blocks_verdict t used ≡ Ok tt
     copy-accepted =
         let b = sound s used ok in
         ap (λ (x : List ℕ). blocks_verdict x used) lent

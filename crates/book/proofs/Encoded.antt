@@ -9,10 +9,10 @@ use borrow.Author.Tests.{eqb-false}
 use lib.Dec.{eqb}
 use lib.ListN.{length, take, drop, get_or, length-append, length-take, length-drop, get_or-append}
 use lib.Seq.{get_or-append-add, get_or-take, get_or-drop}
+use Rattle.std.specs.Prelude.{Ok}
 use Rattle.laws.specs.Walk.{table}
 use Rattle.laws.proofs.Walk.{length-table, get_d-table}
 use Rattle.laws.proofs.Tables.{Each, length-flatten, part-flatten, flatten-parts, table_same, table_of, table-by}
-use Rattle.ground.specs.declared.Verdict.TheVariants.{Accepted}
 use Rattle.curve_block.specs.Verdict.{curve_verdict}
 use Rattle.book.specs.Parts.{Header, block_at, header_of, curve_count, trade_blocks, curve_blocks, curves_in, curves_of, trade_count, record_at, records, parts_of}
 use Rattle.book.specs.Verdict.{bytes_verdict, block_verdict, blocks_verdict}
@@ -35,8 +35,8 @@ pub record Encodable (header : Header) (cs rs : List (List ℕ)) : Type 0 where
 
 -- and what it must be made of: curve blocks and records that are accepted, a record in whatever block
 pub record Acceptable (cs rs : List (List ℕ)) : Type 0 where
-  pub curve : (k : ℕ) → k < length cs → curve_verdict (get_or cs k []) (1 + k) ≡ Accepted
-  pub trade : (i : ℕ) → i < length rs → (block : ℕ) → bytes_verdict (curves_in cs) (get_or rs i []) block ≡ Accepted
+  pub curve : (k : ℕ) → k < length cs → curve_verdict (get_or cs k []) (1 + k) ≡ Ok tt
+  pub trade : (i : ℕ) → i < length rs → (block : ℕ) → bytes_verdict (curves_in cs) (get_or rs i []) block ≡ Ok tt
 
 -- ---- nine records to a block
 
@@ -222,10 +222,10 @@ module _ (header : Header) (cs rs : List (List ℕ)) (fine : Encodable header cs
           })
           (λ i b. rw (nine-at rs j i (omega arith)) (good.trade (j * 9 + i) (omega arith) (1 + length cs + j)))
 
-      block-accepted : (k : ℕ) → k < total → block_verdict s total k ≡ Accepted
+      block-accepted : (k : ℕ) → k < total → block_verdict s total k ≡ Ok tt
       block-accepted =
           let c = curve-count-encoded in
-          each-block (length cs) (blocks_for (length rs)) (λ k. block_verdict s total k ≡ Accepted)
+          each-block (length cs) (blocks_for (length rs)) (λ k. block_verdict s total k ≡ Ok tt)
           (first_block s total
           ∙ rw at-header
           (accepted-header _ _ (header-breaks-nothing header (length cs) (blocks_for (length rs)) fine.least fine.most (omega (arith, fine.within)))))
@@ -235,7 +235,7 @@ module _ (header : Header) (cs rs : List (List ℕ)) (fine : Encodable header cs
           ∙ rw (curves-of-encoded, at-trade j l) (accepted-trades _ _ _ _ (trade-sound j l)))
 
       -- an encoding of curve blocks and records that are accepted is accepted
-      pub encoded-accepted : blocks_verdict s (length (encode header cs rs)) ≡ Accepted
+      pub encoded-accepted : blocks_verdict s (length (encode header cs rs)) ≡ Ok tt
       encoded-accepted =
           let n = length-encode in
           let m = length-append (encode header cs rs) rest in

@@ -8,8 +8,8 @@ use native.Mathlib.Decide.{ℕ_discrete, dec_lt}
 use native.Mathlib.Omega.{arith}
 use lib.ListN.{length, get_or, set, length-set}
 use lib.Seq.{ext_get_or, get_or-set_same, get_or-set_other}
+use Rattle.std.specs.Prelude.{Ok}
 use Rattle.laws.proofs.Tables.{table_same}
-use Rattle.ground.specs.declared.Verdict.TheVariants.{Accepted}
 use Rattle.layout.specs.Bytes.{put}
 use Rattle.layout.specs.Field.{number_at}
 use Rattle.layout.proofs.Bytes.{length-put}
@@ -26,18 +26,18 @@ use Rattle.book.proofs.Accepted.{Sound, length-passed, block-passed, sound, plac
 
 -- t is s with b for curve block k
 pub record Replaced (s t : List ℕ) (used k : ℕ) (b : List ℕ) : Type 0 where
-  pub accepted : blocks_verdict t used ≡ Accepted
+  pub accepted : blocks_verdict t used ≡ Ok tt
   pub parts : parts_of t ≡ with_curve (parts_of s) k b
   pub block : block_at t k ≡ b
   pub others : (j : ℕ) → j * 512 < used → (j ≡ k → ⊥) → block_at t j ≡ block_at s j
 
 -- a block that may take its place
 pub record Replaceable (s : List ℕ) (used k : ℕ) (b : List ℕ) : Type 0 where
-  pub book : blocks_verdict s used ≡ Accepted
+  pub book : blocks_verdict s used ≡ Ok tt
   pub first : 1 ≤ k
   pub last : k ≤ curve_count s
   pub long : length b ≡ 512
-  pub accepted : curve_verdict b k ≡ Accepted
+  pub accepted : curve_verdict b k ≡ Ok tt
   pub currency : currency_of b ≡ currency_of (block_at s k)
 
 module _ (s : List ℕ) (used k : ℕ) (b : List ℕ) (fine : Replaceable s used k b) where
@@ -134,7 +134,7 @@ module _ (s : List ℕ) (used k : ℕ) (b : List ℕ) (fine : Replaceable s used
   verdict-same n j l other =
       rw (elsewhere 0 (omega arith) (λ e. omega (arith, fine.first)), curves-same, currencies-same, elsewhere j l other)
 
-  block-accepted : (j : ℕ) → j < used / 512 → Dec (j ≡ k) → block_verdict t (used / 512) j ≡ Accepted
+  block-accepted : (j : ℕ) → j < used / 512 → Dec (j ≡ k) → block_verdict t (used / 512) j ≡ Ok tt
   block-accepted j l (yes e) =
       rw e (curve-place t (used / 512) k fine.first (rw curves-same fine.last) ∙ rw at-curve fine.accepted)
   block-accepted j l (no e) = verdict-same (used / 512) j (omega (arith, held.blocks)) e ∙ block-passed s used fine.book j l

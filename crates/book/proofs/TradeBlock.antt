@@ -6,10 +6,10 @@ use Prim.Native.Nat.{ℕ, ◌*◌, ◌≤◌, ◌<◌}
 use native.Mathlib.Nat.{zero-add}
 use native.Mathlib.Omega.{arith}
 use lib.ListN.{length, get_or}
+use Rattle.std.specs.Prelude.{Ok}
 use Rattle.laws.specs.Walk.{table}
 use Rattle.laws.proofs.Walk.{length-table, get_d-table}
 use Rattle.laws.proofs.Tables.{Each, length-flatten, part-flatten, flatten-parts, table-by}
-use Rattle.ground.specs.declared.Verdict.TheVariants.{Accepted}
 use Rattle.layout.specs.Bytes.{byte_at, part, zeros, AreBytes}
 use Rattle.layout.specs.Field.{bytes_of}
 use Rattle.layout.specs.Check.{sealed}
@@ -59,7 +59,7 @@ module _ (number : ℕ) (rs : List (List ℕ)) where
         ∙ rw named (rw append-nil at (part-flatten 56 rs [] each i l))
 
     pub trades-break-nothing : (curves : Curves) (last : Bool) → number < 65536 → Counted (length rs) last
-        → ((i : ℕ) → i < length rs → bytes_verdict curves (get_or rs i []) number ≡ Accepted)
+        → ((i : ℕ) → i < length rs → bytes_verdict curves (get_or rs i []) number ≡ Ok tt)
         → TradesSound curves (trade_block number rs) number last
     trades-break-nothing curves last h counted accepted =
         record {

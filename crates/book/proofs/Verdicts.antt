@@ -1,6 +1,6 @@
 -- What a verdict that finds nothing says, rule by rule.
 use mathlib.Core.Path.{◌≡◌, refl}
-use mathlib.Core.Bool.{Bool, true, false}
+use mathlib.Core.Bool.{Bool, false}
 use mathlib.Core.List.{List}
 use Prim.Native.Nat.{ℕ, ◌+◌, ◌-◌, ◌/◌, ◌≤◌, ◌<◌}
 use native.Mathlib.Nat.{sub-zero}
@@ -8,8 +8,9 @@ use native.Mathlib.Omega.{arith}
 use borrow.Author.Tests.{ne_eqb, le-leb, lt-leb}
 use lib.Dec.{eqb}
 use lib.ListN.{length}
-use Rattle.ground.specs.declared.Verdict.TheVariants.{Accepted}
-use Rattle.ground.specs.Verdicts.{is_accepted, first_broken}
+use Rattle.std.specs.Prelude.{Ok, Err}
+use Rattle.ground.specs.declared.Refusal.{Refusal}
+use Rattle.ground.specs.Verdicts.{first_broken}
 use Rattle.ground.proofs.Verdicts.{or_else-accepted, unbroken, in-any-block}
 use Rattle.layout.specs.Check.{breaks_check, breaks_place}
 use Rattle.curve_block.specs.Verdict.{curve_verdict}
@@ -29,12 +30,12 @@ pub record HeaderSound (b : List ℕ) (blocks : ℕ) : Type 0 where
   pub placed : breaks_place b 1 0 ≡ false
   pub counts : Headed b blocks
 
-pub header-accepted : (b : List ℕ) (blocks : ℕ) → header_verdict b blocks ≡ Accepted → HeaderSound b blocks
+pub header-accepted : (b : List ℕ) (blocks : ℕ) → header_verdict b blocks ≡ Ok tt → HeaderSound b blocks
 unfolding header_verdict
 header-accepted b n h =
     let kept = unbroken 0 (header_rules b n) h in record { checked = kept 0; placed = kept 1; counts = headed b n (kept 2) }
 
-pub accepted-header : (b : List ℕ) (blocks : ℕ) → HeaderSound b blocks → header_verdict b blocks ≡ Accepted
+pub accepted-header : (b : List ℕ) (blocks : ℕ) → HeaderSound b blocks → header_verdict b blocks ≡ Ok tt
 unfolding header_verdict
 accepted-header b n h = rw (h.checked, h.placed, header-sound b n h.counts)
 
@@ -44,12 +45,12 @@ pub record TradesSound (curves : Curves) (b : List ℕ) (k : ℕ) (last : Bool) 
   pub checked : breaks_check b ≡ false
   pub placed : breaks_place b 3 k ≡ false
   pub counts : Traded b last
-  pub each : (i : ℕ) → i < record_count b → bytes_verdict curves (record_in b i) k ≡ Accepted
+  pub each : (i : ℕ) → i < record_count b → bytes_verdict curves (record_in b i) k ≡ Ok tt
 
-pub trades-accepted : (curves : Curves) (b : List ℕ) (k : ℕ) (last : Bool) → trades_verdict curves b k last ≡ Accepted → TradesSound curves b k last
+pub trades-accepted : (curves : Curves) (b : List ℕ) (k : ℕ) (last : Bool) → trades_verdict curves b k last ≡ Ok tt → TradesSound curves b k last
 unfolding trades_verdict records_verdict
 trades-accepted curves b k last h =
-    let p = or_else-accepted (first_broken k (trades_rules b k last)) _ h in
+    let p = or_else-accepted (first_broken k (trades_rules b k last)) _ tt h in
     let kept = unbroken k (trades_rules b k last) p.0 in
     record {
       checked = kept 0;
@@ -58,7 +59,7 @@ trades-accepted curves b k last h =
       each = λ i l. first-at (λ (j : ℕ). bytes_verdict curves (record_in b j) k) 0 (record_count b) p.1 i (omega arith) (omega arith);
     }
 
-pub accepted-trades : (curves : Curves) (b : List ℕ) (k : ℕ) (last : Bool) → TradesSound curves b k last → trades_verdict curves b k last ≡ Accepted
+pub accepted-trades : (curves : Curves) (b : List ℕ) (k : ℕ) (last : Bool) → TradesSound curves b k last → trades_verdict curves b k last ≡ Ok tt
 unfolding trades_verdict records_verdict
 accepted-trades curves b k last h =
     rw (h.checked, h.placed, trade-block-sound b last h.counts)
@@ -81,13 +82,11 @@ trade-place s n k h l = rw (ne_eqb k 0 (λ e. omega arith), lt-leb k (curve_coun
 -- ---- the blocks in order
 
 -- a header that is refused is the whole answer
-pub header-stops : (s : List ℕ) (n : ℕ) → 0 < n → is_accepted (header_verdict (block_at s 0) n) ≡ false
-    → first_of (block_verdict s n) 0 n ≡ header_verdict (block_at s 0) n
-header-stops s n h e = rw (first_block s n, sub-zero) at (first-stopped (block_verdict s n) 0 n h (rw (first_block s n) e))
+pub header-stops : (s : List ℕ) (n : ℕ) {r : Refusal} → 0 < n → header_verdict (block_at s 0) n ≡ Err r → first_of (block_verdict s n) 0 n ≡ Err r
+header-stops s n {r} h e = rw sub-zero at (first-stopped (block_verdict s n) 0 n {r = r} h (rw (first_block s n) e))
 
 -- and past one that is accepted stand the blocks from 1 on
-pub header-passes : (s : List ℕ) (n : ℕ) → 0 < n → is_accepted (header_verdict (block_at s 0) n) ≡ true
-    → first_of (block_verdict s n) 0 n ≡ first_of (block_verdict s n) 1 (n - 1)
+pub header-passes : (s : List ℕ) (n : ℕ) → 0 < n → header_verdict (block_at s 0) n ≡ Ok tt → first_of (block_verdict s n) 0 n ≡ first_of (block_verdict s n) 1 (n - 1)
 header-passes s n h e = rw sub-zero at (first-passed (block_verdict s n) 0 n h (rw (first_block s n) e))
 
 -- a book of a sound length is judged by its blocks
@@ -96,6 +95,6 @@ unfolding blocks_verdict
 verdict-blocks s used h = rw h
 
 -- a record that is accepted in one block is accepted in any
-pub any-block : (curves : Curves) (r : List ℕ) (k m : ℕ) → bytes_verdict curves r k ≡ Accepted → bytes_verdict curves r m ≡ Accepted
+pub any-block : (curves : Curves) (r : List ℕ) (k m : ℕ) → bytes_verdict curves r k ≡ Ok tt → bytes_verdict curves r m ≡ Ok tt
 unfolding record_verdict
 any-block curves r k m h = in-any-block k (record_rules curves (fields_of r)) h m

@@ -1,11 +1,9 @@
 -- The verdict on a book by its length and its blocks, grounds 1 to 12 (document 01: "length first, then block by block, records in order within
 -- a block").
-use Rattle.std.specs.Prelude.{ℕ, ◌+◌, ◌/◌, Bool, cond, List, [], ◌∷◌, ◌≡◌, eqb, leb, length}
+use Rattle.std.specs.Prelude.{ℕ, ◌+◌, ◌/◌, Bool, cond, List, [], ◌∷◌, ◌≡◌, eqb, leb, length, Ok}
 use Rattle.laws.specs.Walk.{over}
 use Rattle.ground.specs.declared.Ground.TheVariants.{Length, Check, Place, Header, TradeBlock}
-use Rattle.ground.specs.declared.Verdict.{Verdict}
-use Rattle.ground.specs.declared.Verdict.TheVariants.{Accepted}
-use Rattle.ground.specs.Verdicts.{or_else, unless, Rule, first_broken}
+use Rattle.ground.specs.Verdicts.{Verdict, or_else, unless, Rule, first_broken}
 use Rattle.layout.specs.Check.{breaks_check, breaks_place}
 use Rattle.curve_block.specs.Verdict.{curve_verdict}
 use Rattle.record.specs.declared.Curves.{Curves}
@@ -16,7 +14,7 @@ use Rattle.book.specs.Rules.{breaks_length, breaks_header, breaks_trade_block}
 
 -- the first refusal among the numbers from i on, n of them
 unfoldable pub first_of : (ℕ → Verdict) → ℕ → ℕ → Verdict
-first_of f i n = over (λ (k : ℕ) (next : Verdict). or_else (f k) next) Accepted i n
+first_of f i n = over (λ (k : ℕ) (next : Verdict). or_else (f k) next) (Ok tt) i n
 
 -- the 56 bytes of a record of block k: grounds 8 to 12
 abbrev pub bytes_verdict : Curves → List ℕ → ℕ → Verdict
@@ -61,4 +59,4 @@ blocks_verdict s used = unless (breaks_length used (length s)) Length 0 (first_o
 -- bytes that start with a book whose blocks are accepted, whatever lies behind it
 pub record StartsWithBook (s : List ℕ) : Type 0 where
   pub used : ℕ
-  pub accepted : blocks_verdict s used ≡ Accepted
+  pub accepted : blocks_verdict s used ≡ Ok tt

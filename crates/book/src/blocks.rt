@@ -5,64 +5,57 @@ ghost use Rattle.book.specs.Verdict.{header_verdict, records_verdict, trades_ver
 
 use crate::parts::{block_at, record_count, record_in};
 use crate::rules::{breaks_header, breaks_trade_block};
-use ground::{Ground, Verdict};
+use curve_block::rules::curve_verdict;
+use flows::verdict::record_verdict;
+use ground::{Ground, Refusal, refuse_if};
 use layout::check::{breaks_check, breaks_place};
 use record::Curves;
+use record::bytes::fields_of;
 
 // The header of a book of so many blocks: grounds 2, 3 and 4.
-pub fn header_verdict(b: &[u8], blocks: usize) -> Verdict
+#[tactic(auto, unfolding(crate::specs::Verdict::header_verdict))]
+pub fn header_verdict(b: &[u8], blocks: usize) -> Result<(), Refusal>
     requires { length b.now ≡ 512 }
     ensures { result ≡ header_verdict b.now blocks }
 {
-    Verdict::Accepted
-        .or_if(breaks_check(b), Ground::Check, 0)
-        .or_if(breaks_place(b, 1, 0), Ground::Place, 0)
-        .or_if(breaks_header(b, blocks), Ground::Header, 0)
+    refuse_if(breaks_check(b), Ground::Check, 0)?;
+    refuse_if(breaks_place(b, 1, 0), Ground::Place, 0)?;
+    refuse_if(breaks_header(b, blocks), Ground::Header, 0)
 }
 
 // The records of a block of trades, each by 8 to 12.
-fn records_verdict(curves: Curves, b: &[u8], k: u64) -> Verdict
+fn records_verdict(curves: Curves, b: &[u8], k: u64) -> Result<(), Refusal>
     requires { (length b.now ≡ 512) × (record_count b.now ≤ 9) }
     ensures { result ≡ records_verdict curves b.now k }
 {
-    let n = record_count(b);
-    let mut i: usize = 0;
-    while i < n {
-        let f = record::bytes::fields_of(record_in(b, i));
-        let v = flows::verdict::record_verdict(curves, f, k);
-        if !v.is_accepted() {
-            return v;
-        }
-        i += 1;
+    for i in 0..record_count(b) {
+        record_verdict(curves, fields_of(record_in(b, i)), k)?;
     }
-    Verdict::Accepted
+    Ok(())
 }
 
 // A block of trades: grounds 2, 3 and 7, then its records.
-fn trades_verdict(curves: Curves, b: &[u8], k: u64, last: bool) -> Verdict
+#[tactic(auto, unfolding(crate::specs::Verdict::trades_verdict))]
+fn trades_verdict(curves: Curves, b: &[u8], k: u64, last: bool) -> Result<(), Refusal>
     requires { length b.now ≡ 512 }
     ensures { result ≡ trades_verdict curves b.now k last }
 {
-    let v = Verdict::Accepted
-        .or_if(breaks_check(b), Ground::Check, k)
-        .or_if(breaks_place(b, 3, k), Ground::Place, k)
-        .or_if(breaks_trade_block(b, last), Ground::TradeBlock, k);
-    if !v.is_accepted() {
-        return v;
-    }
+    refuse_if(breaks_check(b), Ground::Check, k)?;
+    refuse_if(breaks_place(b, 3, k), Ground::Place, k)?;
+    refuse_if(breaks_trade_block(b, last), Ground::TradeBlock, k)?;
     records_verdict(curves, b, k)
 }
 
 // Block k behind the header, of n: a curve or trades.
-pub fn block_verdict(book: &[u8], curves: Curves, n: usize, k: usize) -> Verdict
-    requires le_k { (1 ≤ k) × ((k ≤ 128) × (k * 512 + 512 ≤ length book.now)) }
+pub fn block_verdict(book: &[u8], curves: Curves, n: usize, k: usize) -> Result<(), Refusal>
+    requires place { (1 ≤ k) × ((k ≤ 128) × (k * 512 + 512 ≤ length book.now)) }
     requires curves_value { curves ≡ curves_of book.now }
     ensures { result ≡ block_verdict book.now n k }
 {
     let b = block_at(book, k);
     let number = k as u64;
     if number <= curves.count {
-        return curve_block::rules::curve_verdict(b, number);
+        return curve_verdict(b, number);
     }
     trades_verdict(curves, b, number, k + 1 == n)
 }

@@ -9,38 +9,28 @@ ghost use Rattle.std.specs.Prelude.{◌≡◌, ◌-◌, ◌*◌, ◌≤◌, leng
 ghost use Rattle.book.specs.Parts.{curves_of};
 ghost use Rattle.book.specs.Verdict.{first_of, block_verdict, blocks_verdict};
 
-use ground::{Ground, Verdict};
+use ground::{Ground, Refusal, refuse_if};
 use record::Curves;
 
 // The first refusal of the blocks behind the header.
-fn block_by_block(book: &[u8], curves: Curves, n: usize) -> Verdict
+fn block_by_block(book: &[u8], curves: Curves, n: usize) -> Result<(), Refusal>
     requires n_bound { (n ≤ 128) × (n * 512 ≤ length book.now) }
     requires curves_value { curves ≡ curves_of book.now }
     ensures { result ≡ first_of (block_verdict book.now n) 1 (n - 1) }
 {
-    let mut k: usize = 1;
-    while k < n {
-        let v = blocks::block_verdict(book, curves, n, k);
-        if !v.is_accepted() {
-            return v;
-        }
-        k += 1;
+    for k in 1..n {
+        blocks::block_verdict(book, curves, n, k)?;
     }
-    Verdict::Accepted
+    Ok(())
 }
 
 // The verdict on a lent book's length and blocks, grounds 1 to 12: whatever is lent has an answer. The curves are looked at only once the header has
 // said that they are there.
-pub fn blocks_verdict(book: &[u8], used: usize) -> Verdict
+pub fn blocks_verdict(book: &[u8], used: usize) -> Result<(), Refusal>
     ensures { result ≡ blocks_verdict book.now used }
 {
-    if rules::breaks_length(used, book.len()) {
-        return Verdict::Refused(Ground::Length, 0);
-    }
+    refuse_if(rules::breaks_length(used, book.len()), Ground::Length, 0)?;
     let n = used / 512;
-    let first = blocks::header_verdict(parts::block_at(book, 0), n);
-    if !first.is_accepted() {
-        return first;
-    }
+    blocks::header_verdict(parts::block_at(book, 0), n)?;
     block_by_block(book, parts::curves_of(book), n)
 }

@@ -92,15 +92,12 @@ pub fn curves_of(book: &[u8]) -> Curves
     ensures { result ≡ curves_of book.now }
 {
     let mut currency = [0u64; 8];
-    let mut k: usize = 0;
-    while k < 8 {
+    for k in 0..8 {
         currency[k] = currency_at(book, k);
-        k += 1;
     }
-    let count = curve_count(book) as u64;
     Curves {
-        count: count,
-        currency: currency,
+        count: curve_count(book) as u64,
+        currency,
     }
 }
 

@@ -6,13 +6,15 @@ use crate::parts::{curve_count, record_count, record_place, trade_blocks};
 use layout::zeros;
 
 // Ground 1.
+#[tactic(auto, unfolding(crate::specs::Rules::breaks_length))]
 pub fn breaks_length(used: usize, lent: usize) -> bool
     ensures { result ≡ breaks_length used lent }
 {
-    (used == 0) | !(used % 512 == 0) | (65_536 < used) | (lent < used)
+    (used == 0) | (used % 512 != 0) | (65_536 < used) | (lent < used)
 }
 
 // Ground 4, in a book of so many blocks.
+#[tactic(auto, unfolding(crate::specs::Rules::breaks_header))]
 pub fn breaks_header(b: &[u8], blocks: usize) -> bool
     requires { length b.now ≡ 512 }
     ensures { result ≡ breaks_header b.now blocks }
@@ -26,6 +28,7 @@ pub fn breaks_header(b: &[u8], blocks: usize) -> bool
         & zeros(b, 16, 508))
 }
 
+#[tactic(auto, unfolding(crate::specs::Rules::count_fits))]
 fn count_fits(n: usize, last: bool) -> bool
     ensures { result ≡ count_fits n last }
 {
@@ -33,13 +36,11 @@ fn count_fits(n: usize, last: bool) -> bool
 }
 
 // Ground 7.
+#[tactic(auto, unfolding(crate::specs::Rules::breaks_trade_block))]
 pub fn breaks_trade_block(b: &[u8], last: bool) -> bool
     requires { length b.now ≡ 512 }
     ensures { result ≡ breaks_trade_block b.now last }
 {
     let n = record_count(b);
-    if !count_fits(n, last) {
-        return true;
-    }
-    !zeros(b, record_place(n), 508)
+    !(count_fits(n, last) && zeros(b, record_place(n), 508))
 }

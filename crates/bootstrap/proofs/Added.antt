@@ -5,7 +5,7 @@ use mathlib.Core.List.{List, ◌++◌}
 use Prim.Native.Nat.{ℕ, ◌+◌, ◌*◌, ◌≤◌, ◌<◌}
 use native.Mathlib.Omega.{arith}
 use lib.ListN.{length, take, drop, length-set}
-use Rattle.ground.specs.declared.Verdict.TheVariants.{Accepted}
+use Rattle.std.specs.Prelude.{Ok, Some}
 use Rattle.ground.proofs.Verdicts.{or_else-accepted, unbroken}
 use Rattle.layout.specs.Bytes.{part, on_block, AreBytes}
 use Rattle.layout.proofs.Bytes.{length-put, length_part, on_block-lent, bytes-part}
@@ -20,7 +20,6 @@ use Rattle.curve_edit.proofs.Lengthened.{Addable}
 use Rattle.record.proofs.Limits.{InLimits}
 use Rattle.book.specs.Parts.{block_at, curve_count, curves_of}
 use Rattle.book.specs.Verdict.{blocks_verdict}
-use Rattle.acceptance.specs.declared.Today.TheVariants.{Given}
 use Rattle.acceptance.specs.Verdict.{book_verdict}
 use Rattle.acceptance.proofs.Laws.{book-accepted}
 use Rattle.book.proofs.Accepted.{Sound, sound, curve-block-accepted, curve-sound, length-block_at}
@@ -42,22 +41,22 @@ node-left s curve {n} {m} h en et =
     let long : length (with_node m (part s (curve * 512) 512)) ≡ 512 = simp (length-sealed, length-set, length-put) (length_part s (curve * 512) 512 h) in
     rw (et, en) (on_block-lent (with_node m) s (curve * 512) h long)
 
-module _ (s : List ℕ) (used day : ℕ) (q : Quote) (h : bootstrap_verdict s used day q ≡ Accepted) where
-  pub accepted-on-day : book_verdict s used (Given day) ≡ Accepted
+module _ (s : List ℕ) (used day : ℕ) (q : Quote) (h : bootstrap_verdict s used day q ≡ Ok tt) where
+  pub accepted-on-day : book_verdict s used (Some day) ≡ Ok tt
   unfolding bootstrap_verdict
-  accepted-on-day = (or_else-accepted (book_verdict s used (Given day)) _ h).0
+  accepted-on-day = (or_else-accepted (book_verdict s used (Some day)) _ tt h).0
 
-  pub blocks-accepted : blocks_verdict s used ≡ Accepted
-  blocks-accepted = (book-accepted s used (Given day) accepted-on-day).blocks
+  pub blocks-accepted : blocks_verdict s used ≡ Ok tt
+  blocks-accepted = (book-accepted s used (Some day) accepted-on-day).blocks
 
-  behind-book : (quote_verdict (curves_of s) q ≡ Accepted) × (extension_verdict (curve_at s q.curve) q ≡ Accepted)
+  behind-book : (quote_verdict (curves_of s) q ≡ Ok tt) × (extension_verdict (curve_at s q.curve) q ≡ Ok tt)
   unfolding bootstrap_verdict in_book_verdict
-  behind-book = or_else-accepted (quote_verdict (curves_of s) q) _ (or_else-accepted (book_verdict s used (Given day)) _ h).1
+  behind-book = or_else-accepted (quote_verdict (curves_of s) q) _ tt (or_else-accepted (book_verdict s used (Some day)) _ tt h).1
 
-  quote-accepted : quote_verdict (curves_of s) q ≡ Accepted
+  quote-accepted : quote_verdict (curves_of s) q ≡ Ok tt
   quote-accepted = behind-book.0
 
-  extension-accepted : extension_verdict (curve_at s q.curve) q ≡ Accepted
+  extension-accepted : extension_verdict (curve_at s q.curve) q ≡ Ok tt
   extension-accepted = behind-book.1
 
   end_kept : breaks_curve_end (curve_at s q.curve) (open_node q).day ≡ false
@@ -82,6 +81,9 @@ module _ (s : List ℕ) (used day : ℕ) (q : Quote) (h : bootstrap_verdict s us
 
   pub within : q.curve * 512 + 512 ≤ used
   within = omega (arith, book-sound.blocks, id.high)
+
+  pub curve_lent : q.curve * 512 + 512 ≤ length s
+  curve_lent = omega (arith, within, book-sound.lent)
 
   pub node-room : node_count (block_at s q.curve) < 24
   unfolding curve_of

@@ -5,9 +5,9 @@ use mathlib.Core.List.{List}
 use Prim.Native.Nat.{ℕ, ◌≤◌}
 use native.Mathlib.Omega.{arith}
 use borrow.Author.Tests.{not-false}
+use Rattle.std.specs.Prelude.{Ok}
 use Rattle.laws.proofs.Bools.{both}
 use Rattle.ground.specs.Limits.{last_day}
-use Rattle.ground.specs.declared.Verdict.TheVariants.{Accepted}
 use Rattle.ground.specs.Verdicts.{first_broken}
 use Rattle.ground.proofs.Verdicts.{or_else-accepted, unbroken}
 use Rattle.curve.specs.Limits.{NodeLimits}
@@ -30,10 +30,10 @@ use Rattle.bootstrap.specs.Refusals.{breaks_components, quote_rules, quote_verdi
 use Rattle.bootstrap.specs.Limits.{QuoteLimits}
 use Rattle.bootstrap.proofs.Payments.{bond-limits, each-small, last-small}
 
-module _ (curves : Curves) (q : Quote) (h : quote_verdict curves q ≡ Accepted) where
-  parts : (record_verdict curves (bond_fields q) 0 ≡ Accepted) × (first_broken 0 (quote_rules q) ≡ Accepted)
+module _ (curves : Curves) (q : Quote) (h : quote_verdict curves q ≡ Ok tt) where
+  parts : (record_verdict curves (bond_fields q) 0 ≡ Ok tt) × (first_broken 0 (quote_rules q) ≡ Ok tt)
   unfolding quote_verdict
-  parts = or_else-accepted (record_verdict curves (bond_fields q) 0) (first_broken 0 (quote_rules q)) h
+  parts = or_else-accepted (record_verdict curves (bond_fields q) 0) (first_broken 0 (quote_rules q)) tt h
 
   bond-accepted : AcceptedRecord curves (bond_fields q)
   bond-accepted = accepted curves (bond_fields q) 0 parts.0
@@ -85,6 +85,6 @@ module _ (curves : Curves) (q : Quote) (h : quote_verdict curves q ≡ Accepted)
   quote-kept = record { trade = bond-accepted.trade; payments = payments-kept; node = node_kept }
 
 -- in a book
-pub id-in-book : (s : List ℕ) (q : Quote) → quote_verdict (curves_of s) q ≡ Accepted → InLimits 1 q.curve (curve_count s)
+pub id-in-book : (s : List ℕ) (q : Quote) → quote_verdict (curves_of s) q ≡ Ok tt → InLimits 1 q.curve (curve_count s)
 unfolding curves_in
 id-in-book s q h = rw (← length-curve_blocks s) (id-kept (curves_of s) q h)

@@ -1,5 +1,4 @@
 pub mod Added
-pub mod Decisions
 pub mod Extending
 pub mod Kept
 pub mod Payments

@@ -3,14 +3,13 @@
 use mathlib.Core.Path.{◌≡◌, ◌∙◌}
 use mathlib.Core.List.{List}
 use Prim.Native.Nat.{ℕ, ◌*◌}
-use Rattle.ground.specs.declared.Ground.{Ground}
-use Rattle.ground.specs.declared.Verdict.TheVariants as verdict
+use Rattle.std.specs.Prelude.{Err, Ok, Some}
+use Rattle.ground.specs.declared.Refusal.{Refusal}
 use Rattle.layout.specs.Bytes.{put, on_block, AreBytes}
 use Rattle.curve_edit.specs.Lengthen.{with_node}
 use Rattle.curve_edit.proofs.Lengthened.{length-with-node, verdict-with-node, currency-with-node, components-with-node, nodes-with-node}
 use Rattle.book.specs.Parts.{block_at}
 use Rattle.book.proofs.Replaced.{Replaced, replaced}
-use Rattle.acceptance.specs.declared.Today.TheVariants.{Given}
 use Rattle.acceptance.specs.Verdict.{parts_verdict}
 use Rattle.acceptance.proofs.Laws.{by_parts, parts-accepted}
 use Rattle.bootstrap.specs.declared.Quote.{Quote}
@@ -19,11 +18,11 @@ use Rattle.bootstrap.specs.Bootstrap.{new_node, bootstrapped, extended_parts, Ex
 use Rattle.bootstrap.proofs.Added.{accepted-on-day, blocks-accepted, id, addable}
 
 -- a refusal leaves every lent byte
-pub refused-bootstrap : (s : List ℕ) (used day : ℕ) (q : Quote) (g : Ground) (k : ℕ) → bootstrap_verdict s used day q ≡ verdict.Refused g k → bootstrapped s used day q ≡ s
+pub refused-bootstrap : (s : List ℕ) (used day : ℕ) (q : Quote) (refusal : Refusal) → bootstrap_verdict s used day q ≡ Err refusal → bootstrapped s used day q ≡ s
 unfolding bootstrapped
-refused-bootstrap s used day q g k e = rw e
+refused-bootstrap s used day q refusal e = rw e
 
-module _ (s : List ℕ) (used day : ℕ) (q : Quote) (bytes : AreBytes s) (h : bootstrap_verdict s used day q ≡ verdict.Accepted) where
+module _ (s : List ℕ) (used day : ℕ) (q : Quote) (bytes : AreBytes s) (h : bootstrap_verdict s used day q ≡ Ok tt) where
   -- the curve's block with the node
   abbrev block : List ℕ
   block = with_node (new_node (curve_at s q.curve) q) (block_at s q.curve)
@@ -48,8 +47,8 @@ module _ (s : List ℕ) (used day : ℕ) (q : Quote) (bytes : AreBytes s) (h : b
       })
 
   -- what is asked of the book as a whole holds with the node
-  longer-accepted : parts_verdict (extended_parts s q) (Given day) ≡ verdict.Accepted
-  longer-accepted = parts-accepted s used (Given day) (accepted-on-day s used day q h)
+  longer-accepted : parts_verdict (extended_parts s q) (Some day) ≡ Ok tt
+  longer-accepted = parts-accepted s used (Some day) (accepted-on-day s used day q h)
 
   -- the book after it: accepted, and as it was but for the node
   pub book-extended : Extended s (bootstrapped s used day q) used day q
@@ -59,7 +58,7 @@ module _ (s : List ℕ) (used day : ℕ) (q : Quote) (bytes : AreBytes s) (h : b
       let n = new_node (curve_at s q.curve) q in
       rw is-put
       (record {
-        accepted = by_parts (put s (q.curve * 512) block) used (Given day) (extended_parts s q) r.accepted r.parts ∙ longer-accepted;
+        accepted = by_parts (put s (q.curve * 512) block) used (Some day) (extended_parts s q) r.accepted r.parts ∙ longer-accepted;
         parts = r.parts;
         others = r.others;
         currency = rw r.block (currency-with-node n b);

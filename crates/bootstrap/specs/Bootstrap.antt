@@ -1,8 +1,7 @@
 -- What a bootstrap adds, and every lent byte afterwards (document 02, wish 1).
-use Rattle.std.specs.Prelude.{ℕ, ◌*◌, ◌≤◌, ◌<◌, ◌≡◌, List, [], ◌∷◌, ◌++◌}
-use Rattle.ground.specs.declared.Verdict.{Verdict}
-use Rattle.ground.specs.declared.Verdict.TheVariants as verdict
-use Rattle.ground.specs.Verdicts.{bytes_after}
+use Rattle.std.specs.Prelude.{ℕ, ◌*◌, ◌≤◌, ◌<◌, ◌≡◌, List, [], ◌∷◌, ◌++◌, Some, Result, Ok}
+use Rattle.ground.specs.declared.Refusal.{Refusal}
+use Rattle.ground.specs.Verdicts.{Verdict, or_else, bytes_after}
 use Rattle.layout.specs.Bytes.{on_block}
 use Rattle.curve.specs.declared.Node.{Node}
 use Rattle.curve.specs.declared.Curve.{Curve}
@@ -13,12 +12,9 @@ use Rattle.curve_block.specs.Parts.{currency_of, components_of}
 use Rattle.curve_edit.specs.Lengthen.{with_node}
 use Rattle.book.specs.Parts.{Parts, block_at, parts_of}
 use Rattle.book.specs.Edited.{with_curve}
-use Rattle.acceptance.specs.declared.Today.TheVariants.{Given}
 use Rattle.acceptance.specs.Verdict.{book_verdict}
 use Rattle.bond.specs.Value.{bond_value_at, rate_for}
 use Rattle.bootstrap.specs.declared.Quote.{Quote}
-use Rattle.bootstrap.specs.declared.decide.Decision.{Decision}
-use Rattle.bootstrap.specs.declared.decide.Decision.TheVariants.{Add, Refused}
 use Rattle.bootstrap.specs.Bought.{bond_flows}
 use Rattle.bootstrap.specs.Refusals.{open_node, curve_at, bootstrap_verdict}
 
@@ -27,9 +23,8 @@ unfoldable pub new_node : Curve → Quote → Node
 new_node c q = at_rate (open_node q) (rate_for (nodes_of c) (open_node q) (bond_flows q) q.cash)
 
 -- what is decided before anything is written: the node to add, or the refusal
-abbrev pub decision_of : Verdict → Node → Decision
-decision_of verdict.Accepted n = Add n
-decision_of (verdict.Refused g k) n = Refused g k
+abbrev pub decision_of : Verdict → Node → Result Node Refusal
+decision_of v n = or_else v (Ok n)
 
 -- nothing but the curve's block is written, and nothing at all where it is refused
 unfoldable pub bootstrapped : List ℕ → ℕ → ℕ → Quote → List ℕ
@@ -54,7 +49,7 @@ extended_parts s q = with_curve (parts_of s) q.curve (with_node (new_node (curve
 
 -- t is the book s with the node and no other change
 pub record Extended (s t : List ℕ) (used day : ℕ) (q : Quote) : Type 0 where
-  pub accepted : book_verdict t used (Given day) ≡ verdict.Accepted
+  pub accepted : book_verdict t used (Some day) ≡ Ok tt
   pub parts : parts_of t ≡ extended_parts s q
   pub others : (k : ℕ) → k * 512 < used → (k ≡ q.curve → ⊥) → block_at t k ≡ block_at s k
   pub currency : currency_of (block_at t q.curve) ≡ currency_of (block_at s q.curve)

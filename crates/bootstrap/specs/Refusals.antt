@@ -1,8 +1,7 @@
 -- What refuses a bootstrap (document 02, wish 1).
-use Rattle.std.specs.Prelude.{ℕ, Bool, not, ◌&&◌, ◌||◌, List, [], ◌∷◌, eqb, ltb}
+use Rattle.std.specs.Prelude.{ℕ, Bool, not, ◌&&◌, ◌||◌, List, [], ◌∷◌, eqb, ltb, Some}
 use Rattle.ground.specs.declared.Ground.TheVariants as ground
-use Rattle.ground.specs.declared.Verdict.{Verdict}
-use Rattle.ground.specs.Verdicts.{or_else, Rule, first_broken}
+use Rattle.ground.specs.Verdicts.{Verdict, or_else, Rule, first_broken}
 use Rattle.decimal.specs.Product.{unit}
 use Rattle.curve.specs.declared.Node.{Node}
 use Rattle.curve.specs.declared.Curve.{Curve}
@@ -14,7 +13,6 @@ use Rattle.record.specs.declared.Curves.{Curves}
 use Rattle.record.specs.Uses.{in_limits}
 use Rattle.flows.specs.Verdict.{record_verdict}
 use Rattle.book.specs.Parts.{block_at, curves_of}
-use Rattle.acceptance.specs.declared.Today.TheVariants.{Given}
 use Rattle.acceptance.specs.Verdict.{book_verdict}
 use Rattle.bond.specs.Value.{last_payment, breaks_rate_range}
 use Rattle.bootstrap.specs.declared.Quote.{Quote}
@@ -74,4 +72,4 @@ in_book_verdict s q = or_else (quote_verdict (curves_of s) q) (extension_verdict
 
 -- given the day: "after the book", whose 19 comes "before .. a curve id is looked at"
 unfoldable pub bootstrap_verdict : List ℕ → ℕ → ℕ → Quote → Verdict
-bootstrap_verdict s used day q = or_else (book_verdict s used (Given day)) (in_book_verdict s q)
+bootstrap_verdict s used day q = or_else (book_verdict s used (Some day)) (in_book_verdict s q)

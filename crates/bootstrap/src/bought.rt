@@ -4,20 +4,17 @@ ghost use Rattle.flows.specs.Limits.{SoundTrade};
 ghost use Rattle.bootstrap.specs.Bought.{bond_fields, bond_trade, bond_payments};
 
 use crate::Quote;
-use layout::copy_in;
 use legs::Leg;
-use record::{Fields, Form};
+use record::bytes::fields_of;
+use record::{Amounts, Fields, Form};
 
+#[tactic(auto, unfolding(crate::specs::Bought::bond_fields, crate::specs::Bought::bond_record))]
 pub fn bond_fields(q: Quote) -> Fields
     ensures { result ≡ bond_fields q }
 {
-    let bond = q.bond;
     let mut bytes = [0u8; 56];
-    copy_in(&mut bytes, 12, &bond);
-    let f = record::bytes::fields_of(&bytes);
-    let days = f.days;
-    let mut amounts = f.amounts;
-    amounts.price = 1;
+    bytes[12..32].copy_from_slice(&q.bond);
+    let f = fields_of(&bytes);
     let curve = q.curve as u64;
     let form = Form {
         kind: 1,
@@ -29,9 +26,12 @@ pub fn bond_fields(q: Quote) -> Fields
         blank: 0,
     };
     Fields {
-        form: form,
-        days: days,
-        amounts: amounts,
+        form,
+        amounts: Amounts {
+            price: 1,
+            ..f.amounts
+        },
+        ..f
     }
 }
 
@@ -40,7 +40,5 @@ pub fn payments_of(q: Quote) -> Leg
     requires { SoundTrade (bond_trade q) × (1 ≤ (bond_payments q).count) }
     ensures { result ≡ bond_payments q }
 {
-    let l = flows::trade_legs::capped_legs(trade::read::trade_of(bond_fields(q)));
-    let payments = l.payments;
-    payments
+    flows::trade_legs::capped_legs(trade::read::trade_of(bond_fields(q))).payments
 }

@@ -1,7 +1,6 @@
 // What a quote does to a book: the node that it adds, or the refusal.
 ghost use Rattle.std.specs.Prelude.{◌≡◌};
 ghost use Rattle.ground.specs.declared.Ground.TheVariants.{RateRange};
-ghost use Rattle.ground.specs.declared.Verdict.TheVariants.{Accepted};
 ghost use Rattle.ground.specs.Verdicts.{unless};
 ghost use Rattle.logarithm.specs.Logarithms.{Tables};
 ghost use Rattle.curve.specs.Lengthen.{at_rate};
@@ -19,22 +18,14 @@ ghost use Rattle.bootstrap.specs.Bootstrap.{new_node, decision_of};
 use crate::Quote;
 use crate::bought::payments_of;
 use crate::refusals::{breaks_curve_end, quote_verdict};
-use acceptance::Today;
 use bond::rate::{breaks_rate_range, rate_for};
 use bond::value::Extension;
 use book::parts::{block_at, curves_of};
 use curve::{Curve, Node};
 use curve_block::curve_of;
-use ground::{Ground, Verdict};
+use ground::{Ground, Refusal, refuse_if};
 use legs::Leg;
 use logarithm::tables::fill;
-
-// The node to add, or the ground and the block.
-#[derive(Clone, Copy)]
-pub enum Decision {
-    Add(Node),
-    Refused(Ground, u64),
-}
 
 // The node of a quote, its rate not yet found.
 fn open_node(q: Quote, l: Leg) -> Node
@@ -51,51 +42,44 @@ fn open_node(q: Quote, l: Leg) -> Node
 }
 
 // Of a bond on a curve where 17 does not apply: ground 18, or the node at the smallest rate.
-fn priced(c: Curve, n: Node, l: Leg, cash: u64, tables: &[u64]) -> Decision
+fn priced(c: Curve, n: Node, l: Leg, cash: u64, tables: &[u64]) -> Result<Node, Refusal>
     requires { Extends c n l × Tables tables.now }
-    ensures { result ≡ decision_of (unless (breaks_rate_range (nodes_of c) n (leg_flows l) cash) RateRange 0 Accepted) (at_rate n (rate_for (nodes_of c) n (leg_flows l) cash)) }
+    ensures { result ≡ decision_of (unless (breaks_rate_range (nodes_of c) n (leg_flows l) cash) RateRange 0 (Ok tt)) (at_rate n (rate_for (nodes_of c) n (leg_flows l) cash)) }
 {
     let e = Extension::new(c, n, l, tables);
-    if breaks_rate_range(e, cash, tables) {
-        return Decision::Refused(Ground::RateRange, 0);
-    }
-    Decision::Add(n.at_rate(rate_for(e, cash, tables)))
+    refuse_if(breaks_rate_range(e, cash, tables), Ground::RateRange, 0)?;
+    Ok(n.at_rate(rate_for(e, cash, tables)))
 }
 
 // On a curve of the book, of a quote that keeps its own rules: grounds 17 and 18, or the node at the smallest rate.
-fn extended(c: Curve, q: Quote) -> Decision
+#[tactic(auto, unfolding(crate::specs::Refusals::extension_verdict, crate::specs::Bootstrap::new_node))]
+fn extended(c: Curve, q: Quote) -> Result<Node, Refusal>
     requires { ProperCurve c × QuoteLimits q }
     ensures { result ≡ decision_of (extension_verdict c q) (new_node c q) }
 {
     let l = payments_of(q);
     let n = open_node(q, l);
-    if breaks_curve_end(c, n.day) {
-        return Decision::Refused(Ground::CurveEnd, 0);
-    }
+    refuse_if(breaks_curve_end(c, n.day), Ground::CurveEnd, 0)?;
     let mut tables = [0u64; 3694];
     fill(&mut tables);
     priced(c, n, l, q.cash, &tables)
 }
 
 // On an accepted book.
-fn quoted(book: &[u8], q: Quote) -> Decision
+#[tactic(auto, unfolding(crate::specs::Refusals::in_book_verdict))]
+fn quoted(book: &[u8], q: Quote) -> Result<Node, Refusal>
     requires { StartsWithBook book.now }
     ensures { result ≡ decision_of (in_book_verdict book.now q) (new_node (curve_at book.now q.curve) q) }
 {
-    let v = quote_verdict(curves_of(book), q);
-    match v {
-        Verdict::Refused(g, k) => Decision::Refused(g, k),
-        Verdict::Accepted => extended(curve_of(block_at(book, q.curve)), q),
-    }
+    quote_verdict(curves_of(book), q)?;
+    extended(curve_of(block_at(book, q.curve)), q)
 }
 
 // On any bytes: the whole-book check first.
-pub fn decided(book: &[u8], used: usize, day: u64, q: Quote) -> Decision
+#[tactic(auto, unfolding(crate::specs::Refusals::bootstrap_verdict))]
+pub fn decided(book: &[u8], used: usize, day: u64, q: Quote) -> Result<Node, Refusal>
     ensures { result ≡ decision_of (bootstrap_verdict book.now used day q) (new_node (curve_at book.now q.curve) q) }
 {
-    let v = acceptance::check(book, used, Today::Given(day));
-    match v {
-        Verdict::Refused(g, k) => Decision::Refused(g, k),
-        Verdict::Accepted => quoted(book, q),
-    }
+    acceptance::check(book, used, Some(day))?;
+    quoted(book, q)
 }

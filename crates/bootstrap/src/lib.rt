@@ -10,8 +10,7 @@ ghost use Rattle.std.specs.Prelude.{◌≡◌};
 ghost use Rattle.bootstrap.specs.Refusals.{bootstrap_verdict};
 ghost use Rattle.bootstrap.specs.Bootstrap.{bootstrapped};
 
-use decide::Decision;
-use ground::Verdict;
+use ground::Refusal;
 
 // What a desk gives: the curve's id, the bond (bytes 12 to 31 of a record), its settlement cash today, and the components of the new node.
 #[derive(Clone, Copy)]
@@ -25,17 +24,13 @@ pub struct Quote {
 }
 
 // Adds a node to the curve on the bond's last payment day, or answers the first ground that applies, given the current day. Takes every input.
-pub fn bootstrap(book: &mut [u8], used: usize, day: u64, q: Quote) -> Verdict
+#[tactic(auto, unfolding(crate::specs::Bootstrap::bootstrapped), using(crate::proofs::Added::curve_lent))]
+pub fn bootstrap(book: &mut [u8], used: usize, day: u64, q: Quote) -> Result<(), Refusal>
     ensures value { result ≡ bootstrap_verdict book.old used day q }
     ensures book_after { book.new ≡ bootstrapped book.old used day q }
 {
-    let d = decide::decided(&book[..], used, day, q);
-    match d {
-        Decision::Refused(g, k) => Verdict::Refused(g, k),
-        Decision::Add(n) => {
-            let at = q.curve * 512;
-            curve_edit::add_node(&mut book[at..at + 512], n);
-            Verdict::Accepted
-        }
-    }
+    let n = decide::decided(&book[..], used, day, q)?;
+    let at = q.curve * 512;
+    curve_edit::add_node(&mut book[at..at + 512], n);
+    Ok(())
 }

@@ -2,7 +2,7 @@
 ghost use Rattle.std.specs.Prelude.{◌≡◌, ◌+◌, ◌≤◌, ◌<◌};
 ghost use Rattle.ground.specs.Limits.{last_day};
 ghost use Rattle.bucket.specs.Convexity.{convexity};
-ghost use Rattle.bucket.specs.Buckets.{alone, first_day_of, last_day_of, fitting, bucket_on};
+ghost use Rattle.bucket.specs.Buckets.{alone, fitting, bucket_on};
 
 // A day's bucket: its first and its last day, how many days are gone since the one and left to the other, and how far the day's factor is from the line
 // between theirs at most, in parts of 2^32 of the first day's.
@@ -16,6 +16,7 @@ pub struct Bucket {
 }
 
 // How far a factor may be from the line between those of two days at most `span` days apart and not after `day`.
+#[tactic(auto, unfolding(crate::specs::Convexity::logs_apart, crate::specs::Convexity::log_off, crate::specs::Convexity::exponents_apart, crate::specs::Convexity::exponent_off, crate::specs::Convexity::squared, crate::specs::Convexity::bent, crate::specs::Convexity::convexity))]
 fn convexity(most: u64, jump: u64, span: u64, day: u64) -> u64
     requires { (most ≤ 1_000_000) × (jump ≤ 20_000) × (span ≤ 32) × (day ≤ last_day) }
     ensures { result ≡ convexity most jump span day }
@@ -43,38 +44,13 @@ pub fn alone(day: u64) -> Bucket
     }
 }
 
-// The first day of a day's bucket, in a segment of days from `from` on.
-fn first_day_of(from: u64, day: u64) -> u64
-    ensures { result ≡ first_day_of from day }
-{
-    let start = day / 16 * 16;
-    if from < start {
-        return start;
-    }
-    from
-}
-
-// And the last, in a segment of days before `until`.
-fn last_day_of(until: u64, day: u64) -> u64
-    requires { (0 < until) × (day ≤ last_day) }
-    ensures { result ≡ last_day_of until day }
-{
-    let end = day / 16 * 16 + 16;
-    if end < until {
-        return end;
-    }
-    until - 1
-}
-
-// The bucket itself, where its rates move little and the line between its ends is near enough; otherwise the day by itself.
+// A day's bucket, where its rates move little and the line between its ends is near enough; otherwise the day by itself.
+#[tactic(auto, unfolding(crate::specs::Buckets::fitting))]
 fn fitting(first: u64, last: u64, day: u64, jump: u64, most: u64) -> Bucket
     requires { (most ≤ 1_000_000) × (first ≤ day) × (day ≤ last) × (last ≤ first + 32) × (last ≤ last_day) }
     ensures { result ≡ fitting first last day jump most }
 {
-    if first == last {
-        return alone(day);
-    }
-    if 20_000 < jump {
+    if first == last || 20_000 < jump {
         return alone(day);
     }
     let error = convexity(most, jump, last - first, last);
@@ -82,27 +58,26 @@ fn fitting(first: u64, last: u64, day: u64, jump: u64, most: u64) -> Bucket
         return alone(day);
     }
     Bucket {
-        first: first,
-        last: last,
+        first,
+        last,
         gone: day - first,
         left: last - day,
-        error: error,
+        error,
     }
 }
 
 // The bucket of a day in the segment of days from `from` up to `until`, whose rates move by `width` at most and are at most `most`.
+#[tactic(auto, unfolding(crate::specs::Buckets::bucket_on))]
 pub fn bucket_on(from: u64, until: u64, width: u64, most: u64, day: u64) -> Bucket
     requires { (width ≤ 1_000_000) × (most ≤ 1_000_000) × (until ≤ 10_951) }
     ensures { result ≡ bucket_on from until width most day }
 {
-    if day < from {
+    if day < from || until <= day {
         return alone(day);
     }
-    if until <= day {
-        return alone(day);
-    }
-    let first = first_day_of(from, day);
-    let last = last_day_of(until, day);
+    let start = day / 16 * 16;
+    let first = start.max(from);
+    let last = (start + 16).min(until - 1);
     let jump = width * (last - first) / (until - from) + 1;
     fitting(first, last, day, jump, most)
 }

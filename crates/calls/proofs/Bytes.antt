@@ -6,9 +6,8 @@ use native.Mathlib.Decide.{dec_lt}
 use native.Mathlib.Omega.{arith}
 use lib.ListN.{length, get_or, drop, replicate, get_or-append}
 use lib.Seq.{get_or_at}
-use Rattle.ground.specs.declared.Verdict.{Verdict}
-use Rattle.ground.specs.declared.Verdict.TheVariants.{Accepted, Refused}
-use Rattle.ground.specs.Verdicts.{bytes_after}
+use Rattle.std.specs.Prelude.{Err, Ok, Some}
+use Rattle.ground.specs.Verdicts.{Verdict, bytes_after}
 use Rattle.layout.specs.Bytes.{put, on_block, AreBytes}
 use Rattle.layout.proofs.Bytes.{bytes-zeros, bytes-put, bytes_drop, bytes-append, bytes-part}
 use Rattle.curve_edit.specs.Lengthen.{with_node}
@@ -17,7 +16,6 @@ use Rattle.book.specs.Parts.{block_at, curve_count, trade_count, curve_blocks, r
 use Rattle.book.specs.Edited.{without, appended_parts, struck_parts}
 use Rattle.book.proofs.Places.{length-curve_blocks, curve-block, length-records, record_of}
 use Rattle.book.proofs.EncodedBytes.{AllBytes, bytes-encoded}
-use Rattle.acceptance.specs.declared.Today.TheVariants.{Given}
 use Rattle.edit.specs.Refusals.{position_verdict, append_verdict}
 use Rattle.edit.specs.Edits.{appended_book, appended, struck_book, struck}
 use Rattle.edit.proofs.Added.{length-one-more}
@@ -78,21 +76,21 @@ module _ (s : List ℕ) (used day : ℕ) (bytes : AreBytes s) where
   bytes-appended r h = go (append_verdict s used day r)
     where
       go : (v : Verdict) → AreBytes (bytes_after v s (appended_book s r ++ drop (length (appended_book s r)) s))
-      go Accepted = bytes-append (appended_book s r) (drop (length (appended_book s r)) s) (bytes-with-record s bytes r h) (bytes_drop (length (appended_book s r)) s bytes)
-      go (Refused g k) = bytes
+      go (Ok tt) = bytes-append (appended_book s r) (drop (length (appended_book s r)) s) (bytes-with-record s bytes r h) (bytes_drop (length (appended_book s r)) s bytes)
+      go (Err refusal) = bytes
 
   pub bytes-struck : (p : ℕ) → AreBytes (struck s used day p)
   unfolding struck
-  bytes-struck p = go (position_verdict s used (Given day) p) refl
+  bytes-struck p = go (position_verdict s used (Some day) p) refl
     where
-      go : (v : Verdict) → position_verdict s used (Given day) p ≡ v
+      go : (v : Verdict) → position_verdict s used (Some day) p ≡ v
           → AreBytes (bytes_after v s (struck_book s p ++ replicate (used - length (struck_book s p)) 0 ++ drop used s))
-      go Accepted e =
+      go (Ok tt) e =
           let zeros : List ℕ = replicate (used - length (struck_book s p)) 0 in
-          let in_list : p < length (records s) = rw (length-records s) (has-trade s used (Given day) p e).in-book in
+          let in_list : p < length (records s) = rw (length-records s) (has-trade s used (Some day) p e).in-book in
           bytes-append (struck_book s p ++ zeros) (drop used s)
           (bytes-append (struck_book s p) zeros (bytes-without s bytes p in_list) (bytes-zeros (used - length (struck_book s p)))) (bytes_drop used s bytes)
-      go (Refused g k) e = bytes
+      go (Err refusal) e = bytes
 
   pub bytes-bootstrapped : (q : Quote) → AreBytes (bootstrapped s used day q)
   unfolding bootstrapped on_block
@@ -100,6 +98,6 @@ module _ (s : List ℕ) (used day : ℕ) (bytes : AreBytes s) where
     where
       go : (v : Verdict) → bootstrap_verdict s used day q ≡ v
           → AreBytes (bytes_after v s (put s (q.curve * 512) (with_node (new_node (curve_at s q.curve) q) (block_at s q.curve))))
-      go Accepted e =
+      go (Ok tt) e =
           bytes-put s (q.curve * 512) _ bytes (bytes-with-node (block_at s q.curve) q.curve (new_node (curve_at s q.curve) q) (addable s used day q e bytes))
-      go (Refused g k) e = bytes
+      go (Err refusal) e = bytes

@@ -3,12 +3,11 @@ use mathlib.Core.Path.{◌≡◌, refl, sym, ◌∙◌, ap}
 use mathlib.Core.List.{List, [], ◌∷◌}
 use Prim.Native.Nat.{ℕ}
 use lib.ListN.{length}
+use Rattle.std.specs.Prelude.{Err, Ok, Some}
 use Rattle.laws.specs.All.{All}
-use Rattle.ground.specs.declared.Verdict.{Verdict}
-use Rattle.ground.specs.declared.Verdict.TheVariants.{Accepted, Refused}
+use Rattle.ground.specs.Verdicts.{Verdict}
 use Rattle.layout.specs.Bytes.{AreBytes}
 use Rattle.book.specs.Parts.{Parts, header_of}
-use Rattle.acceptance.specs.declared.Today.TheVariants.{Given}
 use Rattle.acceptance.specs.Verdict.{book_verdict}
 use Rattle.acceptance.proofs.Laws.{day-given}
 use Rattle.edit.specs.Refusals.{position_verdict, append_verdict}
@@ -35,35 +34,35 @@ module _ (s : List ℕ) (used day : ℕ) (bytes : AreBytes s) where
   header-appended r long = go (append_verdict s used day r) refl
     where
       go : (v : Verdict) → append_verdict s used day r ≡ v → header_of (appended s used day r) ≡ header_of s
-      go Accepted e = ap (λ (p : Parts). p.header) (book-appended s used bytes r long day e)
-      go (Refused g k) e = rw (refused-append s used day r g k e).0
+      go (Ok tt) e = ap (λ (p : Parts). p.header) (book-appended s used bytes r long day e)
+      go (Err refusal) e = rw (refused-append s used day r refusal e).0
 
   header-struck : (position : ℕ) → header_of (struck s used day position) ≡ header_of s
-  header-struck position = go (position_verdict s used (Given day) position) refl
+  header-struck position = go (position_verdict s used (Some day) position) refl
     where
-      go : (v : Verdict) → position_verdict s used (Given day) position ≡ v → header_of (struck s used day position) ≡ header_of s
-      go Accepted e = ap (λ (p : Parts). p.header) (book-struck s used bytes position day e)
-      go (Refused g k) e = rw (refused-strike s used day position g k e).0
+      go : (v : Verdict) → position_verdict s used (Some day) position ≡ v → header_of (struck s used day position) ≡ header_of s
+      go (Ok tt) e = ap (λ (p : Parts). p.header) (book-struck s used bytes position day e)
+      go (Err refusal) e = rw (refused-strike s used day position refusal e).0
 
   header-bootstrapped : (q : Quote) → header_of (bootstrapped s used day q) ≡ header_of s
   header-bootstrapped q = go (bootstrap_verdict s used day q) refl
     where
       go : (v : Verdict) → bootstrap_verdict s used day q ≡ v → header_of (bootstrapped s used day q) ≡ header_of s
-      go Accepted e = ap (λ (p : Parts). p.header) (book-extended s used day q bytes e).parts
-      go (Refused g k) e = rw (refused-bootstrap s used day q g k e)
+      go (Ok tt) e = ap (λ (p : Parts). p.header) (book-extended s used day q bytes e).parts
+      go (Err refusal) e = rw (refused-bootstrap s used day q refusal e)
 
 -- ---- the book
 
 -- a bootstrap of an accepted book leaves an accepted book, refused or not, whatever day it was given
-bootstrap-accepted : (s : List ℕ) (used day other : ℕ) (q : Quote) → AreBytes s → book_verdict s used (Given day) ≡ Accepted
-    → book_verdict (bootstrapped s used other q) used (Given day) ≡ Accepted
+bootstrap-accepted : (s : List ℕ) (used day other : ℕ) (q : Quote) → AreBytes s → book_verdict s used (Some day) ≡ Ok tt
+    → book_verdict (bootstrapped s used other q) used (Some day) ≡ Ok tt
 bootstrap-accepted s used day other q bytes ok = go (bootstrap_verdict s used other q) refl
   where
-    go : (v : Verdict) → bootstrap_verdict s used other q ≡ v → book_verdict (bootstrapped s used other q) used (Given day) ≡ Accepted
-    go Accepted e =
+    go : (v : Verdict) → bootstrap_verdict s used other q ≡ v → book_verdict (bootstrapped s used other q) used (Some day) ≡ Ok tt
+    go (Ok tt) e =
         let same : other ≡ day = sym (day-given s used other (accepted-on-day s used other q e)) ∙ day-given s used day ok in
-        ap (λ (d : ℕ). book_verdict (bootstrapped s used other q) used (Given d)) (sym same) ∙ (book-extended s used other q bytes e).accepted
-    go (Refused g k) e = rw (refused-bootstrap s used other q g k e) ok
+        ap (λ (d : ℕ). book_verdict (bootstrapped s used other q) used (Some d)) (sym same) ∙ (book-extended s used other q bytes e).accepted
+    go (Err refusal) e = rw (refused-bootstrap s used other q refusal e) ok
 
 module _ (day : ℕ) (first : State) where
   call-keeps : (s : State) (c : Call) → Passable c → StillAccepted day first s → StillAccepted day first (after s c)
@@ -71,13 +70,13 @@ module _ (day : ℕ) (first : State) where
   call-keeps s (Append other r) fine h =
       record {
         bytes = bytes-appended s.bytes s.used other h.bytes r fine.1;
-        accepted = append-accepted s.bytes s.used h.bytes r fine.0 other (Given day) h.accepted;
+        accepted = append-accepted s.bytes s.used h.bytes r fine.0 other (Some day) h.accepted;
         header = header-appended s.bytes s.used other h.bytes r fine.0 ∙ h.header;
       }
   call-keeps s (Strike other position) fine h =
       record {
         bytes = bytes-struck s.bytes s.used other h.bytes position;
-        accepted = strike-accepted s.bytes s.used h.bytes position other (Given day) h.accepted;
+        accepted = strike-accepted s.bytes s.used h.bytes position other (Some day) h.accepted;
         header = header-struck s.bytes s.used other h.bytes position ∙ h.header;
       }
   call-keeps s (Bootstrap other q) fine h =
@@ -88,6 +87,6 @@ module _ (day : ℕ) (first : State) where
       }
 
   -- from a book that is accepted on a day, it is accepted on that day after every list of calls, whatever days they were given
-  pub accepted-after : (cs : List Call) → All Passable cs → AreBytes first.bytes → book_verdict first.bytes first.used (Given day) ≡ Accepted
+  pub accepted-after : (cs : List Call) → All Passable cs → AreBytes first.bytes → book_verdict first.bytes first.used (Some day) ≡ Ok tt
       → StillAccepted day first (after_all first cs)
   accepted-after cs fine bytes ok = list-keeps (StillAccepted day first) call-keeps first cs fine (record { bytes = bytes; accepted = ok; header = refl })

@@ -1,10 +1,8 @@
 -- Lists of calls on one book: what a caller lends, the calls that may write it, and what he then has. What a sentence of document 02 promises "after
 -- every list of those calls" is said of `after_all`.
-use Rattle.std.specs.Prelude.{ℕ, ◌≡◌, List, [], ◌∷◌, length}
-use Rattle.ground.specs.declared.Verdict.TheVariants.{Accepted}
+use Rattle.std.specs.Prelude.{ℕ, ◌≡◌, List, [], ◌∷◌, length, Ok, Some}
 use Rattle.layout.specs.Bytes.{AreBytes}
 use Rattle.book.specs.Parts.{header_of}
-use Rattle.acceptance.specs.declared.Today.TheVariants.{Given}
 use Rattle.acceptance.specs.Verdict.{book_verdict}
 use Rattle.edit.specs.Edits.{appended, used_appended, struck, used_struck}
 use Rattle.bootstrap.specs.declared.Quote.{Quote}
@@ -41,5 +39,5 @@ after_all s (c ∷ cs) = after_all (after s c) cs
 -- what calls on a book that is accepted on a day leave: bytes of an accepted book, its header, and so its day, what it was
 pub record StillAccepted (day : ℕ) (s t : State) : Type 0 where
   pub bytes : AreBytes t.bytes
-  pub accepted : book_verdict t.bytes t.used (Given day) ≡ Accepted
+  pub accepted : book_verdict t.bytes t.used (Some day) ≡ Ok tt
   pub header : header_of t.bytes ≡ header_of s.bytes

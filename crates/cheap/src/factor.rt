@@ -5,6 +5,8 @@ ghost use Rattle.logarithm.specs.Logarithms.{Tables};
 ghost use Rattle.cheap.specs.Cheap.{cheap_log, cheap_power, cheap_factor};
 
 // The logarithm of a rate and a day: a row of the table, what its slope adds to it, and what the slope loses on the way.
+// The exponent of fine is by terms of a series in the place of a slope: one function of both would have no line in common but the last.
+#[tactic(auto, unfolding(crate::specs::Cheap::cheap_log, crate::specs::Cheap::risen, crate::specs::Cheap::bend))]
 fn exponent(tables: &[u64], rate: u64, day: u64) -> u64
     requires { Tables tables.now × (rate ≤ 1_000_000) × (day ≤ last_day) }
     ensures { result ≡ cheap_log rate * day / 365 }
@@ -19,6 +21,8 @@ fn exponent(tables: &[u64], rate: u64, day: u64) -> u64
 }
 
 // The power of an exponent, in parts of 2^31: its upper digits from one table, the next ten from the other, the lowest 37 on a line.
+// Its products fit a u64: fine's by 128 bits would be no plainer here, and its rows and last factor are others.
+#[tactic(auto, unfolding(crate::specs::Cheap::cheap_power))]
 fn power(tables: &[u64], x: u64) -> u64
     requires { Tables tables.now × (x / 140_737_488_355_328 ≤ 333) }
     ensures { result ≡ cheap_power x }
@@ -31,6 +35,7 @@ fn power(tables: &[u64], x: u64) -> u64
 }
 
 // The cheap factor of a rate and a day, in parts of 2^31.
+#[tactic(auto, unfolding(crate::specs::Cheap::cheap_factor))]
 pub fn factor(tables: &[u64], rate: u64, day: u64) -> u64
     requires { Tables tables.now × (rate ≤ 1_000_000) × (day ≤ last_day) }
     ensures { result ≡ cheap_factor rate day }

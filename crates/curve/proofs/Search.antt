@@ -1,11 +1,13 @@
 -- The search for the nodes about a day: node a stands before place i, its day is not past t, and what follows a decides.
 use mathlib.Core.Path.{◌≡◌, ◌∙◌, ap}
 use mathlib.Core.List.{List, ◌∷◌}
-use Prim.Native.Nat.{ℕ, suc, ◌+◌, ◌≤◌, ◌<◌}
+use Prim.Native.Nat.{ℕ, suc, ◌+◌, ◌-◌, ◌≤◌, ◌<◌}
 use native.Mathlib.Omega.{arith}
 use native.Mathlib.Numerals.{add-one}
 use borrow.Author.Tests.{lt-ltb, le-ltb}
-use lib.ListN.{get_or, drop}
+use lib.ListN.{get_or, take, drop}
+use lib.Seq.{get_or-take}
+use Rattle.std.proofs.lemmas.Grind.{get_or_after_one}
 use lib.IntN.{nat_abs}
 use Rattle.laws.proofs.Lists.{drop-next, drop-end}
 use Rattle.curve.specs.declared.Node.{Node}
@@ -26,6 +28,10 @@ node c i = get_or c.nodes i zero_node
 module _ (c : Curve) (t : ℕ) (p : ProperCurve c) where
   next : (i : ℕ) → i < c.count → drop i (nodes_of c) ≡ node c i ∷ drop (suc i) (nodes_of c)
   next i k = drop-next c.nodes c.count i zero_node (omega (arith, p.places, p.most)) k
+
+  -- the nodes behind the first, one by one
+  pub later-node : (k : ℕ) → k < c.count - 1 → get_or (take (c.count - 1) (drop 1 c.nodes)) k zero_node ≡ node c (k + 1)
+  later-node k h = let e : 1 + k ≡ k + 1 = omega arith in rw (get_or-take (c.count - 1) (drop 1 c.nodes) k zero_node h, get_or_after_one, e)
 
   pub before-all : t < (node c 0).day → rate_at (nodes_of c) t ≡ (node c 0).rate
   unfolding rate_at

@@ -1,16 +1,15 @@
 -- Rates brought into their limits, stressed nodes and stressed curves.
-use borrow.Author.Tests.{ltb-true, ltb-false}
-use mathlib.Core.Bool.{Bool, true, false}
+use Rattle.std.specs.Int.{int_max, int_min}
+use Rattle.std.proofs.lemmas.Int.{ints, clamps}
 use mathlib.Core.List.{List, [], ◌∷◌, map}
-use mathlib.Core.Path.{◌≡◌, refl, sym, ◌∙◌, ap}
+use mathlib.Core.Path.{◌≡◌, refl, ◌∙◌, ap}
 use Prim.Native.Nat.{ℕ, suc, ◌+◌, ◌-◌, ◌/◌, ◌≤◌, ◌<◌}
 use native.Mathlib.Numerals.{add-one}
 use native.Mathlib.Omega.{arith}
-use lib.IntN.{ℤ, pos, negsuc, nat_abs, zero-*ℤ}
-use lib.ListN.{get_or, set, take-append-drop}
-use lib.Signed.{lt_z}
+use lib.IntN.{ℤ, pos, negsuc, zero-*ℤ}
+use lib.ListN.{length, get_or, set, take-append-drop}
 use Rattle.laws.specs.All.{All}
-use Rattle.laws.proofs.Lists.{map_first, length-map_first, map_first-done, map_first-kept, map_first-next, take-map_first}
+use Rattle.laws.proofs.Lists.{map_first, length-map_first, map_first-done, map_first-next, take-map_first}
 use Rattle.curve.specs.declared.Node.{Node}
 use Rattle.curve.specs.declared.Curve.{Curve}
 use Rattle.curve.specs.declared.Components.{Components}
@@ -22,32 +21,15 @@ use Rattle.curve.specs.Stress.{shifted, clamped, stressed, stressed_curve}
 use Rattle.curve.proofs.Rates.{each-limits}
 use Rattle.curve.proofs.Scenarios.{scenario-middle}
 
--- ---- into the limits, by the code's tests
+-- ---- into the limits
 
-bool_clash : ◌≡◌ {A = Bool} false true → ◌≡◌ {A = ℕ} 0 1
-bool_clash e = cc
-
-pub clamped_low : (z : ℤ) → lt_z z (pos 0) ≡ true → 0 ≡ clamped z
-clamped_low (pos n) e = let l : n < 0 = ltb-true n 0 e in absurd (omega arith)
-clamped_low (negsuc n) e = refl
-
-pub clamped_high : (z : ℤ) → lt_z (pos 1000000) z ≡ true → 1000000 ≡ clamped z
-clamped_high (pos n) e = let l : 1000000 < n = ltb-true 1000000 n e in omega arith
-clamped_high (negsuc n) e = let z : ◌≡◌ {A = ℕ} 0 1 = bool_clash e in omega arith
-
-pub record Inside (z : ℤ) : Type 0 where
-  pub num : z ≡ pos (nat_abs z)
-  pub most : nat_abs z ≤ 1000000
-  pub kept : nat_abs z ≡ clamped z
-
-pub clamped-inside : (z : ℤ) → lt_z z (pos 0) ≡ false → lt_z (pos 1000000) z ≡ false → Inside z
-clamped-inside (pos n) e k =
-    let l : n ≤ 1000000 = ltb-false 1000000 n k in record { num = refl; most = l; kept = omega arith }
-clamped-inside (negsuc n) e k = let z : ◌≡◌ {A = ℕ} 0 1 = bool_clash (sym e) in absurd (omega arith)
+pub clamped-is : (z : ℤ) → int_max (pos 0) (int_min z (pos 1000000)) ≡ pos (clamped z)
+clamped-is (pos n) = omega (arith, ints, clamps)
+clamped-is (negsuc n) = omega (arith, ints, clamps)
 
 -- ---- a stressed node
 
-clamped-most : (z : ℤ) → clamped z ≤ highest_rate
+pub clamped-most : (z : ℤ) → clamped z ≤ highest_rate
 clamped-most (pos n) = omega arith
 clamped-most (negsuc n) = omega arith
 
@@ -106,29 +88,15 @@ middle-changes-nothing x c p = rw (scenario-middle x) (curve-unstressed c p)
 
 -- ---- the nodes of c stressed one by one: r is c with its first i nodes stressed
 
-pub record Partly (s : Scenario) (c r : Curve) (i : ℕ) : Type 0 where
-  pub most : i ≤ c.count
-  pub curve : r ≡ record { nodes = map_first (stressed s) i c.nodes; count = c.count }
+abbrev pub Partly : Scenario → Curve → Curve → ℕ → Type 0
+Partly s c r i = r ≡ record { nodes = map_first (stressed s) i c.nodes; count = c.count }
 
 module _ (s : Scenario) (c : Curve) where
-  pub partly_none : Partly s c c 0
-  partly_none = record { most = omega arith; curve = refl }
+  pub partly-next : {r : Curve} {i : ℕ} {n : Node} → Partly s c r i → i < length c.nodes → n ≡ stressed s (get_or c.nodes i zero_node)
+      → Partly s c (record { nodes = set r.nodes i n; count = r.count }) (i + 1)
+  partly-next {i = i} h l e =
+      rw (e, h, add-one) (ap (λ (ns : List Node). record { nodes = ns; count = c.count }) (map_first-next (stressed s) i c.nodes zero_node l))
 
-  module _ (p : ProperCurve c) (r : Curve) (i : ℕ) (h : Partly s c r i) where
-    pub partly-node : get_or r.nodes i zero_node ≡ get_or c.nodes i zero_node
-    partly-node = rw h.curve (map_first-kept (stressed s) i c.nodes i zero_node (omega arith))
-
-    pub partly-limits : i < c.count → NodeLimits (get_or r.nodes i zero_node)
-    partly-limits l = rw partly-node (p.each i l)
-
-    pub partly-next : i < c.count → (n : Node) → n ≡ stressed s (get_or r.nodes i zero_node)
-        → Partly s c (record { nodes = set r.nodes i n; count = r.count }) (i + 1)
-    partly-next l n e =
-        record {
-          most = omega arith;
-          curve = rw (e, partly-node, h.curve, add-one) (ap (λ (ns : List Node). record { nodes = ns; count = c.count }) (map_first-next (stressed s) i c.nodes zero_node (omega (arith, p.places, p.most))));
-        }
-
-    pub partly-all : c.count ≤ i → r ≡ stressed_curve s c
-    unfolding stressed_curve
-    partly-all l = let e : i ≡ c.count = omega (arith, h.most) in rw (h.curve, e)
+  pub partly-all : {r : Curve} (i : ℕ) → Partly s c r i → i ≡ c.count → r ≡ stressed_curve s c
+  unfolding stressed_curve
+  partly-all i h e = rw (h, e)

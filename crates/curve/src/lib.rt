@@ -5,7 +5,7 @@ ghost use Rattle.std.specs.Prelude.{◌≡◌, ◌<◌, nat_abs};
 ghost use Rattle.curve.specs.Rates.{nodes_of, interpolated, rate_at, BetweenNodes};
 ghost use Rattle.curve.specs.Limits.{NodeLimits, ProperCurve, ComponentLimits, ProperComponents, ScenarioLimits};
 ghost use Rattle.curve.specs.Scenarios.{coefficient_count, coefficient, scenario_count, scenario_at};
-ghost use Rattle.curve.specs.Stress.{shifted, clamped, stressed, stressed_curve};
+ghost use Rattle.curve.specs.Stress.{shifted, stressed, stressed_curve};
 ghost use Rattle.curve.specs.Lengthen.{end_day, lengthened_curve, at_rate};
 
 // A node of a curve: its rate on a day, and the three components of the rate's moves, all in millionths.
@@ -18,7 +18,7 @@ pub struct Node {
     pub third: i64,
 }
 
-// The first `count` nodes are the curve's.
+// The first `count` nodes are the curve's. Every module and contract reads both fields, and without a heap the nodes lie in an array of the most a curve has.
 #[derive(Clone, Copy)]
 pub struct Curve {
     pub nodes: [Node; 24],
@@ -70,15 +70,11 @@ impl Curve {
         if t < a.day {
             return a.rate;
         }
-        let n = self.count;
-        let mut i: usize = 1;
-        while i < n {
-            let b = self.nodes[i];
+        for b in &self.nodes[1..self.count] {
             if t < b.day {
-                return interpolate(a, b, t);
+                return interpolate(a, *b, t);
             }
-            a = b;
-            i += 1;
+            a = *b;
         }
         a.rate
     }
@@ -110,10 +106,9 @@ impl Components {
         requires { ProperComponents self }
         ensures { result ≡ scenario_count self }
     {
-        let a = self.first;
-        let b = self.second;
-        let c = self.third;
-        a.coefficient_count() * b.coefficient_count() * c.coefficient_count()
+        self.first.coefficient_count()
+            * self.second.coefficient_count()
+            * self.third.coefficient_count()
     }
 
     // Scenario s, from 0: the first component slowest, the third fastest.
@@ -121,22 +116,16 @@ impl Components {
         requires { ProperComponents self × (s < scenario_count self) }
         ensures { result ≡ scenario_at self s }
     {
-        let a = self.first;
-        let b = self.second;
-        let c = self.third;
-        let fast = c.coefficient_count();
-        let slow = b.coefficient_count() * fast;
-        let high = s / slow;
+        let fast = self.third.coefficient_count();
+        let slow = self.second.coefficient_count() * fast;
         let rest = s % slow;
-        let middle = rest / fast;
-        let low = rest % fast;
-        let first = a.coefficient(high);
-        let second = b.coefficient(middle);
-        let third = c.coefficient(low);
+        let first = self.first.coefficient(s / slow);
+        let second = self.second.coefficient(rest / fast);
+        let third = self.third.coefficient(rest % fast);
         Scenario {
-            first: first,
-            second: second,
-            third: third,
+            first,
+            second,
+            third,
         }
     }
 }
@@ -150,28 +139,14 @@ fn shift(n: Node, s: Scenario) -> i64
     n.rate as i64 + sum / 100
 }
 
-fn clamp(z: i64) -> u64
-    ensures { result ≡ clamped z }
-{
-    if z < 0 {
-        return 0;
-    }
-    if 1_000_000 < z {
-        return 1_000_000;
-    }
-    z as u64
-}
-
 impl Node {
     // The node under a scenario.
     pub fn stressed(self, s: Scenario) -> Node
         requires { NodeLimits self × ScenarioLimits s }
         ensures { result ≡ stressed s self }
     {
-        let rate = clamp(shift(self, s));
-        let mut n = self;
-        n.rate = rate;
-        n
+        let rate = shift(self, s).clamp(0, 1_000_000) as u64;
+        Node { rate, ..self }
     }
 }
 
@@ -182,13 +157,9 @@ impl Curve {
         ensures { result ≡ stressed_curve s self }
     {
         let mut r = self;
-        let n = self.count;
-        let mut i: usize = 0;
-        while i < n {
-            let a = r.nodes[i];
-            let b = a.stressed(s);
-            r.nodes[i] = b;
-            i += 1;
+        // By place: after `iter_mut` of a part of a field the check knows the part's length alone, and an array in a local is one copy more a scenario.
+        for i in 0..self.count {
+            r.nodes[i] = self.nodes[i].stressed(s);
         }
         r
     }
@@ -199,9 +170,7 @@ impl Node {
     pub fn at_rate(self, rate: u64) -> Node
         ensures { result ≡ at_rate self rate }
     {
-        let mut n = self;
-        n.rate = rate;
-        n
+        Node { rate, ..self }
     }
 }
 
@@ -211,19 +180,18 @@ impl Curve {
         requires { ProperCurve self }
         ensures { result ≡ end_day self }
     {
-        let last = self.nodes[self.count - 1];
-        last.day
+        self.nodes[self.count - 1].day
     }
 
     // The curve with one node more, behind the last.
+    #[tactic(auto, unfolding(crate::specs::Lengthen::lengthened_curve))]
     pub fn lengthened(self, n: Node) -> Curve
         requires { ProperCurve self × (self.count < 24) }
         ensures { result ≡ lengthened_curve n self }
     {
         let mut r = self;
-        let at = self.count;
-        r.nodes[at] = n;
-        r.count = at + 1;
+        r.nodes[self.count] = n;
+        r.count += 1;
         r
     }
 }

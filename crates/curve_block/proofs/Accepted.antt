@@ -9,13 +9,13 @@ use borrow.Author.Tests.{eqb-true, leb-true, ltb-true, not-false, ne_eqb}
 use lib.Dec.{eqb, leb, ltb}
 use lib.IntN.{ℤ, pos, negsuc, nat_abs}
 use lib.ListN.{get_or}
+use Rattle.std.specs.Prelude.{Ok}
 use Rattle.laws.specs.Every.{every}
 use Rattle.laws.specs.Walk.{table}
 use Rattle.laws.proofs.Bools.{both}
 use Rattle.laws.proofs.Tests.{all-at}
 use Rattle.laws.proofs.Every.{every-at}
 use Rattle.laws.proofs.Walk.{length-table, get_d-table}
-use Rattle.ground.specs.declared.Verdict.TheVariants.{Accepted}
 use Rattle.ground.specs.Limits.{last_day}
 use Rattle.layout.specs.Check.{breaks_check, breaks_place}
 use Rattle.ground.proofs.Verdicts.{unbroken}
@@ -116,7 +116,7 @@ pub record SoundCurve (b : List ℕ) (k : ℕ) : Type 0 where
   pub curve : ProperCurve (curve_of b)
   pub components : ProperComponents (components_of b)
 
-pub accepted-curve : (b : List ℕ) (k : ℕ) → curve_verdict b k ≡ Accepted → SoundCurve b k
+pub accepted-curve : (b : List ℕ) (k : ℕ) → curve_verdict b k ≡ Ok tt → SoundCurve b k
 unfolding curve_verdict numbers_sound
 accepted-curve b k h =
     let kept = unbroken k (curve_rules b k) h in

@@ -8,10 +8,10 @@ use native.Mathlib.Omega.{arith}
 use borrow.Author.Tests.{eqb-true, not-false}
 use lib.ListN.{length, get_or}
 use lib.Seq.{ext_get_or}
+use Rattle.std.specs.Prelude.{Ok}
 use Rattle.laws.proofs.Bools.{both}
 use Rattle.laws.proofs.Tests.{all-at}
 use Rattle.laws.proofs.Every.{every-at}
-use Rattle.ground.specs.declared.Verdict.TheVariants.{Accepted}
 use Rattle.layout.specs.Bytes.{byte_at, AreBytes}
 use Rattle.layout.specs.Field.{number_at, u16_at, u32_at, i32_at}
 use Rattle.layout.proofs.Bytes.{zeros-at}
@@ -48,7 +48,7 @@ unnamed-kept b h =
       behind = zeros-at b (node_place (node_count b)) 508 (at 4);
     }
 
-pub accepted-unnamed : (b : List ℕ) (k : ℕ) → curve_verdict b k ≡ Accepted → Unnamed b
+pub accepted-unnamed : (b : List ℕ) (k : ℕ) → curve_verdict b k ≡ Ok tt → Unnamed b
 unfolding curve_verdict breaks_curve
 accepted-unnamed b k h =
     unnamed-kept b (both (numbers_sound b k) (unnamed_zero b) (not-false _ (unbroken k (curve_rules b k) h 2))).1
@@ -110,7 +110,7 @@ node_alike : (b c : List ℕ) → curve_of b ≡ curve_of c → (i : ℕ) → i 
 unfolding curve_of
 node_alike b c e i l = sym (place b i l) ∙ ap (λ (x : Curve). get_or x.nodes i zero_node) e ∙ place c i l
 
-module _ (b c : List ℕ) (k : ℕ) (hb : AreBytes b) (hc : AreBytes c) (vb : curve_verdict b k ≡ Accepted) (vc : curve_verdict c k ≡ Accepted) (alike : SameParts b c) where
+module _ (b c : List ℕ) (k : ℕ) (hb : AreBytes b) (hc : AreBytes c) (vb : curve_verdict b k ≡ Ok tt) (vc : curve_verdict c k ≡ Ok tt) (alike : SameParts b c) where
   head : Same b c hb hc 20
   unfolding components_of
   head =

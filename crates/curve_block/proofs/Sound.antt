@@ -7,8 +7,8 @@ use native.Mathlib.Omega.{arith}
 use borrow.Author.Tests.{eq-eqb, ne_eqb, le-leb, lt-ltb}
 use lib.Dec.{eqb, ltb}
 use lib.IntN.{ℤ, pos, negsuc, nat_abs}
+use Rattle.std.specs.Prelude.{Ok}
 use Rattle.laws.proofs.Every.{every_of}
-use Rattle.ground.specs.declared.Verdict.TheVariants.{Accepted}
 use Rattle.ground.specs.Limits.{last_day}
 use Rattle.layout.specs.Bytes.{byte_at}
 use Rattle.layout.specs.Field.{u16_at}
@@ -94,6 +94,6 @@ module _ (b : List ℕ) (p : ProperCurve (curve_of b)) where
 
 -- ---- the block
 
-pub curve-accepted : (b : List ℕ) (k : ℕ) → SoundCurve b k → Unnamed b → curve_verdict b k ≡ Accepted
+pub curve-accepted : (b : List ℕ) (k : ℕ) → SoundCurve b k → Unnamed b → curve_verdict b k ≡ Ok tt
 unfolding curve_verdict breaks_curve
 curve-accepted b k s u = rw (s.check, s.place, numbers-sound b k s, unnamed-sound b u, nodes-sound b s.curve)

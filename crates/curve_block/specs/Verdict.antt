@@ -1,8 +1,7 @@
 -- The verdict on a curve block: grounds 2, 3, 5 and 6 in order.
 use Rattle.std.specs.Prelude.{ℕ, List, [], ◌∷◌}
 use Rattle.ground.specs.declared.Ground.TheVariants.{Check, Place, Curve, Node}
-use Rattle.ground.specs.declared.Verdict.{Verdict}
-use Rattle.ground.specs.Verdicts.{Rule, first_broken}
+use Rattle.ground.specs.Verdicts.{Verdict, Rule, first_broken}
 use Rattle.layout.specs.Check.{breaks_check, breaks_place}
 use Rattle.curve_block.specs.Rules.{breaks_curve, breaks_node}
 

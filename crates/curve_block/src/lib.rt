@@ -3,8 +3,8 @@
 
 pub mod rules;
 
-ghost use Rattle.std.specs.Prelude.{◌≡◌, ◌≤◌, ◌<◌, length};
-ghost use Rattle.curve_block.specs.Parts.{currency_of, node_count, node_place, node_at, curve_of, components_of};
+ghost use Rattle.std.specs.Prelude.{◌≡◌, ◌+◌, ◌≤◌, ◌<◌, length};
+ghost use Rattle.curve_block.specs.Parts.{currency_of, node_count, node_place, node_at, curve_of, component_at, components_of};
 
 use curve::{Component, Components, Curve, Node};
 use layout::{i32_at, u16_at, u32_at, wide};
@@ -31,22 +31,18 @@ pub fn node_place(i: usize) -> usize
     20 + i * 20
 }
 
+#[tactic(auto, unfolding(crate::specs::Parts::node_at))]
 fn node_at(b: &[u8], i: usize) -> Node
     requires { (length b.now ≡ 512) × (i < 24) }
     ensures { result ≡ node_at b.now i }
 {
     let at = node_place(i);
-    let day = u16_at(b, at);
-    let rate = u32_at(b, at + 4);
-    let first = i32_at(b, at + 8);
-    let second = i32_at(b, at + 12);
-    let third = i32_at(b, at + 16);
     Node {
-        day: day,
-        rate: rate,
-        first: first,
-        second: second,
-        third: third,
+        day: u16_at(b, at),
+        rate: u32_at(b, at + 4),
+        first: i32_at(b, at + 8),
+        second: i32_at(b, at + 12),
+        third: i32_at(b, at + 16),
     }
 }
 
@@ -61,39 +57,36 @@ pub fn curve_of(b: &[u8]) -> Curve
         second: 0,
         third: 0,
     };
+    // std's array::from_fn tells nothing of what its closure made, where that isn't a bound
     let mut nodes = [none; 24];
-    let mut i: usize = 0;
-    while i < 24 {
-        let node = node_at(b, i);
-        nodes[i] = node;
-        i += 1;
+    for i in 0..24 {
+        nodes[i] = node_at(b, i);
     }
-    let count = node_count(b);
     Curve {
-        nodes: nodes,
-        count: count,
+        nodes,
+        count: node_count(b),
     }
 }
 
+// The component whose steps and range stand at these places.
+fn component_at(b: &[u8], steps: usize, range: usize) -> Component
+    requires { (steps < length b.now) × (range + 2 ≤ length b.now) }
+    ensures { result ≡ component_at b.now steps range }
+{
+    Component {
+        steps: wide(b[steps]),
+        range: u16_at(b, range),
+    }
+}
+
+#[tactic(auto, unfolding(crate::specs::Parts::components_of))]
 pub fn components_of(b: &[u8]) -> Components
     requires { length b.now ≡ 512 }
     ensures { result ≡ components_of b.now }
 {
-    let first = Component {
-        steps: wide(b[7]),
-        range: u16_at(b, 12),
-    };
-    let second = Component {
-        steps: wide(b[8]),
-        range: u16_at(b, 14),
-    };
-    let third = Component {
-        steps: wide(b[9]),
-        range: u16_at(b, 16),
-    };
     Components {
-        first: first,
-        second: second,
-        third: third,
+        first: component_at(b, 7, 12),
+        second: component_at(b, 8, 14),
+        third: component_at(b, 9, 16),
     }
 }

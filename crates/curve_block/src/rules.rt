@@ -6,16 +6,18 @@ ghost use Rattle.curve_block.specs.Verdict.{curve_verdict};
 
 use crate::{components_of, currency_of, node_at, node_count, node_place};
 use curve::{Component, Node};
-use ground::{Ground, LAST_DAY, Verdict};
+use ground::{Ground, LAST_DAY, Refusal, refuse_if};
 use layout::check::{breaks_check, breaks_place};
 use layout::{u16_at, wide, zeros};
 
+#[tactic(auto, unfolding(crate::specs::Rules::steps_sound))]
 fn steps_sound(x: Component) -> bool
     ensures { result ≡ steps_sound x }
 {
     (x.steps <= 3) & (x.range <= 10_000)
 }
 
+#[tactic(auto, unfolding(crate::specs::Rules::numbers_sound))]
 fn numbers_sound(b: &[u8], k: u64) -> bool
     requires { length b.now ≡ 512 }
     ensures { result ≡ numbers_sound b.now k }
@@ -23,17 +25,14 @@ fn numbers_sound(b: &[u8], k: u64) -> bool
     let currency = currency_of(b);
     let n = node_count(b);
     let x = components_of(b);
-    let first = x.first;
-    let second = x.second;
-    let third = x.third;
     (wide(b[4]) == k)
         & (1 <= currency)
         & (currency <= 3)
         & (2 <= n)
         & (n <= 24)
-        & steps_sound(first)
-        & steps_sound(second)
-        & steps_sound(third)
+        & steps_sound(x.first)
+        & steps_sound(x.second)
+        & steps_sound(x.third)
 }
 
 // The two 0 bytes of each node.
@@ -41,17 +40,15 @@ fn gaps_zero(b: &[u8]) -> bool
     requires { (length b.now ≡ 512) × (node_count b.now ≤ 24) }
     ensures { result ≡ gaps_zero b.now }
 {
-    let n = node_count(b);
-    let mut i: usize = 0;
-    while i < n {
+    for i in 0..node_count(b) {
         if u16_at(b, node_place(i) + 2) != 0 {
             return false;
         }
-        i += 1;
     }
     true
 }
 
+#[tactic(auto, unfolding(crate::specs::Rules::unnamed_zero))]
 fn unnamed_zero(b: &[u8]) -> bool
     requires { (length b.now ≡ 512) × (node_count b.now ≤ 24) }
     ensures { result ≡ unnamed_zero b.now }
@@ -65,17 +62,16 @@ fn unnamed_zero(b: &[u8]) -> bool
 }
 
 // Ground 5.
+#[tactic(auto, unfolding(crate::specs::Rules::breaks_curve))]
 pub fn breaks_curve(b: &[u8], k: u64) -> bool
     requires { length b.now ≡ 512 }
     ensures { result ≡ breaks_curve b.now k }
 {
-    if !numbers_sound(b, k) {
-        return true;
-    }
-    !unnamed_zero(b)
+    !(numbers_sound(b, k) && unnamed_zero(b))
 }
 
 // A component of a node.
+#[tactic(auto, unfolding(crate::specs::Rules::component_sound))]
 pub fn component_sound(z: i64) -> bool
     ensures { result ≡ component_sound z }
 {
@@ -83,6 +79,7 @@ pub fn component_sound(z: i64) -> bool
 }
 
 // Node i, behind a node of day `before`.
+#[tactic(auto, unfolding(crate::specs::Rules::node_sound))]
 fn node_sound(i: usize, before: u64, n: Node) -> bool
     ensures { result ≡ node_sound i before n }
 {
@@ -99,31 +96,25 @@ pub fn breaks_node(b: &[u8]) -> bool
     requires { (length b.now ≡ 512) × (node_count b.now ≤ 24) }
     ensures { result ≡ breaks_node b.now }
 {
-    let n = node_count(b);
     let mut before: u64 = 0;
-    let mut i: usize = 0;
-    while i < n {
+    for i in 0..node_count(b) {
         let node = node_at(b, i);
         if !node_sound(i, before, node) {
             return true;
         }
         before = node.day;
-        i += 1;
     }
     false
 }
 
 // The verdict on curve block k: grounds 2, 3, 5 and 6, whose test needs the node count that 5 allows.
-pub fn curve_verdict(b: &[u8], k: u64) -> Verdict
+#[tactic(auto, unfolding(crate::specs::Verdict::curve_verdict))]
+pub fn curve_verdict(b: &[u8], k: u64) -> Result<(), Refusal>
     requires { length b.now ≡ 512 }
     ensures { result ≡ curve_verdict b.now k }
 {
-    let v = Verdict::Accepted
-        .or_if(breaks_check(b), Ground::Check, k)
-        .or_if(breaks_place(b, 2, k), Ground::Place, k)
-        .or_if(breaks_curve(b, k), Ground::Curve, k);
-    if !v.is_accepted() {
-        return v;
-    }
-    v.or_if(breaks_node(b), Ground::Node, k)
+    refuse_if(breaks_check(b), Ground::Check, k)?;
+    refuse_if(breaks_place(b, 2, k), Ground::Place, k)?;
+    refuse_if(breaks_curve(b, k), Ground::Curve, k)?;
+    refuse_if(breaks_node(b), Ground::Node, k)
 }

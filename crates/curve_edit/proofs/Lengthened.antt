@@ -14,7 +14,7 @@ use Rattle.laws.specs.Walk.{table}
 use Rattle.laws.proofs.Signed.{mag-abs}
 use Rattle.laws.proofs.Walk.{length-table}
 use Rattle.laws.proofs.Tables.{table-by}
-use Rattle.ground.specs.declared.Verdict.TheVariants.{Accepted}
+use Rattle.std.specs.Prelude.{Ok}
 use Rattle.layout.specs.Bytes.{byte_at, put, AreBytes}
 use Rattle.layout.specs.Field.{number_at, u16_at, bytes_of, signed_of, twos}
 use Rattle.layout.specs.Check.{sealed, breaks_place}
@@ -203,7 +203,7 @@ module _ (n : Node) (b : List ℕ) where
 pub record Addable (b : List ℕ) (k : ℕ) (n : Node) : Type 0 where
   pub long : length b ≡ 512
   pub bytes : AreBytes b
-  pub accepted : curve_verdict b k ≡ Accepted
+  pub accepted : curve_verdict b k ≡ Ok tt
   pub room : node_count b < 24
   pub limits : NodeLimits n
   pub later : end_day (curve_of b) < n.day
@@ -262,5 +262,5 @@ module _ (b : List ℕ) (k : ℕ) (n : Node) (a : Addable b k n) where
       gap i l (yes e) = rw e (gap-new n b a.long a.room)
       gap i l (no e) = node-field n b i (omega (arith, a.room)) e 2 2 (omega arith) ∙ (accepted-unnamed b k a.accepted).gaps i (omega arith)
 
-  pub verdict-with-node : curve_verdict (with_node n b) k ≡ Accepted
+  pub verdict-with-node : curve_verdict (with_node n b) k ≡ Ok tt
   verdict-with-node = curve-accepted (with_node n b) k sound-with-node unnamed-with-node

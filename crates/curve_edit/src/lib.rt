@@ -29,7 +29,7 @@ pub fn add_node(b: &mut [u8], n: Node)
     requires { (length b.old ≡ 512) × (node_count b.old < 24) }
     ensures { b.new ≡ with_node n b.old }
 {
-    let count = node_count(&b[..]);
+    let count = node_count(b);
     put_node(b, node_place(count), n);
     b[6] = (count + 1) as u8;
     seal(b);

@@ -1,12 +1,10 @@
 -- Laws of rounding half up: it is within a half of the quotient, a multiple of the divisor comes out whole, and so does the quotient of a factor.
 use mathlib.Core.Path.{◌≡◌, ap, sym, ◌∙◌}
 use Prim.Native.Nat.{ℕ, ◌+◌, ◌*◌, ◌/◌, ◌%◌, ◌≤◌, ◌<◌}
-use native.Mathlib.Nat.{add_comm, add-mul-div_right, mul-div-mul_right, div-le_of_le-mul, div-lt_iff_lt-mul, div-eq_of_lt, div-eq_of_lt-le, div-add-mod', le-div_iff_mul-le, div-mul-le_self, lt-div-mul-add, lt_of_mul-lt-mul_right, le_of_mul-le-mul_right, le_refl, mul-le-mul_left, mul-le-mul_right}
+use native.Mathlib.Nat.{mod-lt, add_comm, add-mul-div_right, mul-div-mul_right, div-le_of_le-mul, div-lt_iff_lt-mul, div-eq_of_lt, div-eq_of_lt-le, div-add-mod', le-div_iff_mul-le, div-mul-le_self, lt-div-mul-add, lt_of_mul-lt-mul_right, le_of_mul-le-mul_right, le_refl, mul-le-mul_left, mul-le-mul_right}
 use native.Mathlib.Omega.{arith}
-use borrow.Author.Tests.{le-leb, lt-leb}
 use Rattle.decimal.specs.Product.{unit}
-use Rattle.decimal.specs.HalfUp.{half_up, discounted, scaled_to}
-use Rattle.decimal.specs.declared.round.Scaled.TheVariants.{Within, Over}
+use Rattle.decimal.specs.HalfUp.{half_up, discounted}
 use Rattle.decimal.proofs.Products.{unit-pos}
 
 -- ---- within a half of the quotient
@@ -102,11 +100,5 @@ discounted-one a =
     let least : a * (unit * 2) < (discounted a unit + 1) * (unit * 2) = omega (arith, unit-pos) in
     omega (arith, discounted-le a unit (le_refl unit), lt_of_mul-lt-mul_right (unit * 2) least)
 
--- the answer for an amount m that was computed as n
-pub scaled-within : {n m : ℕ} → n ≡ m → n ≤ unit → Within n ≡ scaled_to m
-unfolding scaled_to
-scaled-within {n} e h = rw (← e, le-leb n unit h)
-
-pub scaled-over : {n m : ℕ} → n ≡ m → unit < n → Over ≡ scaled_to m
-unfolding scaled_to
-scaled-over {n} e h = rw (← e, lt-leb n unit h)
+-- what the functions of `round` are proved by
+pub ruleset rounding = (half-up-out, half-up-le, half-up-even, half-up-rest, half-down-rest, half-up-multiple, mod-lt, div-add-mod')

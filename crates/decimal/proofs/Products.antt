@@ -12,21 +12,6 @@ two_power = 4096
 abbrev pub five_power : ℕ
 five_power = 244_140_625
 
--- what the products are at most: `omega` takes each as an unknown, and reads these
-pub record ProductParts (a b : ℕ) : Type 0 where
-  pub upper : (a / two_power) * (b / five_power) ≤ five_power * two_power
-  pub cross : (a / two_power) * (b % five_power) ≤ five_power * five_power
-  pub lower : (a % two_power) * b ≤ two_power * 1000000000000
-
-pub product-parts : (a b : ℕ) → a ≤ unit → b ≤ unit → ProductParts a b
-unfolding unit
-product-parts a b ha hb =
-    let a₁ : a / two_power ≤ five_power = omega arith in
-    let a₀ : a % two_power ≤ two_power = omega arith in
-    let b₁ : b / five_power ≤ two_power = omega arith in
-    let b₀ : b % five_power ≤ five_power = omega arith in
-    record { upper = mul-le-mul a₁ b₁; cross = mul-le-mul a₁ b₀; lower = mul-le-mul a₀ hb }
-
 -- with a₁, a₀ and b₁, b₀ for the parts of a and b
 module _ (a₁ a₀ b₁ b₀ : ℕ) where
   -- the product and m more over 2 ^ 12
@@ -50,6 +35,9 @@ over-by-parts a b m =
     ∙ ap (λ (n : ℕ). n / five_power) (sym (first (a / two_power) (a % two_power) (b / five_power) (b % five_power) b m))
     ∙ ap (λ (n : ℕ). (n * b + m) / two_power / five_power) (div-add-mod' a two_power)
     ∙ div-div-eq-div-mul (a * b + m) two_power five_power
+
+-- what `over_unit` is proved by: its partial products fit, and come to the whole
+pub ruleset parts = (mul-le-mul, over-by-parts)
 
 -- ---- a product lies within one below the quotient, is at most its first factor, and grows with both
 

@@ -1,8 +1,7 @@
 -- Quotients rounded to the nearest, halves up, once (document 01, "Flows"; document 02, wish 7).
-use Rattle.std.specs.Prelude.{cond, ℕ, ◌+◌, ◌*◌, ◌/◌, leb}
+use Rattle.std.specs.Prelude.{ℕ, ◌+◌, ◌*◌, ◌/◌, leb, Option}
+use Rattle.std.specs.Bool.{then_some}
 use Rattle.decimal.specs.Product.{unit}
-use Rattle.decimal.specs.declared.round.Scaled.{Scaled}
-use Rattle.decimal.specs.declared.round.Scaled.TheVariants.{Within, Over}
 
 -- n / d to the nearest whole, halves up
 unfoldable pub half_up : ℕ → ℕ → ℕ
@@ -29,5 +28,5 @@ unfoldable pub discounted : ℕ → ℕ → ℕ
 discounted amount factor = half_up (amount * factor) unit
 
 -- an amount where it is at most the largest
-unfoldable pub scaled_to : ℕ → Scaled
-scaled_to n = cond (leb n unit) (Within n) Over
+unfoldable pub scaled_to : ℕ → Option ℕ
+scaled_to n = then_some (leb n unit) n

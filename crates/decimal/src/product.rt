@@ -1,4 +1,6 @@
 // Products over 10^12. The whole product of two numbers of that size does not fit a u64, so it is taken in parts.
+#![tactic(auto, unfolding(crate::specs::Product::unit, crate::specs::Product::product), using(crate::proofs::Products::parts))]
+
 ghost use Rattle.std.specs.Prelude.{◌≡◌, ◌+◌, ◌*◌, ◌/◌, ◌≤◌};
 ghost use Rattle.decimal.specs.Product.{unit, product};
 
@@ -13,11 +15,11 @@ pub fn over_unit(a: u64, b: u64, more: u64) -> u64
     requires { (a ≤ unit) × (b ≤ unit) × (more ≤ unit) }
     ensures { result ≡ (a * b + more) / unit }
 {
-    let a1 = a / TWOS;
-    let a0 = a % TWOS;
-    let b1 = b / FIVES;
-    let b0 = b % FIVES;
-    a1 * b1 + (a1 * b0 + (a0 * b + more) / TWOS) / FIVES
+    let a_high = a / TWOS;
+    let a_low = a % TWOS;
+    let b_high = b / FIVES;
+    let b_low = b % FIVES;
+    a_high * b_high + (a_high * b_low + (a_low * b + more) / TWOS) / FIVES
 }
 
 // The product of two fixed-point numbers, rounded down.

@@ -1,5 +1,7 @@
 // Amounts that are a product over a divisor, rounded half up. Where the product may not fit a u64 the divisor is taken out of one factor first,
 // and only what is left is rounded.
+#![tactic(auto, unfolding(crate::specs::Product::unit, crate::specs::HalfUp::half_up, crate::specs::HalfUp::millionths_of, crate::specs::HalfUp::interest_on, crate::specs::HalfUp::withholding_on, crate::specs::HalfUp::discounted, crate::specs::HalfUp::indexed_by, crate::specs::HalfUp::scaled_to), using(crate::proofs::HalfUp::rounding))]
+
 ghost use Rattle.std.specs.Prelude.{◌≡◌, ◌*◌, ◌^◌, ◌≤◌, ◌<◌};
 ghost use Rattle.decimal.specs.Product.{unit};
 ghost use Rattle.decimal.specs.HalfUp.{half_up, millionths_of, interest_on, withholding_on, indexed_by, discounted, scaled_to};
@@ -22,10 +24,7 @@ pub fn half_up(n: u64, d: u64) -> u64
 {
     let whole = n / d;
     let rest = n % d;
-    if d <= rest * 2 {
-        return whole + 1;
-    }
-    whole
+    if d <= rest * 2 { whole + 1 } else { whole }
 }
 
 // So many millionths of an amount: a coupon, or settlement cash at a dirty price.
@@ -61,27 +60,16 @@ pub fn discounted(amount: u64, factor: u64) -> u64
     over_unit(amount, factor, HALF_UNIT)
 }
 
-// An amount, or that it is above the largest.
-#[derive(Clone, Copy)]
-pub enum Scaled {
-    Within(u64),
-    Over,
-}
-
-// A payment scaled by the index at settlement over that at issue.
-pub fn indexed_by(settlement: u64, issue: u64, payment: u64) -> Scaled
+// A payment scaled by the index at settlement over that at issue; none where that is above the largest amount.
+pub fn indexed_by(settlement: u64, issue: u64, payment: u64) -> Option<u64>
     requires { (payment ≤ 2 * unit) × (0 < settlement) × (settlement ≤ 10_000_000) × (0 < issue) × (issue ≤ 10_000_000) }
     ensures { result ≡ scaled_to (indexed_by settlement issue payment) }
 {
     let whole = payment / issue;
     if LARGEST / settlement < whole {
-        return Scaled::Over;
+        return None;
     }
     let left = payment % issue;
     let total = whole * settlement + half_up(left * settlement, issue);
-    if total <= LARGEST {
-        Scaled::Within(total)
-    } else {
-        Scaled::Over
-    }
+    (total <= LARGEST).then_some(total)
 }

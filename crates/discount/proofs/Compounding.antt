@@ -34,6 +34,9 @@ pub compound-none : (a q : ℕ) → compound a q 0 ≡ a
 unfolding compound
 compound-none a q = refl
 
+-- what a loop of products is proved by
+pub ruleset chains = (compound-le, compound-next, compound-none)
+
 -- ---- powers
 
 pub power_le : (q k : ℕ) → q ≤ unit → power q k ≤ unit
@@ -65,12 +68,14 @@ power-one (suc k) = ap (λ (n : ℕ). n * unit / unit) (power-one k)
 
 -- ---- two chains: the powers of a number and of the next one
 
-pub powers-none : (q : ℕ) {c : Chains} → (c.low.0 ≡ unit) × (c.high.0 ≡ unit) → PowersBy q 0 c
-powers-none q h = record { low-is = h.0 ∙ sym (power-none q); high_is = h.1 ∙ sym (power-none (q + 1)) }
+pub powers-none : (q : ℕ) (c : Chains) → c.low.0 ≡ unit → c.high.0 ≡ unit → PowersBy q 0 c
+powers-none q c l h = record { low-is = l ∙ sym (power-none q); high_is = h ∙ sym (power-none (q + 1)) }
 
-pub powers-next : (q i : ℕ) {c d : Chains} → (d.low.0 ≡ product c.low.0 q) × (d.high.0 ≡ product c.high.0 (q + 1)) → PowersBy q i c
-    → PowersBy q (i + 1) d
-powers-next q i h p = record { low-is = power-next q i h.0 p.low-is; high_is = power-next (q + 1) i h.1 p.high_is }
+pub powers-next : (q i : ℕ) (c d : Chains) → d.low.0 ≡ product c.low.0 q → d.high.0 ≡ product c.high.0 (q + 1) → PowersBy q i c → PowersBy q (i + 1) d
+powers-next q i c d l h p = record { low-is = power-next q i l p.low-is; high_is = power-next (q + 1) i h p.high_is }
 
 pub powers-le : (q i : ℕ) {c : Chains} → q < unit → PowersBy q i c → (c.low.0 ≤ unit) × (c.high.0 ≤ unit)
 powers-le q i l p = (omega (arith, p.low-is, power_le q i (omega arith)), omega (arith, p.high_is, power_le (q + 1) i (omega arith)))
+
+-- what runs of products are proved by
+pub ruleset runs = (powers-none, powers-next, powers-le, power_le)

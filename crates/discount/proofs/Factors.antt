@@ -119,3 +119,6 @@ factor-is rate days {y} e g h =
     h
     ∙ ap (λ (x : ℕ). compound x y (days / 365)) g
     ∙ ap (λ (x : ℕ). compound (power (root x) (days % 365)) x (days / 365)) e
+
+-- what a factor is proved by
+pub ruleset factors = (factor-one, factor-is)

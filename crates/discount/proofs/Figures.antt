@@ -4,12 +4,12 @@ use mathlib.Core.Path.{◌≡◌, refl}
 use Prim.Native.Nat.{ℕ}
 use lib.Dec.{lit<, leb→le}
 use Rattle.ground.specs.declared.Ground.TheVariants.{ValueRange}
+use Rattle.ground.specs.Verdicts.{refused}
 use Rattle.decimal.specs.Product.{unit, product}
 use Rattle.decimal.specs.HalfUp.{half_up, discounted}
 use Rattle.discount.specs.Discount.{million, year, yearly, compound, power, factor, present_value}
 use Rattle.discount.specs.Exact.{exact}
 use Rattle.discount.specs.Valued.{breaks_value_range, valued_of}
-use Rattle.discount.specs.declared.entry.Valued.TheVariants.{Refused}
 use Rattle.discount.proofs.Exactness.{exact-is}
 
 pub record PresentValues : Type 0 where
@@ -18,7 +18,7 @@ pub record PresentValues : Type 0 where
   pub two-years : present_value 1000 1000000 730 ≡ 250
   -- 10^12 at 1,000,000, day 10,950: 931; day 10,951 is refused by 16
   pub last-day : present_value 1000000000000 1000000 10950 ≡ 931
-  pub day-after : valued_of 1000000000000 1000000 10951 ≡ Refused ValueRange 0
+  pub day-after : valued_of 1000000000000 1000000 10951 ≡ refused ValueRange 0
   -- 77 on day 0: 77
   pub today : (rate : ℕ) → present_value 77 rate 0 ≡ 77
 

@@ -77,3 +77,6 @@ root-one = omega (arith, root-le unit, root_ge unit unit (le_refl unit) (omega (
 
 pub root-mono : {y z : ℕ} → y ≤ z → root y ≤ root z
 root-mono {y} {z} h = root_ge z (root y) (root-le y) (le_trans (root-holds y) h)
+
+-- what the functions of a year's factor and its root are proved by
+pub ruleset roots = (yearly-le, root-lt, root_ge, root_below, root_is, root-le)

@@ -1,15 +1,14 @@
 // The factor of a day, the largest whose power by 365 is at most the factor of a year, and its power by some days. It comes from a guess, which
 // no proof rests on: a factor is taken only where its power and the next one's stand on either side of the year's.
-ghost use Rattle.std.specs.Prelude.{◌≡◌, ◌+◌, ◌-◌, ◌≤◌, ◌<◌};
+#![tactic(auto, unfolding(decimal::specs::Product::unit, crate::specs::Discount::year), using(crate::proofs::Compounding::runs, crate::proofs::Roots::roots))]
+
+ghost use Rattle.std.specs.Prelude.{◌≡◌, ℕ, ◌+◌, ◌-◌, ◌≤◌, ◌<◌};
 ghost use Rattle.decimal.specs.Product.{unit, product};
 ghost use Rattle.discount.specs.Discount.{year, power, root};
 ghost use Rattle.discount.specs.Powers.{PowersBy, gap};
 
-use super::factor::Factor;
+use super::factor::{Factor, YEAR};
 use super::guess::guess;
-
-// The days of a year.
-const YEAR: u64 = 365;
 
 // The powers of a factor and of the next one, side by side: a product waits for the one before it, so two chains of products take little longer
 // than one.
@@ -24,10 +23,9 @@ impl Chains {
     pub fn ones() -> Chains
         ensures { (result.low.0 ≡ unit) × (result.high.0 ≡ unit) }
     {
-        let one = Factor(Factor::UNIT);
         Chains {
-            low: one,
-            high: one,
+            low: Factor::ONE,
+            high: Factor::ONE,
         }
     }
 
@@ -36,29 +34,45 @@ impl Chains {
         requires { (self.low.0 ≤ unit) × (self.high.0 ≤ unit) × (q.0 < unit) }
         ensures { (result.low.0 ≡ product self.low.0 q.0) × (result.high.0 ≡ product self.high.0 (q.0 + 1)) }
     {
-        let next = q.0 + 1;
-        let low = self.low;
-        let high = self.high;
         Chains {
-            low: low.product(q),
-            high: high.product(Factor(next)),
+            low: self.low.product(q),
+            high: self.high.product(Factor(q.0 + 1)),
         }
     }
 }
 
-// From the powers by j to those by k.
-fn run(from: Chains, q: Factor, j: u64, k: u64) -> Chains
-    requires { (q.0 < unit) × (j ≤ k) × PowersBy q.0 j from }
-    ensures { PowersBy q.0 k result }
-{
-    let by = q;
-    let mut chains = from;
-    let mut i = j;
-    while i < k {
-        chains = chains.product(by);
-        i += 1;
+// Powers that one product a turn takes on: the chains of a factor, or those of two.
+pub trait Powers: Copy {
+    // The factors whose powers they are.
+    type Of: Copy;
+
+    ghost stand_at: { Self.Of → ℕ → Self → Type 0 };
+
+    fn next(self, of: Self::Of) -> Self
+        requires { (k : ℕ) × stand_at of k self }
+        ensures { (k : ℕ) → stand_at of k self → stand_at of (k + 1) result };
+}
+
+impl Powers for Chains {
+    type Of = Factor;
+
+    ghost stand_at = { λ q k chains. (q.0 < unit) × PowersBy q.0 k chains };
+
+    fn next(self, of: Factor) -> Chains {
+        self.product(of)
     }
-    chains
+}
+
+// From the powers by j to those by k.
+pub fn run<P: Powers>(from: P, of: P::Of, j: u64, k: u64) -> P
+    requires { (j ≤ k) × P.stand_at of j from }
+    ensures { P.stand_at of k result }
+{
+    let mut powers = from;
+    for _ in j..k {
+        powers = powers.next(of);
+    }
+    powers
 }
 
 // One step from q towards the day's factor of a year's, and q where it is that factor: the powers by 365 of q and of the next one tell.
@@ -66,17 +80,11 @@ fn nearer(yearly: Factor, q: Factor, ends: Chains) -> Factor
     requires { (yearly.0 < unit) × (q.0 < unit) × PowersBy q.0 year ends }
     ensures { (result.0 < unit) × (gap (root yearly.0) result.0 ≡ gap (root yearly.0) q.0 - 1) }
 {
-    let y = yearly.0;
-    let at = q.0;
-    let low = ends.low;
-    let high = ends.high;
-    if y < low.0 {
-        let less = at - 1;
-        return Factor(less);
+    if yearly.0 < ends.low.0 {
+        return Factor(q.0 - 1);
     }
-    if high.0 <= y {
-        let more = at + 1;
-        return Factor(more);
+    if ends.high.0 <= yearly.0 {
+        return Factor(q.0 + 1);
     }
     q
 }
@@ -86,11 +94,10 @@ fn search(yearly: Factor, from: Factor) -> Factor
     requires { (yearly.0 < unit) × (from.0 < unit) }
     ensures { result.0 ≡ root yearly.0 }
 {
-    let y = yearly;
     let mut q = from;
     loop {
-        let next = nearer(y, q, run(Chains::ones(), q, 0, YEAR));
-        if next.0 == q.0 {
+        let next = nearer(yearly, q, run(Chains::ones(), q, 0, YEAR));
+        if next == q {
             return q;
         }
         q = next;
@@ -103,7 +110,7 @@ pub fn power_from_guess(yearly: Factor, k: u64, q: Factor, taken: Factor, ends: 
     ensures { (result.0 ≡ power (root yearly.0) k) × (result.0 ≤ unit) }
 {
     let next = nearer(yearly, q, ends);
-    if next.0 == q.0 {
+    if next == q {
         return taken;
     }
     search(yearly, next).power(k)

@@ -4,13 +4,13 @@ ghost use Rattle.discount.specs.Valued.{breaks_value_range, valued_of};
 
 use super::factor::Factor;
 use super::value::{present_value, tolerance};
-use ground::{Ground, LAST_DAY};
+use ground::{Ground, LAST_DAY, Refusal, refuse_if};
 
-// The present value and its tolerance, or the ground and the block.
-#[derive(Clone, Copy)]
-pub enum Valued {
-    Worth(u64, u64),
-    Refused(Ground, u64),
+// A present value and its tolerance.
+#[derive(Clone, Copy, Debug, PartialEq, Eq)]
+pub struct Worth {
+    pub value: u64,
+    pub tolerance: u64,
 }
 
 // Ground 16.
@@ -21,11 +21,13 @@ fn breaks_value_range(amount: u64, rate: u64, day: u64) -> bool
 }
 
 // Takes every input.
-pub fn value(amount: u64, rate: u64, day: u64) -> Valued
+#[tactic(auto, unfolding(crate::specs::Valued::valued_of))]
+pub fn value(amount: u64, rate: u64, day: u64) -> Result<Worth, Refusal>
     ensures { result ≡ valued_of amount rate day }
 {
-    if breaks_value_range(amount, rate, day) {
-        return Valued::Refused(Ground::ValueRange, 0);
-    }
-    Valued::Worth(present_value(amount, rate, day), tolerance(amount, day))
+    refuse_if(breaks_value_range(amount, rate, day), Ground::ValueRange, 0)?;
+    Ok(Worth {
+        value: present_value(amount, rate, day),
+        tolerance: tolerance(amount, day),
+    })
 }

@@ -1,17 +1,24 @@
 // Discount factors in parts of 10^12.
+#![tactic(auto, unfolding(decimal::specs::Product::unit, crate::specs::Discount::million, crate::specs::Discount::yearly, crate::specs::Discount::power), using(crate::proofs::Roots::roots, crate::proofs::Compounding::chains, decimal::proofs::Products::product_le))]
+
 ghost use Rattle.std.specs.Prelude.{◌≡◌, ◌/◌, ◌≤◌};
 ghost use Rattle.decimal.specs.Product.{unit, product};
 ghost use Rattle.discount.specs.Discount.{million, yearly, compound, power};
 
 use decimal::product::multiply;
 
+// The days of a year.
+pub const YEAR: u64 = 365;
+
 // A factor, in parts of UNIT.
-#[derive(Clone, Copy)]
+#[derive(Clone, Copy, PartialEq, Eq)]
 pub struct Factor(pub u64);
 
 impl Factor {
     // One.
     pub const UNIT: u64 = 1_000_000_000_000;
+    // One, as a factor.
+    pub const ONE: Factor = Factor(Factor::UNIT);
     // One in a rate, and the largest rate.
     pub const LIMIT: u64 = 1_000_000;
 
@@ -20,8 +27,7 @@ impl Factor {
         requires { rate ≤ million }
         ensures { (result.0 ≡ yearly rate) × (result.0 ≤ unit) }
     {
-        let parts = Factor::UNIT * Factor::LIMIT / (Factor::LIMIT + rate);
-        Factor(parts)
+        Factor(Factor::UNIT * Factor::LIMIT / (Factor::LIMIT + rate))
     }
 
     // The product, rounded down: every chain of products takes this one.
@@ -37,14 +43,11 @@ impl Factor {
         requires { (self.0 ≤ unit) × (other.0 ≤ unit) }
         ensures { (result.0 ≡ compound self.0 other.0 k) × (result.0 ≤ unit) }
     {
-        let q = other;
-        let mut r = self;
-        let mut i = 0;
-        while i < k {
-            r = r.product(q);
-            i += 1;
+        let mut taken = self;
+        for _ in 0..k {
+            taken = taken.product(other);
         }
-        r
+        taken
     }
 
     // From one, the product with the factor, taken k times.
@@ -52,6 +55,6 @@ impl Factor {
         requires { self.0 ≤ unit }
         ensures { (result.0 ≡ power self.0 k) × (result.0 ≤ unit) }
     {
-        Factor(Factor::UNIT).compound(self, k)
+        Factor::ONE.compound(self, k)
     }
 }

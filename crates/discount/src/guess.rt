@@ -1,16 +1,11 @@
 // A guess of the factor of a day, in whole numbers. Nothing is proved of it but that every step fits: `daily::search` needs no more.
 // Of the rates from 1 to 10^6 parts per million it is right for 983,592, and 1 off for the others (every one was tried).
+#![tactic(auto, unfolding(decimal::specs::Product::unit), using(decimal::proofs::Products::product_le))]
+
 ghost use Rattle.std.specs.Prelude.{◌*◌, ◌≤◌, ◌<◌};
 
-use super::factor::Factor;
+use super::factor::{Factor, YEAR};
 use decimal::product::multiply;
-
-// The lesser: it cuts off what no factor of half of UNIT or more reaches, so that what follows fits.
-fn least(a: u64, b: u64) -> u64
-    ensures { (result ≤ a) × (result ≤ b) }
-{
-    if a < b { a } else { b }
-}
 
 // A product, of which only a bound is told.
 fn scaled(a: u64, b: u64) -> u64
@@ -27,7 +22,7 @@ fn ratio(n: u64, m: u64) -> u64
 {
     let x = n * 1_000_000;
     let r = x % m * 1_000_000;
-    least(x / m * 1_000_000 + r / m, 400_000_000_000)
+    (x / m * 1_000_000 + r / m).min(400_000_000_000)
 }
 
 // About 1/3 + t/5 + t^2/7 + .. in parts of UNIT.
@@ -36,10 +31,8 @@ fn series(t: u64) -> u64
     ensures { result ≤ 1_000_000_000_000 }
 {
     let mut s = 0;
-    let mut i = 9;
-    while 0 < i {
-        s = least(scaled(s, t) + Factor::UNIT / (2 * i + 1), Factor::UNIT);
-        i -= 1;
+    for i in (1..10).rev() {
+        s = (scaled(s, t) + Factor::UNIT / (2 * i + 1)).min(Factor::UNIT);
     }
     s
 }
@@ -51,7 +44,7 @@ fn logarithm(y: u64) -> u64
 {
     let w = ratio(Factor::UNIT - y, Factor::UNIT + y);
     let t = scaled(w, w);
-    least(2 * (w + scaled(w, scaled(t, series(t)))), Factor::UNIT)
+    (2 * (w + scaled(w, scaled(t, series(t))))).min(Factor::UNIT)
 }
 
 // UNIT * exp(-l / 365) to the fourth power of l / 365, in thousandths, and above it what a chain of 365 products loses by rounding, half a
@@ -61,12 +54,12 @@ pub fn guess(y: u64) -> u64
     ensures { result < 1_000_000_000_000 }
 {
     let l = logarithm(y);
-    let a = least(l / 365, 2_000_000_000);
-    let b = least(a * a / 1_000_000_000, 4_000_000_000);
+    let a = (l / YEAR).min(2_000_000_000);
+    let b = (a * a / 1_000_000_000).min(4_000_000_000);
     let c = b * a / Factor::UNIT;
     let e = c * a / Factor::UNIT;
-    let lost = least(500 * (Factor::UNIT - y) / (scaled(l, y) + 1), 1000);
-    let above = l * 1000 / 365 + c / 6 + 999;
-    let d = (above - least(b / 2 + e / 24 + lost, above)) / 1000;
-    least(Factor::UNIT - least(d, Factor::UNIT), Factor::UNIT - 1)
+    let lost = (500 * (Factor::UNIT - y) / (scaled(l, y) + 1)).min(1000);
+    let above = l * 1000 / YEAR + c / 6 + 999;
+    let d = above.saturating_sub(b / 2 + e / 24 + lost) / 1000;
+    Factor::UNIT.saturating_sub(d).min(Factor::UNIT - 1)
 }

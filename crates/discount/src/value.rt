@@ -1,15 +1,14 @@
 // The factor of a rate and a day, the present value of an amount, and how far that may be off.
+#![tactic(auto, unfolding(decimal::specs::Product::unit, crate::specs::Discount::year, crate::specs::Discount::products, crate::specs::Discount::tolerance, crate::specs::Discount::present_value), using(crate::proofs::Factors::factors, decimal::proofs::Products::parts))]
+
 ghost use Rattle.std.specs.Prelude.{◌≡◌, ◌≤◌};
 ghost use Rattle.ground.specs.Limits.{last_day};
 ghost use Rattle.decimal.specs.Product.{unit};
 ghost use Rattle.discount.specs.Discount.{million, factor, present_value, tolerance};
 
 use super::daily::day_power;
-use super::factor::Factor;
+use super::factor::{Factor, YEAR};
 use decimal::round::discounted;
-
-// The days of a year.
-const YEAR: u64 = 365;
 
 // The factor of some days at a rate: the power of the day's factor by the days above whole years, then the product with the year's, a year each.
 pub fn factor(rate: u64, days: u64) -> Factor
@@ -17,11 +16,10 @@ pub fn factor(rate: u64, days: u64) -> Factor
     ensures { (result.0 ≡ factor rate days) × (result.0 ≤ unit) }
 {
     let yearly = Factor::yearly(rate);
-    if yearly.0 == Factor::UNIT {
+    if yearly == Factor::ONE {
         return yearly;
     }
-    let power = day_power(yearly, days % YEAR);
-    power.compound(yearly, days / YEAR)
+    day_power(yearly, days % YEAR).compound(yearly, days / YEAR)
 }
 
 // What an amount on a day is worth today, to the nearest.
@@ -38,5 +36,5 @@ pub fn tolerance(amount: u64, days: u64) -> u64
     ensures { result ≡ tolerance amount days }
 {
     let products = days % YEAR + days / YEAR;
-    (amount * (2 * products) + (Factor::UNIT - 1)) / Factor::UNIT
+    (amount * (2 * products)).div_ceil(Factor::UNIT)
 }

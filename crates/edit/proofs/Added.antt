@@ -7,8 +7,8 @@ use native.Mathlib.Decide.{dec_lt}
 use native.Mathlib.Omega.{arith}
 use lib.ListN.{length, get_or, drop, length-append, length-drop, get_or-append, drop_of_length-le}
 use lib.Seq.{take_all, take-append-le, drop-append-le, get_or_at}
+use Rattle.std.specs.Prelude.{Ok}
 use Rattle.laws.proofs.Tables.{Each}
-use Rattle.ground.specs.declared.Verdict.TheVariants.{Accepted}
 use Rattle.layout.specs.Bytes.{byte_at, put, on_block, AreBytes}
 use Rattle.layout.proofs.Bytes.{length-put, byte-apart, drop-kept, bytes-part}
 use Rattle.book.specs.Parts.{block_at, header_of, curve_count, trade_blocks, trade_count, records}
@@ -51,7 +51,7 @@ module _ (rs : List (List ℕ)) (r : List ℕ) where
       rw (drop-append-le (j * 9) rs (r ∷ []) l, take_all 9 (drop (j * 9) rs ++ r ∷ []) n, take_all 9 (drop (j * 9) rs) m)
 
 -- the header of an accepted book, with another count
-pub header-counted : (s : List ℕ) (used : ℕ) → AreBytes s → blocks_verdict s used ≡ Accepted → (t : ℕ) → t < 65536
+pub header-counted : (s : List ℕ) (used : ℕ) → AreBytes s → blocks_verdict s used ≡ Ok tt → (t : ℕ) → t < 65536
     → with_trade_blocks (block_at s 0) t ≡ header_block (header_of s) (curve_count s) t
 unfolding with_trade_blocks
 header-counted s used bytes ok t few =
@@ -59,7 +59,7 @@ header-counted s used bytes ok t few =
     header-recounted (block_at s 0) (1 + curve_count s + trade_blocks s) (bytes-part s (0 * 512) 512 bytes) (length-block_at s used b 0 (omega arith)) b.header t few
     ∙ rw (head-fields s, head-curves s)
 
-module _ (s : List ℕ) (used : ℕ) (bytes : AreBytes s) (ok : blocks_verdict s used ≡ Accepted) (r : List ℕ) (long : length r ≡ 56) where
+module _ (s : List ℕ) (used : ℕ) (bytes : AreBytes s) (ok : blocks_verdict s used ≡ Ok tt) (r : List ℕ) (long : length r ≡ 56) where
   abbrev rs : List (List ℕ)
   rs = records s
 

@@ -4,7 +4,7 @@ use mathlib.Core.List.{List, [], ◌++◌}
 use Prim.Native.Nat.{ℕ, ◌+◌, ◌*◌, ◌≤◌, ◌<◌}
 use native.Mathlib.Omega.{arith}
 use lib.ListN.{length, get_or, drop, take-append-drop}
-use Rattle.ground.specs.declared.Verdict.TheVariants.{Accepted}
+use Rattle.std.specs.Prelude.{Ok}
 use Rattle.layout.specs.Bytes.{AreBytes}
 use Rattle.book.specs.Parts.{block_at, header_of, curve_count, trade_blocks, curve_blocks, trade_count, records, parts_of}
 use Rattle.book.specs.Verdict.{blocks_verdict}
@@ -25,7 +25,7 @@ pub record Sized (s : List ℕ) (used : ℕ) : Type 0 where
   pub lent : used ≤ length s
   pub limit : used ≤ 65536
 
-module _ (s : List ℕ) (used : ℕ) (bytes : AreBytes s) (ok : blocks_verdict s used ≡ Accepted) where
+module _ (s : List ℕ) (used : ℕ) (bytes : AreBytes s) (ok : blocks_verdict s used ≡ Ok tt) where
   pub sized : Sized s used
   sized =
       let b = sound s used ok in

@@ -4,14 +4,13 @@ use mathlib.Core.List.{List}
 use Prim.Native.Nat.{ℕ, ◌≤◌}
 use native.Mathlib.Omega.{arith}
 use lib.ListN.{length, take}
-use Rattle.ground.specs.declared.Verdict.TheVariants.{Accepted}
+use Rattle.std.specs.Prelude.{Ok, Some}
 use Rattle.layout.specs.Bytes.{AreBytes}
 use Rattle.book.specs.Parts.{Parts, parts_of}
 use Rattle.book.specs.Encode.{book_of}
 use Rattle.book.specs.Edited.{appended_parts}
 use Rattle.book.proofs.Accepted.{sound}
 use Rattle.book.proofs.Copied.{SameBook, same-curve-count, same-trade-count, same-book, copy-accepted}
-use Rattle.acceptance.specs.declared.Today.TheVariants.{Given}
 use Rattle.acceptance.proofs.Laws.{by_parts, parts-accepted}
 use Rattle.edit.specs.Refusals.{append_verdict}
 use Rattle.edit.specs.Edits.{appended_book, appended}
@@ -35,13 +34,13 @@ module _ (s t : List ℕ) (used : ℕ) (r : List ℕ) (bytes : AreBytes s) (w : 
   copy-appended-book = ap (λ (p : Parts). book_of (appended_parts p r)) (same-book s t used bytes w.accepted same)
 
 -- the same on a day
-module _ (s t : List ℕ) (used day : ℕ) (r : List ℕ) (bytes : AreBytes s) (ok : append_verdict s used day r ≡ Accepted) (same : take used t ≡ take used s) (wide : 65536 ≤ length t) where
-  pub copy-takes : append_verdict t used day r ≡ Accepted
+module _ (s t : List ℕ) (used day : ℕ) (r : List ℕ) (bytes : AreBytes s) (ok : append_verdict s used day r ≡ Ok tt) (same : take used t ≡ take used s) (wide : 65536 ≤ length t) where
+  pub copy-takes : append_verdict t used day r ≡ Ok tt
   copy-takes =
       let w = admitted s used r day ok in
       let a = copy-admits s t used r bytes w same wide in
       let h = append-book s used r day ok in
-      admits t used r day (by_parts t used (Given day) (parts_of s) a.accepted (same-book s t used bytes w.accepted same) ∙ parts-accepted s used (Given day) h) a
+      admits t used r day (by_parts t used (Some day) (parts_of s) a.accepted (same-book s t used bytes w.accepted same) ∙ parts-accepted s used (Some day) h) a
 
   pub copy-appended : AreBytes t → length r ≡ 56 → SameBook (appended s used day r) (appended t used day r)
   copy-appended copy-bytes long =

@@ -8,9 +8,9 @@ use native.Mathlib.Omega.{arith}
 use borrow.Author.Tests.{eq-eqb, ne_eqb}
 use lib.ListN.{length, get_or, take, drop, replicate, length-append, length-take, length-drop, length-replicate, take-append-drop, get_or-append}
 use lib.Seq.{ext_get_or, length-take-le, drop-drop, get_or-take, get_or-drop, get_or-append-add, get_or_at}
+use Rattle.std.specs.Prelude.{Ok}
 use Rattle.laws.specs.Walk.{run}
 use Rattle.laws.proofs.Tables.{Each}
-use Rattle.ground.specs.declared.Verdict.TheVariants.{Accepted}
 use Rattle.layout.specs.Bytes.{byte_at, part, AreBytes}
 use Rattle.layout.proofs.Bytes.{length_part, byte-part, part_same, part-kept, drop-kept, part-part, zeros-at, zeros_of, zeros-part}
 use Rattle.book.specs.Parts.{Parts, block_at, record_place, record_in, header_of, curve_count, trade_count, record_at, records, parts_of}
@@ -62,7 +62,7 @@ module _ (rs : List (List ℕ)) (p : ℕ) (in_list : p < length rs) where
       ext_get_or [] (records_of_block (without rs p) j) (records_of_block rs j) (omega arith)
       (λ i l. nine-at (without rs p) j i (omega arith) ∙ without-before (j * 9 + i) (omega arith) ∙ sym (nine-at rs j i (omega arith)))
 
-module _ (s : List ℕ) (used : ℕ) (bytes : AreBytes s) (ok : blocks_verdict s used ≡ Accepted) (p : ℕ) (in-book : p < trade_count s) where
+module _ (s : List ℕ) (used : ℕ) (bytes : AreBytes s) (ok : blocks_verdict s used ≡ Ok tt) (p : ℕ) (in-book : p < trade_count s) where
   abbrev rs : List (List ℕ)
   rs = records s
 

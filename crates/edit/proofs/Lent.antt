@@ -6,9 +6,9 @@ use Prim.Native.Nat.{ℕ, ◌+◌, ◌%◌, ◌≤◌, ◌<◌}
 use native.Mathlib.Decide.{ℕ_discrete}
 use native.Mathlib.Omega.{arith}
 use lib.ListN.{length}
+use Rattle.std.specs.Prelude.{Ok}
 use Rattle.laws.proofs.Tables.{Each}
 use Rattle.layout.specs.Bytes.{AreBytes}
-use Rattle.ground.specs.declared.Verdict.TheVariants.{Accepted}
 use Rattle.book.specs.Parts.{header_of, curve_blocks, trade_count, records}
 use Rattle.book.specs.Verdict.{blocks_verdict}
 use Rattle.book.specs.Encode.{blocks_for}
@@ -20,7 +20,7 @@ use Rattle.edit.proofs.Added.{length-one-more, each_more}
 use Rattle.edit.proofs.Fewer.{length_without, each-without}
 use Rattle.edit.proofs.Given.{room}
 
-module _ (s : List ℕ) (used : ℕ) (bytes : AreBytes s) (ok : blocks_verdict s used ≡ Accepted) where
+module _ (s : List ℕ) (used : ℕ) (bytes : AreBytes s) (ok : blocks_verdict s used ≡ Ok tt) where
   abbrev cs : List (List ℕ)
   cs = curve_blocks s
 

@@ -1,4 +1,5 @@
 pub mod Books
+pub mod Size
 pub mod Added
 pub mod Fewer
 pub mod Given

@@ -8,15 +8,14 @@ use native.Mathlib.Omega.{arith}
 use lib.Dec.{eqb, leb}
 use borrow.Author.Tests.{eqb-false, not-true}
 use lib.ListN.{length}
+use Rattle.std.specs.Prelude.{Err, Ok, Some}
 use Rattle.laws.specs.Walk.{over}
 use Rattle.laws.proofs.Bools.{both}
 use Rattle.ground.specs.declared.Ground.{Ground}
 use Rattle.ground.specs.declared.Ground.TheVariants.{Length, BookSpace}
-use Rattle.ground.specs.declared.Verdict.{Verdict}
-use Rattle.ground.specs.declared.Verdict.TheVariants.{Accepted, Refused}
-use Rattle.ground.specs.declared.Written.TheVariants as written
+use Rattle.ground.specs.declared.Refusal.{Refusal}
+use Rattle.ground.specs.Verdicts.{Verdict, refused, or_else, unless, Rule, first_broken}
 use Rattle.ground.specs.Number.{number_of}
-use Rattle.ground.specs.Verdicts.{or_else, unless, Rule, first_broken, written_of}
 use Rattle.curve_block.specs.Verdict.{curve_rules, curve_verdict}
 use Rattle.record.specs.declared.Curves.{Curves}
 use Rattle.record.specs.declared.Fields.{Fields}
@@ -25,9 +24,7 @@ use Rattle.flows.specs.Verdict.{record_rules, record_verdict}
 use Rattle.book.specs.Parts.{block_at, curve_count, curves_of, record_count, record_in, trade_count, parts_of}
 use Rattle.book.specs.Rules.{breaks_length}
 use Rattle.book.specs.Verdict.{first_of, bytes_verdict, header_rules, header_verdict, records_verdict, trades_rules, trades_verdict, block_verdict, blocks_verdict}
-use Rattle.acceptance.specs.declared.Today.{Today}
-use Rattle.acceptance.specs.declared.Today.TheVariants.{Given}
-use Rattle.acceptance.specs.Verdict.{book_rules, book_verdict}
+use Rattle.acceptance.specs.Verdict.{Today, book_rules, book_verdict}
 use Rattle.edit.specs.Refusals.{block_of, breaks_book_space, new_record_verdict, append_verdict}
 use Rattle.edit.specs.Edits.{appended_book, append_answer}
 use Rattle.edit.proofs.Given.{no_room}
@@ -35,13 +32,13 @@ use Rattle.edit.proofs.Given.{no_room}
 -- a verdict by another ground
 
 abbrev number_in : Verdict → ℕ
-number_in Accepted = 0
-number_in (Refused g k) = number_of g
+number_in (Ok tt) = 0
+number_in (Err r) = number_of r.by
 
 pub record Tested (v : Verdict) : Type 0 where
   pub other : number_in v ≡ 15 → ⊥
 
-pass : Tested Accepted
+pass : Tested (Ok tt)
 pass = record { other = λ e. omega arith }
 
 unless-tested : (broken : Bool) (g : Ground) (k : ℕ) (next : Verdict) → (number_of g ≡ 15 → ⊥) → Tested next → Tested (unless broken g k next)
@@ -49,8 +46,8 @@ unless-tested true g k next h l = record { other = h }
 unless-tested false g k next h l = l
 
 or_else-tested : (v next : Verdict) → Tested v → Tested next → Tested (or_else v next)
-or_else-tested Accepted next h l = l
-or_else-tested (Refused g k) next h l = h
+or_else-tested (Ok tt) next h l = l
+or_else-tested (Err r) next h l = h
 
 cond-tested : (b : Bool) (v w : Verdict) → Tested v → Tested w → Tested (cond b v w)
 cond-tested true v w h l = h
@@ -112,25 +109,25 @@ book-tested s used today = or_else-tested (blocks_verdict s used) _ (verdict-tes
 
 -- ---- 15
 
-is-space : (g : Ground) (m k : ℕ) → Refused g m ≡ Refused BookSpace k → number_of g ≡ 15
-is-space g m k e = let z : g ≡ BookSpace = cc in rw z
+is-space : (r : Refusal) (k : ℕ) → ◌≡◌ {A = Verdict} (Err r) (refused BookSpace k) → number_of r.by ≡ 15
+is-space r k e = let z : r ≡ record { by = BookSpace; block = k } = cc in rw z
 
-by-space : (v w : Verdict) (b : Bool) (k : ℕ) → Tested v → Tested w → or_else v (or_else w (unless b BookSpace 0 Accepted)) ≡ Refused BookSpace k → b ≡ true
-by-space Accepted Accepted true k h l e = refl
-by-space Accepted Accepted false k h l e = let z : ◌≡◌ {A = ℕ} 0 1 = cc in absurd (omega arith)
-by-space Accepted (Refused g m) b k h l e = absurd (l.other (is-space g m k e))
-by-space (Refused g m) w b k h l e = absurd (h.other (is-space g m k e))
+by-space : (v w : Verdict) (b : Bool) (k : ℕ) → Tested v → Tested w → or_else v (or_else w (unless b BookSpace 0 (Ok (tt {0})))) ≡ refused BookSpace k → b ≡ true
+by-space (Ok tt) (Ok x) true k h l e = refl
+by-space (Ok tt) (Ok x) false k h l e = cc
+by-space (Ok tt) (Err r) b k h l e = absurd (l.other (is-space r k e))
+by-space (Err r) w b k h l e = absurd (h.other (is-space r k e))
 
-answered : (v : Verdict) (n k : ℕ) → written_of v n ≡ written.Refused BookSpace k → v ≡ Refused BookSpace k
-answered Accepted n k e = let z : ◌≡◌ {A = ℕ} 0 1 = cc in absurd (omega arith)
-answered (Refused g m) n k e = cc
+answered : (v : Verdict) (n k : ℕ) → or_else v (Ok n) ≡ refused BookSpace k → v ≡ refused BookSpace k
+answered (Ok tt) n k e = cc
+answered (Err r) n k e = cc
 
 -- an append is refused by 15 only where a new block is needed, and the book has 128 or the lent bytes end before that block does
-pub append-space : (s : List ℕ) (used day : ℕ) (r : List ℕ) (k : ℕ) → append_answer s used day r ≡ written.Refused BookSpace k
+pub append-space : (s : List ℕ) (used day : ℕ) (r : List ℕ) (k : ℕ) → append_answer s used day r ≡ refused BookSpace k
     → (trade_count s % 9 ≡ 0) × ((used / 512 ≡ 128) ⊎ (length s < used + 512))
 unfolding append_answer append_verdict new_record_verdict
 append-space s used day r k e =
     no_room (trade_count s) used (length s)
-    (by-space (book_verdict s used (Given day)) (bytes_verdict (curves_of s) r (block_of s (trade_count s))) (breaks_book_space (trade_count s) used (length s)) k
-    (book-tested s used (Given day)) (record-tested (curves_of s) (fields_of r) (block_of s (trade_count s)))
+    (by-space (book_verdict s used (Some day)) (bytes_verdict (curves_of s) r (block_of s (trade_count s))) (breaks_book_space (trade_count s) used (length s)) k
+    (book-tested s used (Some day)) (record-tested (curves_of s) (fields_of r) (block_of s (trade_count s)))
     (answered (append_verdict s used day r) (length (appended_book s r)) k e))

@@ -10,12 +10,11 @@ use borrow.Author.Tests.{lt-ltb, le-ltb}
 use lib.Dec.{ltb}
 use lib.ListN.{length, get_or, take, drop, replicate, get_or-append}
 use lib.Seq.{get_or_at, take_at, drop-append-add}
+use Rattle.std.specs.Prelude.{Result, Err, Ok, None, Some}
 use Rattle.layout.specs.Bytes.{AreBytes}
-use Rattle.ground.specs.declared.Ground.{Ground}
 use Rattle.ground.specs.declared.Ground.TheVariants.{Position}
-use Rattle.ground.specs.declared.Verdict.{Verdict}
-use Rattle.ground.specs.declared.Verdict.TheVariants.{Accepted, Refused}
-use Rattle.ground.specs.declared.Written.TheVariants as written
+use Rattle.ground.specs.declared.Refusal.{Refusal}
+use Rattle.ground.specs.Verdicts.{Verdict, refused}
 use Rattle.book.specs.Parts.{Parts, curves_of, curve_blocks, trade_count, records, parts_of}
 use Rattle.book.specs.Verdict.{bytes_verdict, blocks_verdict}
 use Rattle.book.specs.Encode.{book_of}
@@ -24,14 +23,11 @@ use Rattle.book.proofs.Places.{length-records}
 use Rattle.book.proofs.Accepted.{sound}
 use Rattle.book.proofs.Verdicts.{any-block}
 use Rattle.book.proofs.Encoded.{Encodable, Acceptable, trade-count-encoded, record-at-encoded, parts-encoded, encoded-accepted}
-use Rattle.acceptance.specs.declared.Today.{Today}
-use Rattle.acceptance.specs.declared.Today.TheVariants.{Given, NotGiven}
-use Rattle.acceptance.specs.Verdict.{parts_verdict, book_verdict}
+use Rattle.acceptance.specs.Verdict.{Today, parts_verdict, book_verdict}
 use Rattle.acceptance.proofs.Laws.{by_parts, parts-accepted, book-accepted, accepted-undated}
 use Rattle.book.proofs.Canonical.{sound-encodable, sound-acceptable, accepted-encoded, accepted-lent, length-accepted}
-use Rattle.edit.specs.declared.Found.{Found}
 use Rattle.edit.specs.Refusals.{block_of, breaks_position, position_verdict, append_verdict}
-use Rattle.edit.specs.Edits.{used_appended, used_struck, BookAppended, BookStruck, found, appended_book, append_answer, appended, struck_book, strike_answer, struck}
+use Rattle.edit.specs.Edits.{used_appended, used_struck, BookAppended, BookStruck, record_found, found, appended_book, append_answer, appended, struck_book, strike_answer, struck}
 use Rattle.edit.proofs.Added.{length-one-more}
 use Rattle.edit.proofs.Fewer.{length_without, without-before, without-behind}
 use Rattle.edit.proofs.Given.{HasTrade, position-book, has-trade, Admitted, append-book, admitted}
@@ -39,9 +35,8 @@ use Rattle.edit.proofs.Lent.{encodable-more, narrower}
 
 -- ---- what a read finds, by the list of records
 
-abbrev pub found_in : List (List ℕ) → ℕ → Found
-found_in rs i =
-    cond (ltb i (length rs)) (record { verdict = Accepted; bytes = get_or rs i [] }) (record { verdict = Refused Position 0; bytes = replicate 56 0 })
+abbrev pub found_in : List (List ℕ) → ℕ → Result (List ℕ) Refusal
+found_in rs i = cond (ltb i (length rs)) (Ok (get_or rs i [])) (refused Position 0)
 
 -- the bytes of parts that make an accepted book, whatever stands behind them
 module _ (p : Parts) (rest : List ℕ) (fine : Encodable p.header p.curves p.trades) (good : Acceptable p.curves p.trades) where
@@ -51,7 +46,7 @@ module _ (p : Parts) (rest : List ℕ) (fine : Encodable p.header p.curves p.tra
   abbrev size : ℕ
   size = length (book_of p)
 
-  blocks-encoded : blocks_verdict book size ≡ Accepted
+  blocks-encoded : blocks_verdict book size ≡ Ok tt
   blocks-encoded = encoded-accepted p.header p.curves p.trades fine rest good
 
   parts-of-book : parts_of book ≡ p
@@ -60,33 +55,33 @@ module _ (p : Parts) (rest : List ℕ) (fine : Encodable p.header p.curves p.tra
   book-encoded : (today : Today) → book_verdict book size today ≡ parts_verdict p today
   book-encoded today = by_parts book size today p blocks-encoded parts-of-book
 
-  position-encoded : (today : Today) → parts_verdict p today ≡ Accepted → (i : ℕ) (b : Bool) → ltb i (length p.trades) ≡ b
-      → position_verdict book size today i ≡ cond b Accepted (Refused Position 0)
+  position-encoded : (today : Today) → parts_verdict p today ≡ Ok tt → (i : ℕ) (b : Bool) → ltb i (length p.trades) ≡ b
+      → position_verdict book size today i ≡ cond b (Ok tt) (refused Position 0)
   unfolding position_verdict breaks_position
   position-encoded today ok i true e = rw (book-encoded today ∙ ok, trade-count-encoded p.header p.curves p.trades fine rest, e)
   position-encoded today ok i false e = rw (book-encoded today ∙ ok, trade-count-encoded p.header p.curves p.trades fine rest, e)
 
-  pub found-encoded : parts_verdict p NotGiven ≡ Accepted → (i : ℕ) → found book size i ≡ found_in p.trades i
+  pub found-encoded : parts_verdict p None ≡ Ok tt → (i : ℕ) → found book size i ≡ found_in p.trades i
   unfolding found
   found-encoded ok i = go (dec_lt i (length p.trades))
     where
       go : Dec (i < length p.trades) → found book size i ≡ found_in p.trades i
       go (yes l) =
           let e = lt-ltb i (length p.trades) l in
-          rw (position-encoded NotGiven ok i true e, e, record-at-encoded p.header p.curves p.trades fine rest i l)
+          rw (position-encoded None ok i true e, e, record-at-encoded p.header p.curves p.trades fine rest i l)
       go (no l) =
           let e = le-ltb i (length p.trades) (omega arith) in
-          rw (position-encoded NotGiven ok i false e, e)
+          rw (position-encoded None ok i false e, e)
 
   -- struck at a position
   struck-book : (i : ℕ) → struck_book book i ≡ book_of (struck_parts p i)
   unfolding struck_book
   struck-book i = ap (λ (q : Parts). book_of (struck_parts q i)) parts-of-book
 
-  module _ (day : ℕ) (ok : parts_verdict p (Given day) ≡ Accepted) (i : ℕ) (l : i < length p.trades) where
-    strike-answer : strike_answer book size day i ≡ written.Length (length (book_of (struck_parts p i)))
+  module _ (day : ℕ) (ok : parts_verdict p (Some day) ≡ Ok tt) (i : ℕ) (l : i < length p.trades) where
+    strike-answer : strike_answer book size day i ≡ Ok (length (book_of (struck_parts p i)))
     unfolding strike_answer
-    strike-answer = rw (position-encoded (Given day) ok i true (lt-ltb i (length p.trades) l), struck-book i)
+    strike-answer = rw (position-encoded (Some day) ok i true (lt-ltb i (length p.trades) l), struck-book i)
 
     struck-start : take (length (book_of (struck_parts p i))) (struck book size day i) ≡ book_of (struck_parts p i)
     unfolding struck
@@ -94,25 +89,29 @@ module _ (p : Parts) (rest : List ℕ) (fine : Encodable p.header p.curves p.tra
         let fewer = book_of (struck_parts p i) in
         let zeros : List ℕ = replicate (size - length fewer) 0 in
         let written : struck book size day i ≡ struck_book book i ++ replicate (size - length (struck_book book i)) 0 ++ drop size book =
-        rw (position-encoded (Given day) ok i true (lt-ltb i (length p.trades) l)) in
+        rw (position-encoded (Some day) ok i true (lt-ltb i (length p.trades) l)) in
         let laid : struck book size day i ≡ fewer ++ (zeros ++ drop size book) = written ∙ rw (struck-book i) (append_assoc fewer zeros (drop size book)) in
         ap (take (length fewer)) laid ∙ take_at fewer (zeros ++ drop size book) (length fewer) refl
 
--- ---- a refused call: the bytes and the used length stay
+-- ---- a refused call: the bytes and the used length stay, and a read gives zeros
 
-pub refused-append : (s : List ℕ) (used day : ℕ) (r : List ℕ) (g : Ground) (k : ℕ) → append_verdict s used day r ≡ Refused g k
+pub refused-append : (s : List ℕ) (used day : ℕ) (r : List ℕ) (refusal : Refusal) → append_verdict s used day r ≡ Err refusal
     → (appended s used day r ≡ s) × (used_appended s used day r ≡ used)
 unfolding appended append_answer
-refused-append s used day r g k e = (rw e, rw e)
+refused-append s used day r refusal e = (rw e, rw e)
 
-pub refused-strike : (s : List ℕ) (used day p : ℕ) (g : Ground) (k : ℕ) → position_verdict s used (Given day) p ≡ Refused g k
+pub refused-strike : (s : List ℕ) (used day p : ℕ) (refusal : Refusal) → position_verdict s used (Some day) p ≡ Err refusal
     → (struck s used day p ≡ s) × (used_struck s used day p ≡ used)
 unfolding struck strike_answer
-refused-strike s used day p g k e = (rw e, rw e)
+refused-strike s used day p refusal e = (rw e, rw e)
+
+pub refused-read : (s : List ℕ) (used p : ℕ) (refusal : Refusal) → position_verdict s used None p ≡ Err refusal → record_found (found s used p) ≡ replicate 56 0
+unfolding found
+refused-read s used p refusal e = rw e
 
 -- ---- the same by lists: a record more, and one fewer
 
-found-last : (rs : List (List ℕ)) (r : List ℕ) → found_in (rs ++ r ∷ []) (length rs) ≡ record { verdict = Accepted; bytes = r }
+found-last : (rs : List (List ℕ)) (r : List ℕ) → found_in (rs ++ r ∷ []) (length rs) ≡ Ok r
 found-last rs r =
     let e = lt-ltb (length rs) (length (rs ++ r ∷ [])) (omega (arith, length-one-more rs r)) in
     rw (e, get_or_at rs r [] [] (length rs) refl)
@@ -150,13 +149,13 @@ module _ (s : List ℕ) (used : ℕ) (bytes : AreBytes s) where
   rs = records s
 
   -- a read finds the record of its list
-  pub found-accepted : book_verdict s used NotGiven ≡ Accepted → (i : ℕ) → found s used i ≡ found_in (records s) i
+  pub found-accepted : book_verdict s used None ≡ Ok tt → (i : ℕ) → found s used i ≡ found_in (records s) i
   found-accepted h i =
-      let ok = (book-accepted s used NotGiven h).blocks in
+      let ok = (book-accepted s used None h).blocks in
       let b = sound s used ok in
       ap (λ (t : List ℕ). found t used i) (accepted-lent s used bytes ok)
       ∙ ap (λ (n : ℕ). found (book_of now-parts ++ drop used s) n i) (sym (length-accepted s used bytes ok))
-      ∙ found-encoded now-parts (drop used s) (sound-encodable s used bytes b) (sound-acceptable s used bytes b) (parts-accepted s used NotGiven h) i
+      ∙ found-encoded now-parts (drop used s) (sound-encodable s used bytes b) (sound-acceptable s used bytes b) (parts-accepted s used None h) i
 
   -- ---- append
 
@@ -175,7 +174,7 @@ module _ (s : List ℕ) (used : ℕ) (bytes : AreBytes s) where
           held : Acceptable (curve_blocks s) rs
           held = sound-acceptable s used bytes (sound s used w.accepted)
 
-          go : (i k : ℕ) → Dec (i < length rs) → i < length rs + 1 → bytes_verdict (curves_of s) (get_or more.trades i []) k ≡ Accepted
+          go : (i k : ℕ) → Dec (i < length rs) → i < length rs + 1 → bytes_verdict (curves_of s) (get_or more.trades i []) k ≡ Ok tt
           go i k (yes l) h = rw (get_or-append rs (r ∷ []) [] i l) (held.trade i l k)
           go i k (no l) h = rw (get_or_at rs r [] [] i (omega arith)) (any-block (curves_of s) r (block_of s (trade_count s)) k w.judged)
 
@@ -183,11 +182,11 @@ module _ (s : List ℕ) (used : ℕ) (bytes : AreBytes s) where
       unfolding appended_book
       with-record rest = parts-of-book more rest more-fine more-good
 
-      pub with-record-accepted : (rest : List ℕ) → blocks_verdict (appended_book s r ++ rest) (length (appended_book s r)) ≡ Accepted
+      pub with-record-accepted : (rest : List ℕ) → blocks_verdict (appended_book s r ++ rest) (length (appended_book s r)) ≡ Ok tt
       unfolding appended_book
       with-record-accepted rest = blocks-encoded more rest more-fine more-good
 
-    module _ (day : ℕ) (ok : append_verdict s used day r ≡ Accepted) where
+    module _ (day : ℕ) (ok : append_verdict s used day r ≡ Ok tt) where
       abbrev given : Admitted s used r
       given = admitted s used r day ok
 
@@ -195,11 +194,11 @@ module _ (s : List ℕ) (used : ℕ) (bytes : AreBytes s) where
       behind = drop (length (book_of more)) s
 
       -- what is asked of the book as a whole holds with the record
-      more-accepted : (today : Today) → book_verdict s used today ≡ Accepted → parts_verdict more today ≡ Accepted
+      more-accepted : (today : Today) → book_verdict s used today ≡ Ok tt → parts_verdict more today ≡ Ok tt
       more-accepted today h = parts-accepted s used today h
 
-      undated : book_verdict s used NotGiven ≡ Accepted
-      undated = accepted-undated s used (Given day) (append-book s used r day ok)
+      undated : book_verdict s used None ≡ Ok tt
+      undated = accepted-undated s used (Some day) (append-book s used r day ok)
 
       -- what the bytes are, and how many of them are used
       appended-is : appended s used day r ≡ book_of more ++ behind
@@ -211,10 +210,10 @@ module _ (s : List ℕ) (used : ℕ) (bytes : AreBytes s) where
       append-used = rw ok
 
       found-more : (i : ℕ) → found (appended s used day r) (used_appended s used day r) i ≡ found_in more.trades i
-      found-more i = rw (appended-is, append-used) (found-encoded more behind (more-fine given) (more-good given) (more-accepted NotGiven undated) i)
+      found-more i = rw (appended-is, append-used) (found-encoded more behind (more-fine given) (more-good given) (more-accepted None undated) i)
 
       -- after an append the last position gives the record
-      pub append-read-last : found (appended s used day r) (used_appended s used day r) (trade_count s) ≡ record { verdict = Accepted; bytes = r }
+      pub append-read-last : found (appended s used day r) (used_appended s used day r) (trade_count s) ≡ Ok r
       append-read-last =
           ap (found (appended s used day r) (used_appended s used day r)) (sym (length-records s)) ∙ found-more (length rs) ∙ found-last rs r
 
@@ -230,7 +229,7 @@ module _ (s : List ℕ) (used : ℕ) (bytes : AreBytes s) where
       book-appended = rw appended-is (with-record given behind)
 
       -- accepted on every day on which the book was
-      pub appended-accepted : (today : Today) → book_verdict s used today ≡ Accepted → book_verdict (appended s used day r) (used_appended s used day r) today ≡ Accepted
+      pub appended-accepted : (today : Today) → book_verdict s used today ≡ Ok tt → book_verdict (appended s used day r) (used_appended s used day r) today ≡ Ok tt
       appended-accepted today h = rw (appended-is, append-used) (book-encoded more behind (more-fine given) (more-good given) today ∙ more-accepted today h)
 
       -- struck again, the book is as it was
@@ -243,15 +242,15 @@ module _ (s : List ℕ) (used : ℕ) (bytes : AreBytes s) where
       last-in : length rs < length more.trades
       last-in = omega (arith, length-one-more rs r)
 
-      with-day : parts_verdict more (Given day) ≡ Accepted
-      with-day = more-accepted (Given day) (append-book s used r day ok)
+      with-day : parts_verdict more (Some day) ≡ Ok tt
+      with-day = more-accepted (Some day) (append-book s used r day ok)
 
-      pub append-strike-answer : strike_answer (appended s used day r) (used_appended s used day r) day (trade_count s) ≡ written.Length used
+      pub append-strike-answer : strike_answer (appended s used day r) (used_appended s used day r) day (trade_count s) ≡ Ok used
       append-strike-answer =
           rw (appended-is, append-used, ← length-records s)
           (strike-answer more behind (more-fine given) (more-good given) day with-day (length rs) last-in
-          ∙ ap (λ (q : Parts). written.Length (length (book_of q))) taken_back
-          ∙ ap written.Length old-size)
+          ∙ ap (λ (q : Parts). Ok (length (book_of q))) taken_back
+          ∙ ap Ok old-size)
 
       pub append-strike : take used (struck (appended s used day r) (used_appended s used day r) day (trade_count s)) ≡ take used s
       append-strike =
@@ -261,12 +260,12 @@ module _ (s : List ℕ) (used : ℕ) (bytes : AreBytes s) where
           ((rw (again, old-size) at back) ∙ sym (accepted-encoded s used bytes given.accepted))
 
     -- an append to an accepted book leaves an accepted book, refused or not
-    pub append-accepted : (day : ℕ) (today : Today) → book_verdict s used today ≡ Accepted → book_verdict (appended s used day r) (used_appended s used day r) today ≡ Accepted
+    pub append-accepted : (day : ℕ) (today : Today) → book_verdict s used today ≡ Ok tt → book_verdict (appended s used day r) (used_appended s used day r) today ≡ Ok tt
     append-accepted day today ok = go (append_verdict s used day r) refl
       where
-        go : (v : Verdict) → append_verdict s used day r ≡ v → book_verdict (appended s used day r) (used_appended s used day r) today ≡ Accepted
-        go Accepted e = appended-accepted day e today ok
-        go (Refused g k) e = rw ((refused-append s used day r g k e).0, (refused-append s used day r g k e).1) ok
+        go : (v : Verdict) → append_verdict s used day r ≡ v → book_verdict (appended s used day r) (used_appended s used day r) today ≡ Ok tt
+        go (Ok tt) e = appended-accepted day e today ok
+        go (Err refusal) e = let p = refused-append s used day r refusal e in rw (p.0, p.1) ok
 
   -- ---- strike
 
@@ -274,9 +273,9 @@ module _ (s : List ℕ) (used : ℕ) (bytes : AreBytes s) where
     abbrev fewer : Parts
     fewer = struck_parts now-parts p
 
-    module _ (day : ℕ) (ok : position_verdict s used (Given day) p ≡ Accepted) where
+    module _ (day : ℕ) (ok : position_verdict s used (Some day) p ≡ Ok tt) where
       abbrev stands : HasTrade s used p
-      stands = has-trade s used (Given day) p ok
+      stands = has-trade s used (Some day) p ok
 
       in_list : p < length rs
       in_list = rw (length-records s) stands.in-book
@@ -290,7 +289,7 @@ module _ (s : List ℕ) (used : ℕ) (bytes : AreBytes s) where
           held : Acceptable (curve_blocks s) rs
           held = sound-acceptable s used bytes (sound s used stands.accepted)
 
-          go : (i k : ℕ) → Dec (i < p) → i < length rs - 1 → bytes_verdict (curves_of s) (get_or fewer.trades i []) k ≡ Accepted
+          go : (i k : ℕ) → Dec (i < p) → i < length rs - 1 → bytes_verdict (curves_of s) (get_or fewer.trades i []) k ≡ Ok tt
           go i k (yes l) h = rw (without-before rs p in_list i l) (held.trade i (omega arith) k)
           go i k (no l) h = rw (without-behind rs p in_list i (omega arith)) (held.trade (i + 1) (omega arith) k)
 
@@ -298,11 +297,11 @@ module _ (s : List ℕ) (used : ℕ) (bytes : AreBytes s) where
       left = replicate (used - length (book_of fewer)) 0 ++ drop used s
 
       -- what is asked of the book as a whole holds without the record
-      fewer-accepted : (today : Today) → book_verdict s used today ≡ Accepted → parts_verdict fewer today ≡ Accepted
+      fewer-accepted : (today : Today) → book_verdict s used today ≡ Ok tt → parts_verdict fewer today ≡ Ok tt
       fewer-accepted today h = parts-accepted s used today h
 
-      undated-strike : book_verdict s used NotGiven ≡ Accepted
-      undated-strike = accepted-undated s used (Given day) (position-book s used (Given day) p ok)
+      undated-strike : book_verdict s used None ≡ Ok tt
+      undated-strike = accepted-undated s used (Some day) (position-book s used (Some day) p ok)
 
       struck-is : struck s used day p ≡ book_of fewer ++ left
       unfolding struck struck_book
@@ -313,7 +312,7 @@ module _ (s : List ℕ) (used : ℕ) (bytes : AreBytes s) where
       strike-used = rw ok
 
       found-fewer : (i : ℕ) → found (struck s used day p) (used_struck s used day p) i ≡ found_in fewer.trades i
-      found-fewer i = rw (struck-is, strike-used) (found-encoded fewer left fewer-fine fewer-good (fewer-accepted NotGiven undated-strike) i)
+      found-fewer i = rw (struck-is, strike-used) (found-encoded fewer left fewer-fine fewer-good (fewer-accepted None undated-strike) i)
 
       -- after a strike positions before it give what they gave
       pub strike-read-before : (i : ℕ) → i < p → found (struck s used day p) (used_struck s used day p) i ≡ found s used i
@@ -326,12 +325,12 @@ module _ (s : List ℕ) (used : ℕ) (bytes : AreBytes s) where
       pub book-struck : BookStruck s (struck s used day p) p
       book-struck = ap parts_of struck-is ∙ parts-of-book fewer left fewer-fine fewer-good
 
-      struck-accepted : (today : Today) → book_verdict s used today ≡ Accepted → book_verdict (struck s used day p) (used_struck s used day p) today ≡ Accepted
+      struck-accepted : (today : Today) → book_verdict s used today ≡ Ok tt → book_verdict (struck s used day p) (used_struck s used day p) today ≡ Ok tt
       struck-accepted today h = rw (struck-is, strike-used) (book-encoded fewer left fewer-fine fewer-good today ∙ fewer-accepted today h)
 
-    pub strike-accepted : (day : ℕ) (today : Today) → book_verdict s used today ≡ Accepted → book_verdict (struck s used day p) (used_struck s used day p) today ≡ Accepted
-    strike-accepted day today ok = go (position_verdict s used (Given day) p) refl
+    pub strike-accepted : (day : ℕ) (today : Today) → book_verdict s used today ≡ Ok tt → book_verdict (struck s used day p) (used_struck s used day p) today ≡ Ok tt
+    strike-accepted day today ok = go (position_verdict s used (Some day) p) refl
       where
-        go : (v : Verdict) → position_verdict s used (Given day) p ≡ v → book_verdict (struck s used day p) (used_struck s used day p) today ≡ Accepted
-        go Accepted e = struck-accepted day e today ok
-        go (Refused g k) e = rw ((refused-strike s used day p g k e).0, (refused-strike s used day p g k e).1) ok
+        go : (v : Verdict) → position_verdict s used (Some day) p ≡ v → book_verdict (struck s used day p) (used_struck s used day p) today ≡ Ok tt
+        go (Ok tt) e = struck-accepted day e today ok
+        go (Err refusal) e = let q = refused-strike s used day p refusal e in rw (q.0, q.1) ok

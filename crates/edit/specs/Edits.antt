@@ -1,33 +1,27 @@
 -- What a read, an append and a strike answer, and every lent byte afterwards (document 01, "Editing and smaller entries").
-use Rattle.std.specs.Prelude.{ℕ, ◌-◌, ◌≡◌, List, ◌++◌, length, drop, replicate}
-use Rattle.ground.specs.declared.Verdict.{Verdict}
-use Rattle.ground.specs.declared.Verdict.TheVariants as verdict
-use Rattle.ground.specs.declared.Written.{Written}
-use Rattle.ground.specs.declared.Written.TheVariants.{Length, Refused}
-use Rattle.ground.specs.Verdicts.{bytes_after, written_of}
+use Rattle.std.specs.Prelude.{ℕ, ◌-◌, ◌≡◌, List, ◌++◌, length, drop, replicate, None, Some, Result, Ok, Err}
+use Rattle.ground.specs.declared.Refusal.{Refusal}
+use Rattle.ground.specs.Verdicts.{or_else, bytes_after}
 use Rattle.book.specs.Parts.{record_at, parts_of}
 use Rattle.book.specs.Encode.{book_of}
 use Rattle.book.specs.Edited.{appended_parts, struck_parts}
-use Rattle.acceptance.specs.declared.Today.TheVariants.{Given, NotGiven}
-use Rattle.edit.specs.declared.Found.{Found}
 use Rattle.edit.specs.Refusals.{position_verdict, append_verdict}
 
 -- the used length after a call: "Append and strike return the new used length"
-abbrev pub used_after : Written → ℕ → ℕ
-used_after (Length n) used = n
-used_after (Refused g k) used = used
+abbrev pub used_after : Result ℕ Refusal → ℕ → ℕ
+used_after (Ok n) used = n
+used_after (Err refusal) used = used
 
 -- ---- read
 
 -- "all 0 from a refused read"
-abbrev pub record_found : Verdict → List ℕ → List ℕ
-record_found verdict.Accepted r = r
-record_found (verdict.Refused g k) r = replicate 56 0
+abbrev pub record_found : Result (List ℕ) Refusal → List ℕ
+record_found (Ok r) = r
+record_found (Err refusal) = replicate 56 0
 
 -- "Read gives the record at a position from 0."
-unfoldable pub found : List ℕ → ℕ → ℕ → Found
-found s used position =
-    record { verdict = position_verdict s used NotGiven position; bytes = record_found (position_verdict s used NotGiven position) (record_at s position) }
+unfoldable pub found : List ℕ → ℕ → ℕ → Result (List ℕ) Refusal
+found s used position = or_else (position_verdict s used None position) (Ok (record_at s position))
 
 -- ---- append
 
@@ -35,8 +29,8 @@ found s used position =
 unfoldable pub appended_book : List ℕ → List ℕ → List ℕ
 appended_book s r = book_of (appended_parts (parts_of s) r)
 
-unfoldable pub append_answer : List ℕ → ℕ → ℕ → List ℕ → Written
-append_answer s used day r = written_of (append_verdict s used day r) (length (appended_book s r))
+unfoldable pub append_answer : List ℕ → ℕ → ℕ → List ℕ → Result ℕ Refusal
+append_answer s used day r = or_else (append_verdict s used day r) (Ok (length (appended_book s r)))
 
 -- the used length after an append, refused or not
 abbrev pub used_appended : List ℕ → ℕ → ℕ → List ℕ → ℕ
@@ -56,8 +50,8 @@ BookAppended s t r = parts_of t ≡ appended_parts (parts_of s) r
 unfoldable pub struck_book : List ℕ → ℕ → List ℕ
 struck_book s position = book_of (struck_parts (parts_of s) position)
 
-unfoldable pub strike_answer : List ℕ → ℕ → ℕ → ℕ → Written
-strike_answer s used day position = written_of (position_verdict s used (Given day) position) (length (struck_book s position))
+unfoldable pub strike_answer : List ℕ → ℕ → ℕ → ℕ → Result ℕ Refusal
+strike_answer s used day position = or_else (position_verdict s used (Some day) position) (Ok (length (struck_book s position)))
 
 -- the used length after a strike, refused or not
 abbrev pub used_struck : List ℕ → ℕ → ℕ → ℕ → ℕ
@@ -70,5 +64,5 @@ BookStruck s t position = parts_of t ≡ struck_parts (parts_of s) position
 -- "a block left empty becomes zeros and the used length falls by 512"; bytes behind the book stay
 unfoldable pub struck : List ℕ → ℕ → ℕ → ℕ → List ℕ
 struck s used day position =
-    bytes_after (position_verdict s used (Given day) position) s
+    bytes_after (position_verdict s used (Some day) position) s
     (struck_book s position ++ replicate (used - length (struck_book s position)) 0 ++ drop used s)

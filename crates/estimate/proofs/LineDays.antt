@@ -1,13 +1,14 @@
 -- The days up to a place of the list, valued one by one at a line's rates.
 use mathlib.Core.Path.{◌≡◌, refl, sym, ◌∙◌}
 use mathlib.Core.List.{List, ◌∷◌}
-use Prim.Native.Nat.{ℕ, suc, ◌+◌, ◌-◌, ◌≤◌, ◌<◌}
+use Prim.Native.Nat.{ℕ, suc, ◌+◌, ◌-◌, ◌^◌, ◌≤◌, ◌<◌}
 use native.Mathlib.Numerals.{add-one}
 use native.Mathlib.Omega.{arith}
 use lib.IntN.{ℤ, nat_abs, ◌+ℤ◌, +ℤ_assoc, +ℤ_idr}
 use lib.ListN.{drop, get_or}
-use lib.Seq.{drop-cons}
-use Rattle.laws.proofs.Signed.{abs-add}
+use lib.Seq.{drop-cons, get_or-take, get_or-drop}
+use lib.Signed.{mag}
+use Rattle.laws.proofs.Signed.{abs-add, read, read_is, back}
 use Rattle.cheap.specs.Cheap.{whole}
 use Rattle.cheap.proofs.Bound.{cheap-le}
 use Rattle.netting.specs.Netting.{net_on, worth, net_value, net_size, cheap_on}
@@ -16,6 +17,10 @@ use Rattle.estimate.specs.declared.lines.Line.{Line}
 use Rattle.estimate.specs.declared.parts.Part.{Part}
 use Rattle.estimate.specs.Lines.{rate_on, Drawn}
 use Rattle.estimate.specs.Values.{between, along_to, most_size, Ready}
+
+-- the days from one place to another, by place
+pub between-at : (i j : ℕ) (days : List ℕ) (k : ℕ) → k < j - i → get_or (between i j days) k 0 ≡ get_or days (i + k) 0
+between-at i j days k h = get_or-take (j - i) (drop i days) k 0 h ∙ get_or-drop i days k 0
 
 -- a net amount at a cheap factor is worth no more than it is
 pub cheap-worth : (rate : ℕ → ℕ) (d : ℕ) (x : ℤ) → nat_abs (worth (cheap_on rate d) x) ≤ nat_abs x
@@ -73,6 +78,12 @@ module _ (l : Line) (end : ℕ) (nets : List ℤ) (days : List ℕ) where
 
       size-kept : nat_abs (r.value +ℤ day_worth) + net_size nets (drop (suc r.done) days) ≤ most_size
       size-kept = omega (arith, size-next, abs-add r.value day_worth, cheap-worth (rate_on l) day (net_on nets day))
+
+      -- what the day's amount is worth, read back from its bits
+      pub worth-read : (z : ℤ) → z ≡ worth (cheap_on (rate_on l) day) (read (net_on nets day)) → mag (net_on nets day) < 2 ^ 63 → read z ≡ day_worth
+      unfolding most_size
+      worth-read z e m =
+          rw (e, back (net_on nets day) m) (read_is day_worth (omega (arith, amount-most, cheap-worth (rate_on l) day (net_on nets day))))
 
       pub sum-size : nat_abs (r.value +ℤ day_worth) ≤ most_size
       sum-size = omega (arith, size-kept)

@@ -8,7 +8,7 @@ use Rattle.curve.specs.Limits.{zero_node}
 use Rattle.curve.specs.Rates.{nodes_of, rate_at}
 use Rattle.curve.specs.Scenarios.{scenario_count, scenario_at}
 use Rattle.curve.specs.Stress.{stressed}
-use Rattle.netting.specs.Netting.{listed, net_on, net_value, net_size, cheap_on}
+use Rattle.netting.specs.Netting.{listed, net_value, net_size, cheap_on}
 use Rattle.estimate.specs.declared.lines.Line.{Line}
 use Rattle.estimate.specs.declared.parts.Part.{Part}
 use Rattle.estimate.specs.Lines.{rate_on, Drawn}
@@ -47,12 +47,6 @@ pub record DaysBefore (day : ℕ) (days : List ℕ) (n : ℕ) : Type 0 where
 pub record Ends (c : Curve) (days ends : List ℕ) : Type 0 where
   pub places : c.count ≤ length ends
   pub each : (k : ℕ) → k < c.count → DaysBefore (get_or c.nodes k zero_node).day days (get_or ends k 0)
-
--- the days from one day to before another have no net amount
-pub record Empty (nets : List ℤ) (from to : ℕ) : Type 0 where
-  pub order : from ≤ to
-  pub most : to ≤ length nets
-  pub each : (d : ℕ) → from ≤ d → d < to → nat_abs (net_on nets d) ≡ 0
 
 -- ---- what is asked
 

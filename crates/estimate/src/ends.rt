@@ -10,15 +10,7 @@ fn days_before(days: &[u16], day: u64) -> usize
     requires { Rising days.now }
     ensures { DaysBefore day days.now result }
 {
-    let n = days.len();
-    let mut i: usize = 0;
-    while i < n {
-        if day <= days[i] as u64 {
-            return i;
-        }
-        i += 1;
-    }
-    i
+    days.partition_point(|d| u64::from(*d) < day)
 }
 
 // How many come before each node's.
@@ -26,10 +18,7 @@ pub fn fill_ends(curve: Curve, days: &[u16], ends: &mut [usize])
     requires { ProperCurve curve × Rising days.now × (curve.count ≤ length ends.old) }
     ensures { Ends curve days.now ends.new }
 {
-    let n = curve.count;
-    let mut i: usize = 0;
-    while i < n {
+    for i in 0..curve.count {
         ends[i] = days_before(days, curve.nodes[i].day);
-        i += 1;
     }
 }

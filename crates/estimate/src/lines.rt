@@ -41,7 +41,7 @@ fn line_from(a: Node, above: u64, slope: i64) -> Line
 {
     Line {
         start: (a.rate * PARTS + above) as i64 - slope * a.day as i64,
-        slope: slope,
+        slope,
     }
 }
 

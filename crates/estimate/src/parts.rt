@@ -31,18 +31,12 @@ impl Part {
         requires { Ready line end nets.now days.now self × Tables tables.now }
         ensures { result ≡ along_to line end nets.now days.now self }
     {
-        let mut i = self.done;
         let mut value = self.value;
-        while i < end {
-            let day = days[i] as u64;
-            let at = day as usize;
-            value += day_value(line, day, nets[at], tables);
-            i += 1;
+        for day in &days[self.done..end] {
+            let at = usize::from(*day);
+            value += day_value(line, at as u64, nets[at], tables);
         }
-        Part {
-            done: i,
-            value: value,
-        }
+        Part { done: end, value }
     }
 
     // The same between two nodes. Where there are no such days, no line is drawn.

@@ -19,17 +19,13 @@ fn value_on(curve: Curve, ends: &[usize], days: &[u16], nets: &[i64], tables: &[
 {
     let mut p = Part { done: 0, value: 0 };
     p = p.along(level(curve.nodes[0].rate), ends[0], days, nets, tables);
-    let n = curve.count;
-    let mut i: usize = 1;
-    while i < n {
+    for i in 1..curve.count {
         let a = curve.nodes[i - 1];
         let b = curve.nodes[i];
         p = p.between(a, b, ends[i], days, nets, tables);
-        i += 1;
     }
-    let last = curve.nodes[n - 1];
-    p = p.along(level(last.rate), days.len(), days, nets, tables);
-    p.value
+    let last = level(curve.nodes[curve.count - 1].rate);
+    p.along(last, days.len(), days, nets, tables).value
 }
 
 // In one scenario.
@@ -62,12 +58,8 @@ pub fn fill_values(
 {
     let mut ends = [0usize; 24];
     fill_ends(curve, days, &mut ends);
-    let n = components.scenario_count();
-    let mut s: u64 = 0;
-    while s < n {
+    for s in 0..components.scenario_count() {
         let scenario = components.scenario(s);
-        let at = s as usize;
-        values[at] = value_in(curve, scenario, &ends, days, nets, tables);
-        s += 1;
+        values[s as usize] = value_in(curve, scenario, &ends, days, nets, tables);
     }
 }

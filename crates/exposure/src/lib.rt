@@ -20,10 +20,11 @@ use legs::{Leg, Legs};
 fn stands_on(curve: u64, leg: Leg) -> bool
     ensures { result ≡ stands_on curve leg }
 {
-    (leg.curve == curve) & !(leg.count == 0)
+    (leg.curve == curve) & (leg.count != 0)
 }
 
-// Adds a leg behind the ladder's schedules, where it stands on the curve.
+// Adds a leg behind the ladder's schedules, where it stands on the curve. The ladder is a caller's numbers, six a schedule, as the crate ladder reads them.
+#[tactic(auto, unfolding(crate::specs::Schedules::with_leg, crate::specs::Schedules::count_with_leg))]
 fn push_leg(ladder: &mut [u64], schedules: usize, curve: u64, leg: Leg) -> usize
     requires { schedules * 6 + 6 ≤ length ladder.old }
     ensures value { result ≡ count_with_leg curve leg schedules }
@@ -33,12 +34,14 @@ fn push_leg(ladder: &mut [u64], schedules: usize, curve: u64, leg: Leg) -> usize
         return schedules;
     }
     let at = schedules * 6;
-    ladder[at] = leg.first;
-    ladder[at + 1] = leg.period;
-    ladder[at + 2] = leg.count;
-    ladder[at + 3] = leg.each;
-    ladder[at + 4] = leg.last;
-    ladder[at + 5] = leg.received as u64;
+    ladder[at..at + 6].copy_from_slice(&[
+        leg.first,
+        leg.period,
+        leg.count,
+        leg.each,
+        leg.last,
+        leg.received as u64,
+    ]);
     schedules + 1
 }
 
@@ -47,12 +50,9 @@ fn push_legs(ladder: &mut [u64], schedules: usize, curve: u64, legs: Legs) -> us
     requires { (schedules * 6 + 18 ≤ length ladder.old) × LegsSound legs }
     ensures { Grown curve (legs_flows legs) ladder.old schedules ladder.new result }
 {
-    let first = legs.first;
-    let second = legs.second;
-    let payments = legs.payments;
-    let one = push_leg(ladder, schedules, curve, first);
-    let two = push_leg(ladder, one, curve, second);
-    push_leg(ladder, two, curve, payments)
+    let one = push_leg(ladder, schedules, curve, legs.first);
+    let two = push_leg(ladder, one, curve, legs.second);
+    push_leg(ladder, two, curve, legs.payments)
 }
 
 // The ladder of a curve of an accepted book, which has room for three legs of each trade, and how many schedules it has.
@@ -61,14 +61,12 @@ pub fn gather(book: &[u8], curve: u64, ladder: &mut [u64]) -> usize
     ensures flows { ladder_flows curve ladder.new result ≡ flows_on curve (flows_in book.now) }
     ensures limits { LadderLimits curve ladder.new result }
 {
-    let count = parts::trade_count(book);
     let mut schedules: usize = 0;
-    let mut i: usize = 0;
-    while i < count {
+    let count = parts::trade_count(book);
+    for i in 0..count {
         let r = parts::record_at(book, i);
         let legs = flows::walk::legs_of(trade::read::trade_of(record::bytes::fields_of(&r)));
         schedules = push_legs(ladder, schedules, curve, legs);
-        i += 1;
     }
     schedules
 }

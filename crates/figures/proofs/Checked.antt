@@ -4,10 +4,10 @@ use mathlib.Core.List.{[], ◌∷◌, map}
 use Prim.Native.Nat.{ℕ}
 use lib.IntN.{pos, neg_ℤ}
 use Rattle.ground.specs.declared.Ground.TheVariants.{ValueRange}
+use Rattle.ground.specs.Verdicts.{refused}
 use Rattle.decimal.specs.HalfUp.{interest_on, withholding_on}
 use Rattle.discount.specs.Discount.{present_value}
 use Rattle.discount.specs.Valued.{valued_of}
-use Rattle.discount.specs.declared.entry.Valued.TheVariants.{Refused}
 use Rattle.discount.proofs.Figures.{present-values}
 use Rattle.curve.specs.Rates.{rate_at}
 use Rattle.curve.specs.Scenarios.{coefficients}
@@ -21,7 +21,7 @@ pub record CheckedFigures : Type 0 where
   pub two-years : present_value 1000 1000000 730 ≡ 250
   -- "10^12 at 1,000,000, day 10,950: 931; day 10,951 is refused by 16."
   pub last-day : present_value 1000000000000 1000000 10950 ≡ 931
-  pub day-after : valued_of 1000000000000 1000000 10951 ≡ Refused ValueRange 0
+  pub day-after : valued_of 1000000000000 1000000 10951 ≡ refused ValueRange 0
   -- "77 on day 0: 77."
   pub today : (rate : ℕ) → present_value 77 rate 0 ≡ 77
   -- "Nodes (10; 100,007), (20; 100,000): day 5 100,007, day 13 100,005, day 25 100,000."

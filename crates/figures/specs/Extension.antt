@@ -1,6 +1,5 @@
 -- Source document 004's own bootstrap (section 4.3) as the engine is given it: a book of one curve, a bond and its price.
-use Rattle.std.specs.Prelude.{ℕ, cond, List, pos, set, replicate}
-use Rattle.ground.specs.Verdicts.{is_accepted}
+use Rattle.std.specs.Prelude.{ℕ, cond, List, pos, set, replicate, is_ok}
 use Rattle.layout.specs.Bytes.{put}
 use Rattle.layout.specs.Field.{u32_at, bytes_of}
 use Rattle.layout.specs.Check.{sealed}
@@ -36,4 +35,4 @@ bond_quote = quote_of 1 coupon_bond 9900000000 (pos 0) (pos 0) (pos 0)
 
 -- the rate of the curve's third node after the bootstrap; 0 where it is refused
 unfoldable pub rate_found : ℕ
-rate_found = cond (is_accepted (bootstrap_verdict known_book 1024 0 bond_quote)) (u32_at (bootstrapped known_book 1024 0 bond_quote) 576) 0
+rate_found = cond (is_ok (bootstrap_verdict known_book 1024 0 bond_quote)) (u32_at (bootstrapped known_book 1024 0 bond_quote) 576) 0

@@ -1,10 +1,8 @@
 -- What a worked figure of source document 004 is, by the engine's own definitions, in kurus. An input outside the engine's limits is brought
 -- into them.
-use Rattle.std.specs.Prelude.{cond, ℕ, ◌-◌, ltb}
+use Rattle.std.specs.Prelude.{cond, ℕ, ◌-◌, ltb, unwrap_or}
 use Rattle.decimal.specs.Product.{unit}
 use Rattle.decimal.specs.HalfUp.{millionths_of, interest_on, withholding_on, indexed_by, scaled_to}
-use Rattle.decimal.specs.declared.round.Scaled.{Scaled}
-use Rattle.decimal.specs.declared.round.Scaled.TheVariants.{Within, Over}
 use Rattle.discount.specs.Discount.{million, present_value}
 use Rattle.trade.specs.Prices.{dirty_of}
 use Rattle.flows.specs.Amounts.{settlement_cash, second_leg_cash}
@@ -27,19 +25,15 @@ term_in n = brought 0 730 n
 abbrev pub index_in : ℕ → ℕ
 index_in n = brought 1 10000000 n
 
--- the amount, and 0 where it is above the largest
-abbrev pub scaled_amount : Scaled → ℕ
-scaled_amount (Within n) = n
-scaled_amount Over = 0
-
 -- ---- the figures
 
 unfoldable pub cash_for : ℕ → ℕ → ℕ → ℕ
 cash_for nominal clean accrued = settlement_cash (amount_in nominal) (dirty_of (record { 0 = brought 0 4000000 clean }) (rate_in accrued))
 
+-- 0 where the payment is above the largest amount
 unfoldable pub indexed_for : ℕ → ℕ → ℕ → ℕ → ℕ
 indexed_for nominal coupon settlement issue =
-    scaled_amount (scaled_to (indexed_by (index_in settlement) (index_in issue) (millionths_of (amount_in nominal) (rate_in coupon))))
+    unwrap_or (scaled_to (indexed_by (index_in settlement) (index_in issue) (millionths_of (amount_in nominal) (rate_in coupon)))) 0
 
 unfoldable pub present_for : ℕ → ℕ → ℕ → ℕ
 present_for sum at days = present_value (amount_in sum) (rate_in at) days

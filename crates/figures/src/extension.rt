@@ -65,9 +65,8 @@ pub fn found_rate() -> u64
         second: 0,
         third: 0,
     };
-    let v = bootstrap::bootstrap(&mut book, 1024, 0, quote);
-    if !v.is_accepted() {
-        return 0;
+    match bootstrap::bootstrap(&mut book, 1024, 0, quote) {
+        Ok(()) => u32_at(&book, 576),
+        Err(_) => 0,
     }
-    u32_at(&book, 576)
 }

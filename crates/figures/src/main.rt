@@ -89,12 +89,8 @@ fn write_count(rt: &impl Print, agreed: u64) -> io::Result<()> {
 
 fn main(rt: HostRuntime) -> io::Result<()> {
     let mut agreed: u64 = 0;
-    let mut i = 0;
-    while i < COUNT {
-        if compare(&rt, figure_at(i))? {
-            agreed += 1;
-        }
-        i += 1;
+    for i in 0..COUNT {
+        agreed += u64::from(compare(&rt, figure_at(i))?);
     }
     write_extension(&rt)?;
     write_count(&rt, agreed)

@@ -7,7 +7,6 @@ ghost use Rattle.figures.specs.Worked.{brought, amount_in, rate_in, cash_for, in
 
 use crate::figure::Work;
 use decimal::round;
-use decimal::round::Scaled;
 use discount::value::present_value;
 use flows::amounts;
 use trade::price::Clean;
@@ -49,15 +48,12 @@ fn indexed(nominal: u64, coupon: u64, settlement: u64, issue: u64) -> u64
     ensures { result ≡ indexed_for nominal coupon settlement issue }
 {
     let payment = round::millionths_of(amount(nominal), rate(coupon));
-    let scaled = round::indexed_by(
+    round::indexed_by(
         within(1, 10_000_000, settlement),
         within(1, 10_000_000, issue),
         payment,
-    );
-    match scaled {
-        Scaled::Within(n) => n,
-        Scaled::Over => 0,
-    }
+    )
+    .unwrap_or(0)
 }
 
 fn present(sum: u64, at: u64, days: u64) -> u64

@@ -1,4 +1,3 @@
-pub mod Products
 pub mod LowPowers
 pub mod Antilogs
 pub mod Bound

@@ -14,6 +14,7 @@ pub struct Bracket {
 }
 
 // What the products of the days beyond whole years may lose, in parts of 10^12.
+#[tactic(auto, unfolding(crate::specs::Fine::lost, logarithm::specs::Logarithms::fine_whole))]
 fn lost(rate: u64, day: u64, c: u64) -> u64
     requires { (rate ≤ 1_000_000) × (c ≤ fine_whole) }
     ensures { (result ≡ lost rate day c) × (result ≤ 1500) }
@@ -22,17 +23,8 @@ fn lost(rate: u64, day: u64, c: u64) -> u64
     2 * (day % 365) * years / 4_398_046_511_104 + 1
 }
 
-// c - e, or 0.
-fn less(c: u64, e: u64) -> u64
-    ensures { (result ≡ c - e) × (result ≤ c) }
-{
-    if c < e {
-        return 0;
-    }
-    c - e
-}
-
 // Around a fine factor.
+#[tactic(auto, unfolding(crate::specs::Fine::bracket_of, crate::specs::Fine::below, crate::specs::Fine::above, crate::specs::Fine::spread, logarithm::specs::Logarithms::fine_whole))]
 fn bracket_of(rate: u64, day: u64, c: u64) -> Bracket
     requires { (rate ≤ 1_000_000) × (day ≤ last_day) × (c ≤ fine_whole) }
     ensures same { result ≡ bracket_of rate day c }
@@ -43,14 +35,14 @@ fn bracket_of(rate: u64, day: u64, c: u64) -> Bracket
     let under = 4_398_046_511_104 * (lost + 2 * (day / 365)) / 1_000_000_000_000;
     let over = 4_398_046_511_104 * lost / 1_000_000_000_000;
     let short = spread * c / 2_251_799_813_685_248;
-    let low = less(c, 2 + short + under);
     Bracket {
-        low: low,
+        low: c.saturating_sub(2 + short + under),
         high: c + (13 + over),
     }
 }
 
 // At a rate on a day.
+#[tactic(auto, unfolding(crate::specs::Fine::bracket_at))]
 pub fn bracket_at(tables: &[u64], rate: u64, day: u64) -> Bracket
     requires { Tables tables.now × (rate ≤ 1_000_000) × (day ≤ last_day) }
     ensures same { result ≡ bracket_at rate day }

@@ -2,23 +2,12 @@
 ghost use Rattle.std.specs.Prelude.{◌≡◌, ◌*◌, ◌/◌, ◌≤◌, ◌<◌};
 ghost use Rattle.ground.specs.Limits.{last_day};
 ghost use Rattle.logarithm.specs.Logarithms.{fine_whole, Tables};
-ghost use Rattle.fine.specs.Fine.{log_at, scaled, low_power, antilog, fine_factor};
+ghost use Rattle.fine.specs.Fine.{log_at, low_power, antilog, fine_factor};
 
-use logarithm::tables::step;
-
-const ROOT: u64 = 2_097_152;
-
-// a * b / 2^42, rounded down, in parts that fit.
-fn multiply(a: u64, b: u64) -> u64
-    requires { (a ≤ fine_whole) × (b ≤ fine_whole) }
-    ensures { (result ≡ scaled a b) × (result ≤ fine_whole) }
-{
-    let upper = a / ROOT * b;
-    let lower = a % ROOT * b / ROOT;
-    (upper + lower) / ROOT
-}
+use logarithm::tables::{scaled, step};
 
 // The logarithm of a rate and a day.
+#[tactic(auto, unfolding(crate::specs::Fine::log_at, discount::specs::Discount::million))]
 fn exponent(tables: &[u64], rate: u64, day: u64) -> u64
     requires { Tables tables.now × (rate ≤ 1_000_000) × (day ≤ last_day) }
     ensures { result ≡ log_at rate * day / 365 }
@@ -30,6 +19,7 @@ fn exponent(tables: &[u64], rate: u64, day: u64) -> u64
 }
 
 // The power of the lowest digits of an exponent.
+#[tactic(auto, unfolding(crate::specs::Fine::low_power, logarithm::specs::Logarithms::fine_whole))]
 fn low_power(x: u64) -> u64
     requires { x < 137_438_953_472 }
     ensures { (result ≡ low_power x) × (result ≤ fine_whole) }
@@ -39,6 +29,7 @@ fn low_power(x: u64) -> u64
 }
 
 // The power of an exponent, in parts of 2^42.
+#[tactic(auto, unfolding(crate::specs::Fine::antilog, crate::specs::Fine::scaled, logarithm::specs::Logarithms::fine_whole))]
 fn antilog(tables: &[u64], x: u64) -> u64
     requires { Tables tables.now × (x / 140_737_488_355_328 ≤ 333) }
     ensures { (result ≡ antilog x) × (result ≤ fine_whole) }
@@ -46,10 +37,11 @@ fn antilog(tables: &[u64], x: u64) -> u64
     let upper = tables[(2002 + x / 140_737_488_355_328) as usize];
     let middle = tables[(978 + x / 137_438_953_472 % 1024) as usize];
     let lowest = low_power(x % 137_438_953_472);
-    multiply(multiply(upper, middle), lowest)
+    scaled::<42>(scaled::<42>(upper, middle), lowest)
 }
 
 // The fine factor of a rate and a day, in parts of 2^42.
+#[tactic(auto, unfolding(crate::specs::Fine::fine_factor))]
 pub fn factor(tables: &[u64], rate: u64, day: u64) -> u64
     requires { Tables tables.now × (rate ≤ 1_000_000) × (day ≤ last_day) }
     ensures { (result ≡ fine_factor rate day) × (result ≤ fine_whole) }

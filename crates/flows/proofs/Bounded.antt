@@ -2,19 +2,21 @@
 use mathlib.Core.Path.{◌≡◌, subst}
 use mathlib.Core.Bool.{false}
 use mathlib.Core.List.{List, [], ◌∷◌, ◌++◌}
-use Prim.Native.Nat.{ℕ, zero, suc, ◌≤◌, ◌<◌}
+use Prim.Native.Nat.{ℕ, ◌≤◌, ◌<◌}
 use native.Mathlib.Omega.{arith}
 use lib.Dec.{ltb}
-use lib.IntN.{ℤ, pos, negsuc}
+use Rattle.std.proofs.Common.{Option, Some, None}
+use Rattle.legs.specs.declared.signs.Direction.{Direction}
+use Rattle.legs.specs.declared.signs.Direction.TheVariants.{In, Out}
 use lib.ListN.{length, length-append}
 use borrow.Author.Tests.{ltb-false}
+use Rattle.std.specs.Prelude.{Ok}
 use Rattle.laws.specs.All.{All}
 use Rattle.laws.proofs.All.{all_append, all-table, all_both}
 use Rattle.laws.proofs.Bools.{neither}
 use Rattle.laws.proofs.Select.{select-few, select-each}
 use Rattle.decimal.specs.Product.{unit}
 use Rattle.discount.specs.declared.Flow.{Flow}
-use Rattle.ground.specs.declared.Verdict.TheVariants.{Accepted}
 use Rattle.ground.specs.Limits.{last_day}
 use Rattle.ground.proofs.Verdicts.{unbroken}
 use Rattle.record.specs.declared.Curves.{Curves}
@@ -50,7 +52,7 @@ pub record AcceptedRecord (curves : Curves) (f : Fields) : Type 0 where
   pub currency : breaks_currency curves f.form ≡ false
   pub trade : SoundTrade (trade_of f)
 
-pub accepted : (curves : Curves) (f : Fields) (block : ℕ) → record_verdict curves f block ≡ Accepted → AcceptedRecord curves f
+pub accepted : (curves : Curves) (f : Fields) (block : ℕ) → record_verdict curves f block ≡ Ok tt → AcceptedRecord curves f
 unfolding record_verdict
 accepted curves f block h =
     let kept = unbroken block (record_rules curves f) h in
@@ -89,11 +91,11 @@ leg-placed : (count : ℕ) (l : Leg) → LegLimits l → Held count l → All (P
 unfolding leg_flows
 leg-placed count l h g = all-table (Placed count) (flow_of l) 0 l.count (λ k a b. record { day = span l k h (omega arith); curve = g (omega arith) })
 
-signed-held : (count : ℕ) (sign : ℤ) (l : Leg) → Held count l → Held count (signed_leg sign l)
+signed-held : (count : ℕ) (sign : Option Direction) (l : Leg) → Held count l → Held count (signed_leg sign l)
 unfolding signed_leg
-signed-held count (pos zero) l h = λ some. absurd (omega arith)
-signed-held count (pos (suc n)) l h = h
-signed-held count (negsuc n) l h = h
+signed-held count None l h = λ some. absurd (omega arith)
+signed-held count (Some In) l h = h
+signed-held count (Some Out) l h = h
 
 record LegsHeld (count : ℕ) (l : Legs) : Type 0 where
   first : Held count l.first
@@ -101,12 +103,12 @@ record LegsHeld (count : ℕ) (l : Legs) : Type 0 where
   payments : Held count l.payments
 
 module _ {curves : Curves} (f : Fields) (r : SoundRecord curves f) where
-  payments-held : (sign : ℤ) → Held curves.count (signed_leg sign (payments_of (security_of f)))
+  payments-held : (sign : Option Direction) → Held curves.count (signed_leg sign (payments_of (security_of f)))
   payments-held sign =
       signed-held curves.count sign (payments_of (security_of f))
       (λ some. let told = payments-told f r some in rw told.1.0 (r.form.held told.0))
 
-  cash-held : (sign : ℤ) (day amount : ℕ) → Held curves.count (signed_leg sign (one_flow f.form.cashcurve day amount))
+  cash-held : (sign : Option Direction) (day amount : ℕ) → Held curves.count (signed_leg sign (one_flow f.form.cashcurve day amount))
   cash-held sign day amount =
       signed-held curves.count sign (one_flow f.form.cashcurve day amount) (λ some. r.form.cash)
 
@@ -154,11 +156,11 @@ flows-bounded {curves} f a =
 
 -- ---- how many there are
 
-signed-count : (sign : ℤ) (l : Leg) → (signed_leg sign l).count ≤ l.count
+signed-count : (sign : Option Direction) (l : Leg) → (signed_leg sign l).count ≤ l.count
 unfolding signed_leg
-signed-count (pos zero) l = omega arith
-signed-count (pos (suc n)) l = omega arith
-signed-count (negsuc n) l = omega arith
+signed-count None l = omega arith
+signed-count (Some In) l = omega arith
+signed-count (Some Out) l = omega arith
 
 -- a trade has a first leg and a second of one flow each at most
 cash-few : (t : Trade) → ((legs_of t).first.count ≤ 1) × ((legs_of t).second.count ≤ 1)

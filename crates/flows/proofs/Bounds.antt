@@ -32,3 +32,5 @@ nominal-bound Nothing l = omega arith
 nominal-bound (Single p) l = l.nominal
 nominal-bound (Coupons b) l = l.nominal
 nominal-bound (Indexed i) l = l.bond.nominal
+
+pub ruleset bounds = (millionths-bound, interest-bound, withholding-bound, nominal-bound)

@@ -1,14 +1,16 @@
 -- Legs by their signs, and with their amounts capped.
 use mathlib.Core.Path.{◌≡◌, refl, sym, ap, ◌∙◌}
 use mathlib.Core.Bool.{Bool, true, false, cond}
-use Prim.Native.Nat.{ℕ, zero, suc, ◌+◌, ◌≤◌, ◌<◌}
+use Prim.Native.Nat.{ℕ, ◌+◌, ◌≤◌}
 use native.Mathlib.Omega.{arith}
-use lib.Dec.{eqb, leb, ltb}
-use lib.IntN.{ℤ, pos, negsuc}
-use borrow.Author.Tests.{le-leb, lt-leb}
+use lib.Dec.{eqb, ltb}
+use Rattle.std.proofs.Common.{Option, Some, None}
+use Rattle.legs.specs.declared.signs.Direction.{Direction}
+use Rattle.legs.specs.declared.signs.Direction.TheVariants.{In, Out}
+use borrow.Author.Tests.{le-leb}
 use Rattle.decimal.specs.Product.{unit}
 use Rattle.decimal.specs.HalfUp.{scaled_to}
-use Rattle.decimal.specs.declared.round.Scaled.TheVariants.{Within, Over}
+use Rattle.std.specs.Prelude.{unwrap_or}
 use Rattle.legs.specs.declared.Leg.{Leg}
 use Rattle.legs.specs.Runs.{no_leg, signed_leg}
 use Rattle.flows.specs.Capped.{capped, capped_leg}
@@ -18,26 +20,10 @@ pub capped_small : (n : ℕ) → n ≤ unit → capped n ≡ n
 unfolding capped
 capped_small n h = rw (le-leb n unit h)
 
-pub capped-large : (n : ℕ) → unit < n → capped n ≡ unit + 1
-unfolding capped
-capped-large n h = rw (lt-leb n unit h)
-
 -- what `decimal` answers, as a capped amount
-pub capped-within : (n amount : ℕ) → Within amount ≡ scaled_to n → amount ≡ capped n
+pub capped-scaled : (n : ℕ) → unwrap_or (scaled_to n) (unit + 1) ≡ capped n
 unfolding scaled_to capped
-capped-within n amount e = go (leb n unit) e
-  where
-    go : (t : Bool) → Within amount ≡ cond t (Within n) Over → amount ≡ cond t n (unit + 1)
-    go true h = cc
-    go false h = let bad : ◌≡◌ {A = ℕ} 0 1 = cc in absurd (omega arith)
-
-pub capped-over : (n : ℕ) → Over ≡ scaled_to n → unit + 1 ≡ capped n
-unfolding scaled_to capped
-capped-over n e = go (leb n unit) e
-  where
-    go : (t : Bool) → Over ≡ cond t (Within n) Over → unit + 1 ≡ cond t n (unit + 1)
-    go true h = let bad : ◌≡◌ {A = ℕ} 0 1 = cc in absurd (omega arith)
-    go false h = refl
+capped-scaled n = grind arith
 
 -- ---- by the sign
 
@@ -45,11 +31,11 @@ pub capped-none : capped_leg no_leg ≡ no_leg
 unfolding capped unit
 capped-none = refl
 
-pub signed-capped : (sign : ℤ) (l : Leg) → signed_leg sign (capped_leg l) ≡ capped_leg (signed_leg sign l)
+pub signed-capped : (sign : Option Direction) (l : Leg) → signed_leg sign (capped_leg l) ≡ capped_leg (signed_leg sign l)
 unfolding signed_leg
-signed-capped (pos zero) l = sym capped-none
-signed-capped (pos (suc n)) l = refl
-signed-capped (negsuc n) l = refl
+signed-capped None l = sym capped-none
+signed-capped (Some In) l = refl
+signed-capped (Some Out) l = refl
 
 -- ---- and with the payments that count
 

@@ -2,10 +2,12 @@
 use mathlib.Core.Path.{◌≡◌, sym, ap, ◌∙◌}
 use mathlib.Core.Bool.{Bool, true, false}
 use mathlib.Core.List.{List, ◌++◌}
-use Prim.Native.Nat.{ℕ, zero, suc, ◌<◌}
+use Prim.Native.Nat.{ℕ, ◌<◌}
 use native.Mathlib.Omega.{arith}
 use lib.Dec.{leb, ltb}
-use lib.IntN.{ℤ, pos, negsuc}
+use Rattle.std.proofs.Common.{Option, Some, None}
+use Rattle.legs.specs.declared.signs.Direction.{Direction}
+use Rattle.legs.specs.declared.signs.Direction.TheVariants.{In, Out}
 use Rattle.laws.specs.Select.{select}
 use Rattle.laws.proofs.Select.{select-both, select-whole}
 use Rattle.discount.specs.declared.Flow.{Flow}
@@ -52,8 +54,8 @@ first-day (Single p) day h = h
 first-day (Coupons b) day h = h
 first-day (Indexed i) day h = h
 
-pub all-behind : (sign : ℤ) (s : Security) (valueday1 valueday2 : ℕ) → valueday2 < first_payment_of s → counted_leg false valueday1 valueday2 (signed_leg sign (payments_of s)) ≡ no_leg
+pub all-behind : (sign : Option Direction) (s : Security) (valueday1 valueday2 : ℕ) → valueday2 < first_payment_of s → counted_leg false valueday1 valueday2 (signed_leg sign (payments_of s)) ≡ no_leg
 unfolding signed_leg
-all-behind (pos zero) s valueday1 valueday2 h = ap (leg_up_to valueday2) (after_none valueday1) ∙ up-to-none valueday2
-all-behind (pos (suc n)) s valueday1 valueday2 h = none-in-term valueday1 valueday2 (directed true (payments_of s)) (first-day s valueday2 h)
-all-behind (negsuc n) s valueday1 valueday2 h = none-in-term valueday1 valueday2 (directed false (payments_of s)) (first-day s valueday2 h)
+all-behind None s valueday1 valueday2 h = ap (leg_up_to valueday2) (after_none valueday1) ∙ up-to-none valueday2
+all-behind (Some In) s valueday1 valueday2 h = none-in-term valueday1 valueday2 (directed true (payments_of s)) (first-day s valueday2 h)
+all-behind (Some Out) s valueday1 valueday2 h = none-in-term valueday1 valueday2 (directed false (payments_of s)) (first-day s valueday2 h)

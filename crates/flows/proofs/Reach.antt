@@ -1,6 +1,7 @@
 -- The legs of a trade that keeps its limits: few flows, on days in reach.
 use mathlib.Core.Bool.{Bool}
-use lib.IntN.{ℤ}
+use Rattle.std.proofs.Common.{Option}
+use Rattle.legs.specs.declared.signs.Direction.{Direction}
 use Rattle.record.specs.Uses.{has_settled}
 use Rattle.trade.specs.declared.Security.{Security}
 use Rattle.trade.specs.declared.Security.TheVariants.{Nothing, Single, Coupons, Indexed}
@@ -56,7 +57,7 @@ counted-legs-reach (Specified t) h = repo-reach (has_settled 3 t.phase) t (legs_
 capped-leg-reach : (l : Leg) → LegLimits l → LegLimits (capped_leg l)
 capped-leg-reach l h = record { few = h.few; reach = h.reach }
 
-pub payment-reach : (sign : ℤ) (s : Security) → SecurityLimits s → LegLimits (capped_leg (signed_leg sign (payments_of s)))
+pub payment-reach : (sign : Option Direction) (s : Security) → SecurityLimits s → LegLimits (capped_leg (signed_leg sign (payments_of s)))
 payment-reach sign s h = capped-leg-reach (signed_leg sign (payments_of s)) (signed-reach sign (payments_of s) (payments s h))
 
 pub capped-reach : (l : Legs) → LegsLimits l → LegsLimits (capped_legs l)

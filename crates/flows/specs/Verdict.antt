@@ -1,8 +1,7 @@
 -- The verdict on a record: the first of the rules 8 to 12 that it breaks (document 01, "Grounds of refusal").
 use Rattle.std.specs.Prelude.{ℕ, List, [], ◌∷◌}
-use Rattle.ground.specs.Verdicts.{Rule, first_broken}
+use Rattle.ground.specs.Verdicts.{Rule, first_broken, Verdict}
 use Rattle.ground.specs.declared.Ground.TheVariants.{Form, Days, Amounts, Currency, FlowLimit}
-use Rattle.ground.specs.declared.Verdict.{Verdict}
 use Rattle.record.specs.declared.Fields.{Fields}
 use Rattle.record.specs.declared.Curves.{Curves}
 use Rattle.record.specs.Rules.{breaks_form, breaks_days, breaks_amounts, breaks_currency}

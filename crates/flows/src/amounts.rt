@@ -7,6 +7,7 @@ use trade::CouponBond;
 use trade::price::Dirty;
 
 // What a bond costs: only a dirty price settles.
+#[tactic(auto, unfolding(crate::specs::Amounts::settlement_cash))]
 pub fn settlement_cash(nominal: u64, price: Dirty) -> u64
     requires { (nominal ≤ unit) × (price.0 ≤ 5_000_000) }
     ensures { result ≡ settlement_cash nominal price }
@@ -15,6 +16,7 @@ pub fn settlement_cash(nominal: u64, price: Dirty) -> u64
 }
 
 // What a repo's second leg pays.
+#[tactic(auto, using(crate::proofs::Bounds::bounds), unfolding(crate::specs::Amounts::second_leg_cash, decimal::specs::Product::unit))]
 pub fn second_leg_cash(cash: u64, rate: u64, term: u64) -> u64
     requires { (cash ≤ unit) × ((rate ≤ 1_000_000) × (term ≤ 730)) }
     ensures { result ≡ second_leg_cash cash rate term }
@@ -25,6 +27,7 @@ pub fn second_leg_cash(cash: u64, rate: u64, term: u64) -> u64
 }
 
 // The coupon of a period.
+#[tactic(auto, unfolding(crate::specs::Amounts::coupon_of))]
 pub fn coupon_of(b: CouponBond) -> u64
     requires { (b.nominal ≤ unit) × (b.coupon ≤ 1_000_000) }
     ensures value { result ≡ coupon_of b }

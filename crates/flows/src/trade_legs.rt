@@ -3,6 +3,8 @@ ghost use Rattle.std.specs.Prelude.{◌≡◌, ◌*◌, ◌≤◌};
 ghost use Rattle.decimal.specs.Product.{unit};
 ghost use Rattle.flows.specs.Amounts.{indexed_of};
 ghost use Rattle.legs.specs.Runs.{one_flow, signed_leg};
+ghost use Rattle.legs.specs.Signs.{signs_of};
+ghost use Rattle.record.specs.Uses.{has_settled};
 ghost use Rattle.flows.specs.Legs.{bond_leg, payments_of, first_payment_of, nominal_of, outright_legs, repo_legs};
 ghost use Rattle.trade.specs.declared.Security.TheVariants.{Coupons, Indexed};
 ghost use Rattle.flows.specs.Capped.{capped, capped_leg, capped_legs};
@@ -11,20 +13,17 @@ ghost use Rattle.flows.specs.Counted.{counted_repo, counted_legs};
 ghost use Rattle.flows.specs.Limits.{BondLimits, IndexLimits, SecurityLimits, OutrightLimits, RepoLimits, TradeLimits};
 
 use crate::amounts;
-use decimal::round::Scaled;
-use legs::signs::Signs;
+use decimal::round::indexed_by;
+use legs::signs::Direction;
 use legs::{Leg, Legs, signs, simple_legs, window};
 use record::{LARGEST, rules};
 use trade::{CouponBond, IndexedBond, OutrightTrade, RepoTrade, Security, Trade};
 
+#[tactic(auto, unfolding(crate::specs::Capped::capped, decimal::specs::Product::unit))]
 fn cap(amount: u64) -> u64
     ensures { result ≡ capped amount }
 {
-    if amount <= LARGEST {
-        amount
-    } else {
-        LARGEST + 1
-    }
+    amount.min(LARGEST + 1)
 }
 
 fn indexed_payment(i: IndexedBond, payment: u64) -> u64
@@ -32,10 +31,7 @@ fn indexed_payment(i: IndexedBond, payment: u64) -> u64
     requires payment_bound { payment ≤ 2 * unit }
     ensures { result ≡ capped (indexed_of i payment) }
 {
-    match decimal::round::indexed_by(i.index, i.issue, payment) {
-        Scaled::Within(amount) => amount,
-        Scaled::Over => LARGEST + 1,
-    }
+    indexed_by(i.index, i.issue, payment).unwrap_or(LARGEST + 1)
 }
 
 fn bond_leg(b: CouponBond, each: u64, last: u64) -> Leg
@@ -52,6 +48,7 @@ fn bond_leg(b: CouponBond, each: u64, last: u64) -> Leg
     }
 }
 
+#[tactic(auto, unfolding(decimal::specs::Product::unit))]
 fn coupon_leg(b: CouponBond) -> Leg
     requires { BondLimits b }
     ensures { result ≡ capped_leg (payments_of (Coupons b)) }
@@ -60,6 +57,7 @@ fn coupon_leg(b: CouponBond) -> Leg
     bond_leg(b, cap(coupon), cap(coupon + b.nominal))
 }
 
+#[tactic(auto, unfolding(decimal::specs::Product::unit))]
 fn indexed_leg(i: IndexedBond) -> Leg
     requires { IndexLimits i }
     ensures { result ≡ capped_leg (payments_of (Indexed i)) }
@@ -73,6 +71,7 @@ fn indexed_leg(i: IndexedBond) -> Leg
     )
 }
 
+#[tactic(auto, unfolding(crate::specs::Capped::capped, decimal::specs::Product::unit))]
 fn payments_of(s: Security) -> Leg
     requires { SecurityLimits s }
     ensures { result ≡ capped_leg (payments_of s) }
@@ -92,10 +91,7 @@ fn first_payment_of(s: Security) -> u64
         Security::Nothing => 0,
         Security::Single(p) => p.first,
         Security::Coupons(b) => b.first,
-        Security::Indexed(i) => {
-            let b = i.bond;
-            b.first
-        }
+        Security::Indexed(i) => i.bond.first,
     }
 }
 
@@ -106,60 +102,60 @@ fn nominal_of(s: Security) -> u64
         Security::Nothing => 0,
         Security::Single(p) => p.nominal,
         Security::Coupons(b) => b.nominal,
-        Security::Indexed(i) => {
-            let b = i.bond;
-            b.nominal
-        }
+        Security::Indexed(i) => i.bond.nominal,
     }
 }
 
 // A leg of one flow of cash.
-fn cash_leg(sign: i64, curve: u64, day: u64, amount: u64) -> Leg
+fn cash_leg(sign: Option<Direction>, curve: u64, day: u64, amount: u64) -> Leg
     ensures { result ≡ capped_leg (signed_leg sign (one_flow curve day amount)) }
 {
     simple_legs::signed_leg(sign, simple_legs::one_flow(curve, day, cap(amount)))
 }
 
-fn payment_leg(sign: i64, s: Security) -> Leg
+fn payment_leg(sign: Option<Direction>, s: Security) -> Leg
     requires { SecurityLimits s }
     ensures { result ≡ capped_leg (signed_leg sign (payments_of s)) }
 {
     simple_legs::signed_leg(sign, payments_of(s))
 }
 
-fn outright_legs(s: Signs, t: OutrightTrade) -> Legs
+#[tactic(auto, using(crate::proofs::Bounds::bounds), unfolding(crate::specs::Legs::outright_legs, crate::specs::Capped::capped, decimal::specs::Product::unit))]
+fn outright_legs(t: OutrightTrade) -> Legs
     requires { OutrightLimits t }
-    ensures { result ≡ capped_legs (outright_legs s t) }
+    ensures { result ≡ capped_legs (outright_legs (signs_of 1 0 t.side) t) }
 {
-    let security = t.security;
-    let price = t.price;
-    let dirty = price.dirty(t.accrued);
-    let cash = amounts::settlement_cash(nominal_of(security), dirty);
+    let s = signs::signs_of(1, 0, t.side);
+    let dirty = t.price.dirty(t.accrued);
+    let cash = amounts::settlement_cash(nominal_of(t.security), dirty);
     Legs {
         first: cash_leg(s.first, t.cashcurve, t.valueday1, cash),
         second: simple_legs::no_leg(),
-        payments: payment_leg(s.payments, security),
+        payments: payment_leg(s.payments, t.security),
     }
 }
 
 // The payments that count. Where all come back with the security, none is worked out.
-fn repo_payments(settled: bool, sign: i64, t: RepoTrade) -> Leg
+fn repo_payments(settled: bool, sign: Option<Direction>, t: RepoTrade) -> Leg
     requires { RepoLimits t }
     ensures { result ≡ capped_leg (counted_leg settled t.valueday1 t.valueday2 (signed_leg sign (payments_of t.security))) }
 {
-    let security = t.security;
-    let all_behind = t.valueday2 < first_payment_of(security);
+    let all_behind = t.valueday2 < first_payment_of(t.security);
     if !settled & all_behind {
         return simple_legs::no_leg();
     }
-    let payments = payment_leg(sign, security);
+    let payments = payment_leg(sign, t.security);
     window::counted_leg(settled, t.valueday1, t.valueday2, payments)
 }
 
-fn repo_legs(settled: bool, s: Signs, t: RepoTrade) -> Legs
-    requires { RepoLimits t }
-    ensures { result ≡ capped_legs (counted_repo settled t (repo_legs s t)) }
+// The legs of a pool repo, of kind 2, or of a specified repo, of kind 3.
+#[tactic(auto, unfolding(crate::specs::Legs::repo_legs))]
+fn repo_legs(kind: u64, t: RepoTrade) -> Legs
+    requires { RepoLimits t × (2 ≤ kind) × (kind ≤ 3) }
+    ensures { result ≡ capped_legs (counted_repo (has_settled kind t.phase) t (repo_legs (signs_of kind t.phase t.side) t)) }
 {
+    let s = signs::signs_of(kind, t.phase, t.side);
+    let settled = rules::has_settled(kind, t.phase);
     let back = amounts::second_leg_cash(t.cash, t.rate, t.term);
     Legs {
         first: cash_leg(s.first, t.cashcurve, t.valueday1, t.cash),
@@ -173,16 +169,8 @@ pub fn capped_legs(t: Trade) -> Legs
     ensures { result ≡ capped_legs (counted_legs t) }
 {
     match t {
-        Trade::Outright(o) => outright_legs(signs::signs_of(1, 0, o.side), o),
-        Trade::Pool(r) => repo_legs(
-            rules::has_settled(2, r.phase),
-            signs::signs_of(2, r.phase, r.side),
-            r,
-        ),
-        Trade::Specified(r) => repo_legs(
-            rules::has_settled(3, r.phase),
-            signs::signs_of(3, r.phase, r.side),
-            r,
-        ),
+        Trade::Outright(o) => outright_legs(o),
+        Trade::Pool(r) => repo_legs(2, r),
+        Trade::Specified(r) => repo_legs(3, r),
     }
 }

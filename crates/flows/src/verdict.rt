@@ -2,36 +2,24 @@
 ghost use Rattle.std.specs.Prelude.{◌≡◌};
 ghost use Rattle.flows.specs.Verdict.{record_verdict};
 
-use crate::walk;
-use ground::{Ground, Verdict};
-use record::{Curves, Fields, rules};
+use crate::walk::breaks_flow_limit;
+use ground::{Ground, Refusal, refuse_if};
+use record::rules::{breaks_amounts, breaks_currency, breaks_days, breaks_form};
+use record::{Curves, Fields};
+use trade::read::trade_of;
 
 // The amounts of 12 are worked out only where the other rules have said that they do not overflow.
-pub fn record_verdict(curves: Curves, f: Fields, block: u64) -> Verdict
+#[tactic(auto, unfolding(crate::specs::Verdict::record_verdict))]
+pub fn record_verdict(curves: Curves, f: Fields, block: u64) -> Result<(), Refusal>
     ensures { result ≡ record_verdict curves f block }
 {
-    let form = f.form;
-    let days = f.days;
-    let amounts = f.amounts;
-    let v = Verdict::Accepted
-        .or_if(rules::breaks_form(curves, form), Ground::Form, block)
-        .or_if(rules::breaks_days(form, days), Ground::Days, block)
-        .or_if(
-            rules::breaks_amounts(form, days, amounts),
-            Ground::Amounts,
-            block,
-        )
-        .or_if(
-            rules::breaks_currency(curves, form),
-            Ground::Currency,
-            block,
-        );
-    if !v.is_accepted() {
-        return v;
-    }
-    v.or_if(
-        walk::breaks_flow_limit(trade::read::trade_of(f)),
-        Ground::FlowLimit,
+    refuse_if(breaks_form(curves, f.form), Ground::Form, block)?;
+    refuse_if(breaks_days(f.form, f.days), Ground::Days, block)?;
+    refuse_if(
+        breaks_amounts(f.form, f.days, f.amounts),
+        Ground::Amounts,
         block,
-    )
+    )?;
+    refuse_if(breaks_currency(curves, f.form), Ground::Currency, block)?;
+    refuse_if(breaks_flow_limit(trade_of(f)), Ground::FlowLimit, block)
 }

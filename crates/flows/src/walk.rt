@@ -23,10 +23,7 @@ pub fn breaks_flow_limit(t: Trade) -> bool
     ensures { result ≡ breaks_flow_limit t }
 {
     let l = trade_legs::capped_legs(t);
-    let first = l.first;
-    let second = l.second;
-    let payments = l.payments;
-    leg_above(first) | leg_above(second) | leg_above(payments)
+    leg_above(l.first) | leg_above(l.second) | leg_above(l.payments)
 }
 
 // The legs of a trade that the rules accept: what its flows are read from.

@@ -1,77 +1,61 @@
-// The grounds on which a call is refused, the verdict, and a limit that several crates share.
+// The grounds on which a call is refused, a refusal, and a limit that several crates share.
 #![tactic(auto)]
 
 ghost use Rattle.std.specs.Prelude.{◌≡◌};
 ghost use Rattle.ground.specs.Number.{number_of};
 ghost use Rattle.ground.specs.Space.{breaks_space};
-ghost use Rattle.ground.specs.declared.Verdict.TheVariants.{Accepted};
-ghost use Rattle.ground.specs.Verdicts.{or_else, unless, is_accepted};
+ghost use Rattle.ground.specs.Verdicts.{unless};
 
 // The last day of a field or flow.
 pub const LAST_DAY: u64 = 10_950;
 
-// A case for each rule of documents 01 and 02.
-#[derive(Clone, Copy)]
+// A case for each rule of documents 01 and 02, with its number in them.
+#[derive(Clone, Copy, Debug, PartialEq, Eq)]
 pub enum Ground {
-    Length,
-    Check,
-    Place,
-    Header,
-    Curve,
-    Node,
-    TradeBlock,
-    Form,
-    Days,
-    Amounts,
-    Currency,
-    FlowLimit,
-    ReportSpace,
-    Position,
-    BookSpace,
-    ValueRange,
-    CurveEnd,
-    RateRange,
-    ValuationDay,
+    Length = 1,
+    Check = 2,
+    Place = 3,
+    Header = 4,
+    Curve = 5,
+    Node = 6,
+    TradeBlock = 7,
+    Form = 8,
+    Days = 9,
+    Amounts = 10,
+    Currency = 11,
+    FlowLimit = 12,
+    ReportSpace = 13,
+    Position = 14,
+    BookSpace = 15,
+    ValueRange = 16,
+    CurveEnd = 17,
+    RateRange = 18,
+    ValuationDay = 19,
 }
 
-// The answer of a check: nothing found, or the first ground that applies and the block that it was found in.
-#[derive(Clone, Copy)]
-pub enum Verdict {
-    Accepted,
-    Refused(Ground, u64),
-}
+impl From<Ground> for u64 {
+    ghost from_gives = { λ g n. n ≡ number_of g };
 
-// The answer of a call that writes and gives a length: that of what it wrote, or the ground by which nothing was, and the block.
-#[derive(Clone, Copy)]
-pub enum Written {
-    Length(usize),
-    Refused(Ground, u64),
-}
-
-impl Verdict {
-    pub fn is_accepted(self) -> bool
-        ensures { result ≡ is_accepted self }
-    {
-        match self {
-            Verdict::Accepted => true,
-            Verdict::Refused(_, _) => false,
-        }
+    fn from(g: Ground) -> u64 {
+        g as u64
     }
+}
 
-    // This verdict; where it finds nothing, refused by a further rule that is broken.
-    pub fn or_if(self, broken: bool, ground: Ground, block: u64) -> Verdict
-        ensures { result ≡ or_else self (unless broken ground block Accepted) }
-    {
-        match self {
-            Verdict::Refused(g, k) => Verdict::Refused(g, k),
-            Verdict::Accepted => {
-                if broken {
-                    return Verdict::Refused(ground, block);
-                }
-                Verdict::Accepted
-            }
-        }
+// Why a call is refused: the first ground that applies, and the block that it was found in.
+#[derive(Clone, Copy, Debug, PartialEq, Eq)]
+pub struct Refusal {
+    pub by: Ground,
+    pub block: u64,
+}
+
+// Refused where a rule is broken.
+pub fn refuse_if(broken: bool, by: Ground, block: u64) -> Result<(), Refusal>
+    ensures { result ≡ unless broken by block (Ok tt) }
+{
+    if broken {
+        return Err(Refusal { by, block });
     }
+    Ok(())
 }
 
 // Ground 13, of a space for so many bytes.
@@ -79,31 +63,4 @@ pub fn breaks_space(needed: usize, space: usize) -> bool
     ensures { result ≡ breaks_space needed space }
 {
     space < needed
-}
-
-// The ground's number in documents 01 and 02.
-pub fn number(g: Ground) -> u64
-    ensures { result ≡ number_of g }
-{
-    match g {
-        Ground::Length => 1,
-        Ground::Check => 2,
-        Ground::Place => 3,
-        Ground::Header => 4,
-        Ground::Curve => 5,
-        Ground::Node => 6,
-        Ground::TradeBlock => 7,
-        Ground::Form => 8,
-        Ground::Days => 9,
-        Ground::Amounts => 10,
-        Ground::Currency => 11,
-        Ground::FlowLimit => 12,
-        Ground::ReportSpace => 13,
-        Ground::Position => 14,
-        Ground::BookSpace => 15,
-        Ground::ValueRange => 16,
-        Ground::CurveEnd => 17,
-        Ground::RateRange => 18,
-        Ground::ValuationDay => 19,
-    }
 }

@@ -1,64 +1,64 @@
 -- A loop over the flows of a ladder: what it holds is what the flows passed make of what it began with, and has room for the flows that are left.
 -- Net amounts, totals and deviations are all held so.
-use mathlib.Core.Path.{◌≡◌, refl, sym, ◌∙◌}
+use mathlib.Core.Path.{◌≡◌, refl, sym, ap, ◌∙◌}
 use mathlib.Core.List.{List, [], ◌∷◌, foldl}
 use Prim.Native.Nat.{ℕ, suc, ◌+◌, ◌*◌, ◌≤◌, ◌<◌}
 use native.Mathlib.Nat.{suc-mul, mul-le-mul_right}
+use native.Mathlib.Numerals.{add-one}
 use native.Mathlib.Omega.{arith}
 use lib.ListN.{length}
 use Rattle.discount.specs.declared.Flow.{Flow}
 use Rattle.discount.specs.Flows.{sum}
-use Rattle.ladder.specs.declared.payments.Rung.{Rung}
+use Rattle.legs.specs.declared.Leg.{Leg}
 use Rattle.legs.specs.Runs.{flow_of}
 use Rattle.legs.specs.Limits.{LegLimits}
-use Rattle.ladder.specs.Ladder.{payments, leg_at, ladder_flows, LadderLimits, RungLimits, next_rung}
+use Rattle.ladder.specs.Ladder.{payments, leg_at, ladder_flows, LadderLimits}
 use Rattle.ladder.specs.Totals.{FlowLimits, AllFlowLimits, most_flows, RoomFor}
-use Rattle.ladder.proofs.LadderFlows.{payment-limits, flows_from, flows-all, flows-end, flows-next, next-within}
+use Rattle.ladder.proofs.LadderFlows.{payment-limits, flows_from, flows-all, flows-end, flows-next, flows-turn}
 
 -- ---- the fold over a ladder's flows by a step; Room is the room for so many flows more
 
 module _ {A : Type 0} (step : A → Flow → A) (Room : ℕ → A → Type 0) (curve : ℕ) (ladder : List ℕ) (schedules : ℕ) where
-  -- with the flows before a rung in a, those from it on are left
-  pub record Folded (a₀ a : A) (r : Rung) : Type 0 where
-    pub fold : foldl step a₀ (ladder_flows curve ladder schedules) ≡ foldl step a (flows_from curve ladder schedules r)
-    pub room : Room (length (flows_from curve ladder schedules r)) a
-    pub within : r.schedule < schedules → r.payment < payments ladder r.schedule
+  -- with the flows before payment k of schedule i in a, those from it on are left
+  pub record Folded (a₀ a : A) (i k : ℕ) : Type 0 where
+    pub fold : foldl step a₀ (ladder_flows curve ladder schedules) ≡ foldl step a (flows_from curve ladder schedules i k)
+    pub room : Room (length (flows_from curve ladder schedules i k)) a
 
-  pub folded-none : LadderLimits curve ladder schedules → (a : A) → Room (length (ladder_flows curve ladder schedules)) a → Folded a a (record { schedule = 0; payment = 0 })
-  folded-none h a k =
-      record {
-        fold = rw (flows-all curve ladder schedules) refl;
-        room = rw (flows-all curve ladder schedules) k;
-        within = λ l. (h.each 0 l).some;
-      }
+  pub folded-none : (a : A) → Room (length (ladder_flows curve ladder schedules)) a → Folded a a 0 0
+  folded-none a k = record { fold = rw (flows-all curve ladder schedules) refl; room = rw (flows-all curve ladder schedules) k }
 
-module _ {A : Type 0} {step : A → Flow → A} {Room : ℕ → A → Type 0} {curve : ℕ} {ladder : List ℕ} {schedules : ℕ} {a₀ a : A} {r : Rung} (w : Folded step Room curve ladder schedules a₀ a r) where
-  pub folded-all : schedules ≤ r.schedule → a ≡ foldl step a₀ (ladder_flows curve ladder schedules)
-  folded-all l = sym (rw (flows-end curve ladder schedules r l) at w.fold)
+-- the leg of schedule i
+module _ {curve : ℕ} {ladder : List ℕ} {schedules i : ℕ} {leg : Leg} (h : LadderLimits curve ladder schedules) (l : i < schedules) (same : leg ≡ leg_at curve ladder i) where
+  pub leg-limits : LegLimits leg
+  leg-limits = rw same (h.each i l).days
 
-  module _ (h : LadderLimits curve ladder schedules) (l : r.schedule < schedules) where
-    pub rung-limits : RungLimits ladder r × LegLimits (leg_at curve ladder r.schedule)
-    rung-limits = let days = (h.each r.schedule l).days in (record { places = omega (arith, h.places); few = days.few; within = w.within l }, days)
+  count-same : leg.count ≡ payments ladder i
+  count-same = ap (λ (x : Leg). x.count) same
 
-    pub rung-room : Room (suc (length (flows_from curve ladder schedules (next_rung ladder r)))) a
-    rung-room = rw (flows-next curve ladder schedules r l (w.within l)) at w.room
+  next : {k : ℕ} → k < leg.count → flows_from curve ladder schedules i k ≡ flow_of (leg_at curve ladder i) k ∷ flows_from curve ladder schedules i (suc k)
+  next {k} m = flows-next curve ladder schedules i l k (omega (arith, count-same))
 
-    -- a turn: the rung's flow f, the next rung, and the room that is left there
-    pub flow-limits : {f : Flow} → f ≡ flow_of (leg_at curve ladder r.schedule) r.payment → FlowLimits f
-    flow-limits e = rw e (payment-limits (leg_at curve ladder r.schedule) r.payment (h.each r.schedule l) (w.within l))
+  pub flow-limits : {k : ℕ} {f : Flow} → k < leg.count → f ≡ flow_of leg k → FlowLimits f
+  flow-limits {k} m e = rw (e, same) (payment-limits (leg_at curve ladder i) k (h.each i l) (omega (arith, count-same)))
 
-    pub fewer-left : {next : Rung} → next ≡ next_rung ladder r → length (flows_from curve ladder schedules next) < length (flows_from curve ladder schedules r)
-    fewer-left e = rw (e, flows-next curve ladder schedules r l (w.within l)) (omega arith)
+  module _ {A : Type 0} {step : A → Flow → A} {Room : ℕ → A → Type 0} {a₀ a : A} {k : ℕ} (w : Folded step Room curve ladder schedules a₀ a i k) where
+    -- behind its last payment comes the next leg
+    pub folded-turn : k ≤ leg.count → leg.count ≤ k → Folded step Room curve ladder schedules a₀ a (i + 1) 0
+    folded-turn few all =
+        let e : k ≡ payments ladder i = omega (arith, count-same) in
+        let turned : flows_from curve ladder schedules i k ≡ flows_from curve ladder schedules (i + 1) 0 = rw e (flows-turn curve ladder schedules i l) in
+        record { fold = rw turned at w.fold; room = rw turned at w.room }
 
-    pub folded-next : {Left : ℕ → A → Type 0} {f : Flow} {next : Rung} → f ≡ flow_of (leg_at curve ladder r.schedule) r.payment → next ≡ next_rung ladder r
-        → ((n : ℕ) → Room (suc n) a → Left n (step a f)) → Folded step Left curve ladder schedules a₀ (step a f) next
-    folded-next {Left} {f} {next} e g more =
-        rw g
-        (record {
-          fold = w.fold ∙ (rw (flows-next curve ladder schedules r l (w.within l), e) refl);
-          room = more _ rung-room;
-          within = next-within curve ladder schedules h r (w.within l);
-        })
+    module _ (m : k < leg.count) where
+      pub room-here : Room (suc (length (flows_from curve ladder schedules i (suc k)))) a
+      room-here = rw (next m) at w.room
+
+      -- a turn: the flow f of payment k, and the room that is left behind it
+      pub folded-next : {f : Flow} {b : A} {Left : ℕ → A → Type 0} → f ≡ flow_of leg k → b ≡ step a f → ((n : ℕ) → Room (suc n) a → Left n b) → Folded step Left curve ladder schedules a₀ b i (k + 1)
+      folded-next e q more = rw add-one (record { fold = w.fold ∙ (rw (next m, q, e, same) refl); room = more _ room-here })
+
+pub folded-all : {A : Type 0} {step : A → Flow → A} {Room : ℕ → A → Type 0} {curve : ℕ} {ladder : List ℕ} {schedules i : ℕ} {a₀ a : A} → Folded step Room curve ladder schedules a₀ a i 0 → schedules ≤ i → a ≡ foldl step a₀ (ladder_flows curve ladder schedules)
+folded-all {curve = curve} {ladder = ladder} {schedules = schedules} {i = i} w l = sym (rw (flows-end curve ladder schedules i l) at w.fold)
 
 -- ---- the fold that adds
 

@@ -1,6 +1,6 @@
 -- What is held while a ladder is valued: a total with a flow that may wait.
 use mathlib.Core.Path.{◌≡◌, refl}
-use mathlib.Core.Bool.{Bool, true, false, cond}
+use Rattle.std.specs.Prelude.{Option, Some, None}
 use mathlib.Core.List.{List}
 use Prim.Native.Nat.{ℕ, suc, ◌≤◌}
 use native.Mathlib.Nat.{le_trans}
@@ -17,21 +17,21 @@ use Rattle.curve.specs.Rates.{rate_at}
 use Rattle.ladder.specs.declared.total.Total.{Total}
 use Rattle.ladder.specs.declared.valuing.Valuing.{Valuing}
 use Rattle.ladder.specs.Totals.{plus_flow, no_flows, FlowLimits, most_flows, TotalRoom}
-use Rattle.ladder.specs.Held.{held, ValuingLimits, WithFlow}
+use Rattle.ladder.specs.Held.{with_waiting, ValuingLimits, WithFlow}
 use Rattle.ladder.proofs.KeptFactors.{value-of-factor}
 use Rattle.ladder.proofs.Totals.{plus_flow-turned, total-none, total-less, total-next}
 
 -- ---- the limits of what is held
 
-pub limits-none : {n : ℕ} {f : Flow} → n ≤ most_flows → FlowLimits f → ValuingLimits n (record { total = no_flows; waits = false; flow = f })
-limits-none h s = record { room = total-none (omega arith); flow = s }
+pub limits-none : {n : ℕ} → n ≤ most_flows → ValuingLimits n (record { total = no_flows; waiting = None })
+limits-none h = record { room = total-none (omega arith); flow = tt }
 
 pub limits-less : {m n : ℕ} {v : Valuing} → m ≤ n → ValuingLimits n v → ValuingLimits m v
 limits-less l h = record { room = total-less (omega arith) h.room; flow = h.flow }
 
 -- room for the flow that waits
-pub waiting-room : {n : ℕ} (v : Valuing) → v.waits ≡ true → ValuingLimits n v → TotalRoom (suc n) v.total
-waiting-room v w h = total-less (omega arith) (rw w at h.room)
+pub waiting-limits : {n : ℕ} {v : Valuing} {f : Flow} → v.waiting ≡ Some f → ValuingLimits n v → TotalRoom (suc n) v.total × FlowLimits f
+waiting-limits {n} w h = (total-less (omega arith) (rw w at h.room), rw w at h.flow)
 
 module _ (nodes : List Node) where
   -- ---- a flow's value: by its rate, by its factor, and how much it can be
@@ -49,54 +49,38 @@ module _ (nodes : List Node) where
   unfolding present_value
   value-most f s = le_trans (discounted-le f.amount _ (factor-le (rate_at nodes f.day) f.day)) s.amount
 
-  -- ---- what is held
-
-  pub held-waiting : (v : Valuing) {value : ℕ} {t : Total} → v.waits ≡ true → value ≡ worth v.flow
-      → t ≡ plus_flow v.total v.flow value → t ≡ held nodes v
-  unfolding held
-  held-waiting v w e q = rw (q, e, w) refl
-
-  pub held-total : (v : Valuing) → v.waits ≡ false → v.total ≡ held nodes v
-  unfolding held
-  held-total v w = rw w refl
-
   -- ---- a flow more
 
   module _ (v : Valuing) (f : Flow) (s : FlowLimits f) where
     -- of a known value: it is added, and what waits still waits
     pub with-known : {value : ℕ} {t : Total} → value ≡ worth f → t ≡ plus_flow v.total f value
-        → WithFlow nodes v f (record { total = t; waits = v.waits; flow = v.flow })
-    unfolding held
+        → WithFlow nodes v f (record { total = t; waiting = v.waiting })
+    unfolding with_waiting
     with-known e q =
         rw (q, e)
         (record {
-          held = go v.waits;
+          held = go v.waiting;
           limits = λ n h. record { room = total-next (value-most f s) s (total-less (omega arith) h.room); flow = h.flow };
         })
       where
-        go : (w : Bool) → cond w (plus_flow (plus_flow v.total f (worth f)) v.flow (worth v.flow)) (plus_flow v.total f (worth f))
-            ≡ plus_flow (cond w (plus_flow v.total v.flow (worth v.flow)) v.total) f (worth f)
-        go true = plus_flow-turned v.total f v.flow _ _
-        go false = refl
+        go : (w : Option Flow) → with_waiting nodes (plus_flow v.total f (worth f)) w ≡ plus_flow (with_waiting nodes v.total w) f (worth f)
+        go (Some g) = plus_flow-turned v.total f g _ _
+        go None = refl
 
     -- with the one that waits
-    pub with-waiting : {t : Total} → v.waits ≡ true
-        → t ≡ plus_flow (plus_flow v.total v.flow (worth v.flow)) f (worth f)
-        → WithFlow nodes v f (record { total = t; waits = false; flow = f })
-    unfolding held
-    with-waiting w q =
+    pub with-both : {g : Flow} {t : Total} → v.waiting ≡ Some g → t ≡ plus_flow (plus_flow v.total g (worth g)) f (worth f)
+        → WithFlow nodes v f (record { total = t; waiting = None })
+    unfolding with_waiting
+    with-both {g} w q =
         record {
-          held = rw (q, w) refl;
+          held = rw (w, q) refl;
           limits = λ n h.
-              let one = total-next (value-most v.flow h.flow) h.flow (waiting-room v w h) in
-              record { room = rw q (total-less (omega arith) (total-next (value-most f s) s one)); flow = s };
+              let g-limits = waiting-limits {n = suc n} {v = v} {f = g} w h in
+              let one = total-next (value-most g g-limits.1) g-limits.1 g-limits.0 in
+              record { room = rw q (total-less {n = n} (omega arith) (total-next (value-most f s) s one)); flow = tt };
         }
 
     -- it waits
-    pub waiting : v.waits ≡ false → WithFlow nodes v f (record { total = v.total; waits = true; flow = f })
-    unfolding held
-    waiting w =
-        record {
-          held = rw w refl;
-          limits = λ n h. record { room = total-less (omega arith) (rw w at h.room); flow = s };
-        }
+    pub with-waiting : v.waiting ≡ None → WithFlow nodes v f (record { total = v.total; waiting = Some f })
+    unfolding with_waiting
+    with-waiting w = record { held = rw w refl; limits = λ n h. record { room = total-less (omega arith) (rw w at h.room); flow = s } }

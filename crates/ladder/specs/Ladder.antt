@@ -1,6 +1,6 @@
 -- The cash flow ladder of a curve as the engine keeps it: legs, as schedules of six numbers each, so that the amounts of a trade's flows are worked
 -- out once and not once a scenario.
-use Rattle.std.specs.Prelude.{cond, not, ℕ, suc, ◌+◌, ◌*◌, ◌≤◌, ◌<◌, eqb, length, get_or}
+use Rattle.std.specs.Prelude.{cond, not, ℕ, ◌*◌, ◌+◌, ◌≤◌, ◌<◌, eqb, length, get_or}
 use mathlib.Core.List.{List, [], ◌∷◌, flat_map}
 use Rattle.laws.specs.Walk.{table}
 use Rattle.decimal.specs.Product.{unit}
@@ -8,7 +8,6 @@ use Rattle.discount.specs.declared.Flow.{Flow}
 use Rattle.legs.specs.declared.Leg.{Leg}
 use Rattle.legs.specs.Runs.{leg_flows}
 use Rattle.legs.specs.Limits.{LegLimits}
-use Rattle.ladder.specs.declared.payments.Rung.{Rung}
 use Rattle.ladder.specs.Totals.{most_flows}
 
 -- the six numbers of a leg
@@ -48,19 +47,3 @@ pub record LadderLimits (curve : ℕ) (ladder : List ℕ) (schedules : ℕ) : Ty
   pub places : schedules * 6 ≤ length ladder
   pub each : (i : ℕ) → i < schedules → ScheduleLimits (leg_at curve ladder i)
   pub few : length (ladder_flows curve ladder schedules) ≤ most_flows
-
--- ---- a ladder walked payment by payment
-
--- a rung that has a payment
-pub record RungLimits (ladder : List ℕ) (r : Rung) : Type 0 where
-  pub places : r.schedule * 6 + 6 ≤ length ladder
-  pub few : payments ladder r.schedule ≤ 120
-  pub within : r.payment < payments ladder r.schedule
-
--- the rung behind it: the next payment of its schedule, or the first of the next schedule
-unfoldable pub next_rung : List ℕ → Rung → Rung
-next_rung ladder r =
-    cond
-    (eqb (suc r.payment) (payments ladder r.schedule))
-    (record { schedule = suc r.schedule; payment = 0 })
-    (record { schedule = r.schedule; payment = suc r.payment })

@@ -6,7 +6,7 @@ ghost use Rattle.ground.specs.Limits.{day_count};
 ghost use Rattle.ladder.specs.Ladder.{ladder_flows, LadderLimits};
 ghost use Rattle.ladder.specs.Netted.{NetsRoom};
 
-use super::payments::{Rung, payment};
+use super::payments::{leg_at, payment};
 use netting::net::net_with;
 use netting::value::deviation;
 
@@ -15,15 +15,13 @@ pub fn net_days(curve: u64, ladder: &[u64], schedules: usize, nets: &mut [i64])
     requires { LadderLimits curve ladder.now schedules × (length nets.old ≡ day_count) × NetsRoom (length (ladder_flows curve ladder.now schedules)) nets.old }
     ensures { nets.new ≡ netted (ladder_flows curve ladder.now schedules) nets.old }
 {
-    let mut rung = Rung {
-        schedule: 0,
-        payment: 0,
-    };
-    while rung.schedule < schedules {
-        let f = payment(curve, ladder, rung);
-        let day = f.day as usize;
-        nets[day] = net_with(nets[day], f);
-        rung = rung.next(ladder);
+    for i in 0..schedules {
+        let leg = leg_at(curve, ladder, i);
+        for k in 0..leg.count {
+            let f = payment(leg, k);
+            let day = f.day as usize;
+            nets[day] = net_with(nets[day], f);
+        }
     }
 }
 
@@ -32,15 +30,13 @@ pub fn deviation_of(curve: u64, ladder: &[u64], schedules: usize) -> u64
     requires { LadderLimits curve ladder.now schedules }
     ensures { result ≡ sum flow_deviation (ladder_flows curve ladder.now schedules) }
 {
-    let mut off: u64 = 0;
-    let mut rung = Rung {
-        schedule: 0,
-        payment: 0,
-    };
-    while rung.schedule < schedules {
-        let f = payment(curve, ladder, rung);
-        off += deviation(f.amount, f.day);
-        rung = rung.next(ladder);
+    let mut off = 0;
+    for i in 0..schedules {
+        let leg = leg_at(curve, ladder, i);
+        for k in 0..leg.count {
+            let f = payment(leg, k);
+            off += deviation(f.amount, f.day);
+        }
     }
     off
 }

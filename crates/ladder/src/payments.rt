@@ -1,59 +1,38 @@
-// The payments of a cash flow ladder, one after the other.
-ghost use Rattle.std.specs.Prelude.{◌≡◌};
+// The payments of a cash flow ladder, one after the other: its schedules as legs, and the payments of a leg.
+ghost use Rattle.std.specs.Prelude.{◌≡◌, ◌+◌, ◌*◌, ◌≤◌, ◌<◌, length};
 ghost use Rattle.legs.specs.Limits.{LegLimits};
 ghost use Rattle.legs.specs.Runs.{flow_of};
-ghost use Rattle.ladder.specs.Ladder.{leg_at, RungLimits, next_rung};
+ghost use Rattle.ladder.specs.Ladder.{leg_at};
 
 use discount::Flow;
+use legs::Leg;
 
-// A payment's place in a ladder: its schedule, and which of its payments it is.
-#[derive(Clone, Copy)]
-pub struct Rung {
-    pub schedule: usize,
-    pub payment: u64,
-}
-
-impl Rung {
-    // The next payment's.
-    pub fn next(self, ladder: &[u64]) -> Rung
-        requires { RungLimits ladder.now self }
-        ensures { result ≡ next_rung ladder.now self }
-    {
-        let at = self.schedule * 6 + 2;
-        let payment = self.payment + 1;
-        if payment == ladder[at] {
-            return Rung {
-                schedule: self.schedule + 1,
-                payment: 0,
-            };
-        }
-        Rung {
-            schedule: self.schedule,
-            payment: payment,
-        }
-    }
-}
-
-// The payment of a rung, on a curve.
-pub fn payment(curve: u64, ladder: &[u64], rung: Rung) -> Flow
-    requires { RungLimits ladder.now rung × LegLimits (leg_at curve ladder.now rung.schedule) }
-    ensures { result ≡ flow_of (leg_at curve ladder.now rung.schedule) rung.payment }
+// Schedule i as a leg on a curve. A schedule is six numbers and no struct, since `LadderLimits`, which every crate above asks for, says so.
+pub fn leg_at(curve: u64, ladder: &[u64], i: usize) -> Leg
+    requires { i * 6 + 6 ≤ length ladder.now }
+    ensures { result ≡ leg_at curve ladder.now i }
 {
-    let at = rung.schedule * 6;
-    let day = ladder[at] + rung.payment * ladder[at + 1];
-    let received = ladder[at + 5] != 0;
-    if rung.payment + 1 == ladder[at + 2] {
-        return Flow {
-            curve: curve,
-            day: day,
-            received: received,
-            amount: ladder[at + 4],
-        };
+    let at = i * 6;
+    Leg {
+        curve,
+        received: ladder[at + 5] != 0,
+        first: ladder[at],
+        period: ladder[at + 1],
+        count: ladder[at + 2],
+        each: ladder[at + 3],
+        last: ladder[at + 4],
     }
+}
+
+// Payment k of a leg.
+pub fn payment(l: Leg, k: u64) -> Flow
+    requires { LegLimits l × (k < l.count) }
+    ensures { result ≡ flow_of l k }
+{
     Flow {
-        curve: curve,
-        day: day,
-        received: received,
-        amount: ladder[at + 3],
+        curve: l.curve,
+        day: l.first + k * l.period,
+        received: l.received,
+        amount: if k + 1 == l.count { l.last } else { l.each },
     }
 }

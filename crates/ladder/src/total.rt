@@ -20,16 +20,13 @@ impl Total {
         ensures { result ≡ plus_flow self f value }
     {
         let worth = value as i64;
-        let off = self.tolerance + tolerance(f.amount, f.day);
-        if f.received {
-            return Total {
-                sum: self.sum + worth,
-                tolerance: off,
-            };
-        }
         Total {
-            sum: self.sum - worth,
-            tolerance: off,
+            sum: if f.received {
+                self.sum + worth
+            } else {
+                self.sum - worth
+            },
+            tolerance: self.tolerance + tolerance(f.amount, f.day),
         }
     }
 }

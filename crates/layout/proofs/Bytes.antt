@@ -1,8 +1,11 @@
 -- The laws of `put`, `part`, `on_block` and `zeros`: what is written is read back, and what lies apart stays.
-use Rattle.std.proofs.Common.{◌≡◌, ℕ, zero, suc, ◌+◌, ◌-◌, ◌<◌, ◌≤◌, true, eqb, ◌⊎◌, List, [], ◌∷◌, ◌++◌, length, take, drop, set, replicate, sym, refl, ap, ◌∙◌, inl, inr, append_assoc, add-zero, zero-add, arith, length-drop, length-set, take-append-drop, length-take, get_or-drop, get_or-set_other, get_or-take, get_or-set_same, drop-drop, take_at, ext_get_or, take-add, eq-eqb, eqb-true}
+use Rattle.std.proofs.Common.{◌≡◌, ℕ, zero, suc, ◌+◌, ◌-◌, ◌<◌, ◌≤◌, Bool, true, ◌&&◌, eqb, ◌⊎◌, List, [], ◌∷◌, ◌++◌, length, take, drop, set, replicate, sym, refl, ap, ◌∙◌, inl, inr, append_assoc, add-zero, zero-add, arith, length-drop, length-set, take-append-drop, length-take, get_or-drop, get_or-set_other, get_or-take, get_or-set_same, drop-drop, take_at, ext_get_or, take-add, drop-cons, eq-eqb, eqb-true}
 use native.Mathlib.Decide.{dec_lt}
 use lib.ListN.{length-replicate, get_or-replicate, get_or-eq_default}
 use lib.Seq.{set_comm, drop-append-add, take-length, sets, sets-eq}
+use Rattle.std.specs.List.{list_all}
+use Rattle.laws.specs.Walk.{over}
+use Rattle.laws.specs.Every.{every}
 use Rattle.laws.proofs.Every.{every-at, every_of}
 use Rattle.layout.specs.Bytes.{byte_at, part, put, on_block, zeros, AreBytes}
 
@@ -15,10 +18,6 @@ put-none s at = refl
 pub put_byte : (s : List ℕ) (at b : ℕ) → put s at (b ∷ []) ≡ set s at b
 unfolding put
 put_byte s at b = refl
-
-pub put-cons : (s : List ℕ) (at b : ℕ) (bs : List ℕ) → put s at (b ∷ bs) ≡ put (set s at b) (suc at) bs
-unfolding put
-put-cons s at b bs = refl
 
 pub length-put : (s : List ℕ) (at : ℕ) (bs : List ℕ) → length (put s at bs) ≡ length s
 unfolding put
@@ -217,6 +216,18 @@ module _ (f : List ℕ → List ℕ) (s : List ℕ) (at : ℕ) where
   on_block-lent h e = put-lent s at 512 (f (part s at 512)) h e
 
 -- ---- zeros
+
+-- a test of each element of a part is the test of each byte from the first on
+list-every : (p : ℕ → Bool) (s : List ℕ) (at n : ℕ) → at + n ≤ length s → list_all p (part s at n) ≡ every (λ (k : ℕ). p (byte_at s k)) at n
+unfolding every over
+list-every p s at zero h = refl
+list-every p s at (suc n) h =
+    let l : at < length s = omega arith in
+    rw (drop-cons s at 0) (ap (λ (rest : Bool). p (byte_at s at) && rest) (list-every p s (suc at) n (omega arith)))
+
+pub zeros-all : (s : List ℕ) (from to : ℕ) → from ≤ to → to ≤ length s → list_all (λ (b : ℕ). eqb b 0) (part s from (to - from)) ≡ zeros s from to
+unfolding zeros
+zeros-all s from to h l = list-every (λ (b : ℕ). eqb b 0) s from (to - from) (omega arith)
 
 pub zeros-at : (s : List ℕ) (from to : ℕ) → zeros s from to ≡ true → (k : ℕ) → from ≤ k → k < to → byte_at s k ≡ 0
 unfolding zeros

@@ -2,38 +2,41 @@
 ghost use Rattle.std.specs.Prelude.{◌≡◌, length};
 ghost use Rattle.layout.specs.Check.{check_of, sealed, breaks_check, breaks_place};
 
-use crate::{put_le, u16_at, u32_at, wide};
+use crate::{put_le, u16_at, wide, word_at};
 
+#[tactic(auto, unfolding(crate::specs::Check::words))]
 pub fn check_of(b: &[u8]) -> u32
     requires { length b.now ≡ 512 }
     ensures { result ≡ check_of b.now }
 {
     let mut sum: u32 = 1;
     for i in 0..127 {
-        sum = std::num::wrapping_add_u32(sum, u32_at(b, i * 4) as u32);
+        sum = sum.wrapping_add(word_at(b, i * 4));
     }
     sum
 }
 
 // Ground 2: the block's last word is not its check.
+#[tactic(auto, unfolding(crate::specs::Check::breaks_check))]
 pub fn breaks_check(b: &[u8]) -> bool
     requires { length b.now ≡ 512 }
     ensures { result ≡ breaks_check b.now }
 {
-    let sum = check_of(b) as u64;
-    !(u32_at(b, 508) == sum)
+    word_at(b, 508) != check_of(b)
 }
 
 // Writes the check into the block's last word.
+#[tactic(auto, unfolding(crate::specs::Check::sealed))]
 pub fn seal(b: &mut [u8])
     requires { length b.old ≡ 512 }
     ensures { b.new ≡ sealed b.old }
 {
-    let sum = check_of(&b[..]) as u64;
-    put_le(b, 508, 4, sum);
+    let sum = check_of(b);
+    put_le(b, 508, 4, u64::from(sum));
 }
 
 // Ground 3: the kind or the number is not the one that the place calls for.
+#[tactic(auto, unfolding(crate::specs::Check::breaks_place))]
 pub fn breaks_place(b: &[u8], kind: u64, number: u64) -> bool
     requires { length b.now ≡ 512 }
     ensures { result ≡ breaks_place b.now kind number }

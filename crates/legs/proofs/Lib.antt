@@ -1,5 +1,4 @@
 mod Table
-pub mod Signed
 pub mod Numbered
 pub mod Counted
 pub mod Reach

@@ -1,11 +1,13 @@
 -- Legs that keep their limits: few flows, on days in reach.
 use mathlib.Core.Path.{◌≡◌, refl, ap, ◌∙◌}
 use mathlib.Core.Bool.{Bool, true, false, cond}
-use Prim.Native.Nat.{ℕ, zero, suc, ◌+◌, ◌-◌, ◌*◌, ◌≤◌, ◌<◌}
+use Prim.Native.Nat.{ℕ, ◌+◌, ◌-◌, ◌*◌, ◌≤◌, ◌<◌}
 use native.Mathlib.Nat.{add-mul, mul-le-mul_right}
 use native.Mathlib.Omega.{arith}
 use lib.Dec.{ltb}
-use lib.IntN.{ℤ, pos, negsuc}
+use Rattle.std.proofs.Common.{Option, Some, None}
+use Rattle.legs.specs.declared.signs.Direction.{Direction}
+use Rattle.legs.specs.declared.signs.Direction.TheVariants.{In, Out}
 use borrow.Author.Tests.{ltb-true}
 use Rattle.ground.specs.Limits.{last_day}
 use Rattle.legs.specs.declared.Leg.{Leg}
@@ -20,11 +22,11 @@ none-reach = record { few = omega arith; reach = omega arith }
 pub one-reach : (curve day amount : ℕ) → day ≤ last_day → LegLimits (one_flow curve day amount)
 one-reach curve day amount h = record { few = omega arith; reach = omega arith }
 
-pub signed-reach : (sign : ℤ) (l : Leg) → LegLimits l → LegLimits (signed_leg sign l)
+pub signed-reach : (sign : Option Direction) (l : Leg) → LegLimits l → LegLimits (signed_leg sign l)
 unfolding signed_leg
-signed-reach (pos zero) l h = none-reach
-signed-reach (pos (suc n)) l h = record { few = h.few; reach = h.reach }
-signed-reach (negsuc n) l h = record { few = h.few; reach = h.reach }
+signed-reach None l h = none-reach
+signed-reach (Some In) l h = record { few = h.few; reach = h.reach }
+signed-reach (Some Out) l h = record { few = h.few; reach = h.reach }
 
 -- ---- in a window of days
 

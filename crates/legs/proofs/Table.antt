@@ -1,77 +1,43 @@
--- The table of signs, and its rule, tested once over the whole table.
-use mathlib.Core.Path.{◌≡◌, refl, ap}
-use mathlib.Core.Bool.{Bool, true, false, ◌&&◌, false≢true}
-use mathlib.Core.List.{List, [], ◌∷◌}
-use Prim.Native.Nat.{ℕ, ◌+◌, ◌*◌, ◌/◌, ◌%◌, ◌<◌}
-use native.Mathlib.Omega.{arith}
-use lib.Dec.{eqb}
-use lib.ListN.{get_or}
-use lib.IntN.{ℤ, pos, negsuc}
-use borrow.Author.Tests.{eqb-true}
-use Rattle.laws.specs.Walk.{over}
-use Rattle.laws.specs.Every.{every}
-use Rattle.laws.proofs.Bools.{three}
-use Rattle.laws.proofs.Every.{every-at}
-use Rattle.laws.proofs.Signed.{read}
+-- The table of signs, and its rule.
+use Rattle.std.proofs.Common.{◌≡◌, ℕ, ◌+◌, ◌-◌, ◌≤◌, List, [], ◌∷◌, Option, None, get_or, arith, zero-add}
+use Rattle.laws.specs.Walk.{table}
+use Rattle.laws.proofs.Walk.{get_d-table}
+use Rattle.legs.specs.declared.signs.Direction.{Direction}
 use Rattle.legs.specs.declared.signs.Signs.{Signs}
 use Rattle.legs.specs.Signs.{signs_of}
 
--- in, out, none
-abbrev i : ℤ
-i = pos 1
+abbrev pub Row : Type 0
+Row = List (Option Direction)
 
-abbrev o : ℤ
-o = negsuc 0
+-- what the rule gives: a row for each side, phase and kind
+abbrev row : Signs → Row
+row s = s.first ∷ s.second ∷ s.payments ∷ []
 
-abbrev z : ℤ
-z = pos 0
+abbrev pub sides : ℕ → ℕ → List Row
+sides kind phase = table (λ side. row (signs_of kind phase side)) 1 2
 
-abbrev pub signs : List ℤ
-signs =
-    o ∷ z ∷ i ∷ i ∷ z ∷ o ∷
-    z ∷ z ∷ z ∷ z ∷ z ∷ z ∷
-    z ∷ z ∷ z ∷ z ∷ z ∷ z ∷
-    z ∷ z ∷ z ∷ z ∷ z ∷ z ∷
-    z ∷ z ∷ z ∷ z ∷ z ∷ z ∷
-    i ∷ o ∷ z ∷ o ∷ i ∷ z ∷
-    i ∷ o ∷ o ∷ o ∷ i ∷ i ∷
-    z ∷ o ∷ i ∷ z ∷ z ∷ z ∷
-    z ∷ z ∷ z ∷ z ∷ z ∷ z ∷
-    i ∷ o ∷ o ∷ o ∷ i ∷ i ∷
-    z ∷ o ∷ i ∷ z ∷ i ∷ o ∷
-    z ∷ z ∷ z ∷ z ∷ z ∷ z ∷ []
+abbrev pub phases : ℕ → List (List Row)
+phases kind = table (sides kind) 0 4
 
--- row n: the entries of a kind, phase and side, as they are read
-abbrev pub row : ℕ → Signs
-row n = record { first = read (get_or signs (n * 3) z); second = read (get_or signs (n * 3 + 1) z); payments = read (get_or signs (n * 3 + 2) z) }
+abbrev pub kinds : List (List (List Row))
+kinds = table phases 1 3
 
-same_z : ℤ → ℤ → Bool
-same_z (pos a) (pos b) = eqb a b
-same_z (pos a) (negsuc b) = false
-same_z (negsuc a) (pos b) = false
-same_z (negsuc a) (negsuc b) = eqb a b
+-- the signs that a row has
+abbrev pub signs : Row → Signs
+signs r = record { first = get_or r 0 None; second = get_or r 1 None; payments = get_or r 2 None }
 
-same : (x y : ℤ) → same_z x y ≡ true → x ≡ y
-unfolding same_z
-same (pos a) (pos b) t = ap pos (eqb-true a b t)
-same (pos a) (negsuc b) t = absurd (false≢true t)
-same (negsuc a) (pos b) t = absurd (false≢true t)
-same (negsuc a) (negsuc b) t = ap negsuc (eqb-true a b t)
-
--- row n is what the rule gives for its kind, phase and side
-right : ℕ → Bool
-right n =
-    let r = row n in
-    let s = signs_of (n / 8 + 1) (n / 2 % 4) (n % 2 + 1) in
-    same_z r.first s.first && same_z r.second s.second && same_z r.payments s.payments
-
-whole : every right 0 24 ≡ true
-unfolding every over right same_z signs_of
-whole = refl
-
-pub rule : (n : ℕ) → n < 24 → row n ≡ signs_of (n / 8 + 1) (n / 2 % 4) (n % 2 + 1)
-unfolding right
-rule n h =
-    let s = signs_of (n / 8 + 1) (n / 2 % 4) (n % 2 + 1) in
-    let t = three (same_z (row n).first s.first) (same_z (row n).second s.second) (same_z (row n).payments s.payments) (every-at right 0 24 whole n (omega arith) (omega arith)) in
-    λ k. record { first = same _ _ t.0 k; second = same _ _ t.1.0 k; payments = same _ _ t.1.1 k }
+-- a table that has these rows has the rule's signs at each place
+pub rule : (t : List (List (List Row))) → t ≡ kinds → (kind phase side : ℕ) → 1 ≤ kind → kind ≤ 3 → phase ≤ 3 → 1 ≤ side → side ≤ 2
+    → signs (get_or (get_or (get_or t (kind - 1) []) phase []) (side - 1) []) ≡ signs_of kind phase side
+rule t e kind phase side k₁ k₂ p s₁ s₂ =
+    let k : 1 + (kind - 1) ≡ kind = omega arith in
+    let s : 1 + (side - 1) ≡ side = omega arith in
+    rw (
+      e,
+      get_d-table phases 1 3 (kind - 1) [] (omega arith),
+      k,
+      get_d-table (sides kind) 0 4 phase [] (omega arith),
+      zero-add phase,
+      get_d-table (λ side. row (signs_of kind phase side)) 1 2 (side - 1) [] (omega arith),
+      s,
+    )

@@ -1,7 +1,9 @@
 -- A leg: a run of cash flows, as received or by its sign.
-use Rattle.std.specs.Prelude.{ℕ, zero, suc, ◌+◌, ◌*◌, Bool, true, false, cond, List, ◌++◌, eqb, ℤ, pos, negsuc}
+use Rattle.std.specs.Prelude.{ℕ, ◌+◌, ◌*◌, Bool, true, false, cond, List, ◌++◌, eqb, Option, Some, None}
 use Rattle.laws.specs.Walk.{table}
 use Rattle.discount.specs.declared.Flow.{Flow}
+use Rattle.legs.specs.declared.signs.Direction.{Direction}
+use Rattle.legs.specs.declared.signs.Direction.TheVariants.{In, Out}
 use Rattle.legs.specs.declared.Leg.{Leg}
 use Rattle.legs.specs.declared.Legs.{Legs}
 
@@ -23,11 +25,11 @@ directed received l = record {
   last = l.last;
 }
 
--- a leg by the table's sign: 1 in, −1 out, 0 none
-unfoldable pub signed_leg : ℤ → Leg → Leg
-signed_leg (pos zero) l = no_leg
-signed_leg (pos (suc n)) l = directed true l
-signed_leg (negsuc n) l = directed false l
+-- a leg by the table's sign: in, out, or none
+unfoldable pub signed_leg : Option Direction → Leg → Leg
+signed_leg None l = no_leg
+signed_leg (Some In) l = directed true l
+signed_leg (Some Out) l = directed false l
 
 -- flow k of a leg
 abbrev pub flow_of : Leg → ℕ → Flow

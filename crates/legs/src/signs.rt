@@ -2,57 +2,63 @@
 ghost use Rattle.std.specs.Prelude.{◌≡◌, ◌≤◌};
 ghost use Rattle.legs.specs.Signs.{signs_of};
 
-// The signs of a trade's flows: 1 in, -1 out, 0 no such flow.
-#[derive(Clone, Copy)]
-pub struct Signs {
-    pub first: i64,
-    pub second: i64,
-    pub payments: i64,
+// Which way a leg's flows go.
+#[derive(Clone, Copy, PartialEq, Eq, Debug)]
+pub enum Direction {
+    In,
+    Out,
 }
 
-// First leg, second leg and payments of side 1, then of side 2, for each phase from 0 to 3 of each kind. What no trade can be has no flows.
-const SIGNS: [i64; 72] = [
-    // outright, phase 0
-    -1, // the buyer's settlement cash goes out
-    0, 1, // and the payments come in
-    1, 0, -1,
-    // outright, phase 1
-    0, 0, 0, 0, 0, 0,
-    // outright, phase 2
-    0, 0, 0, 0, 0, 0,
-    // outright, phase 3
-    0, 0, 0, 0, 0, 0,
-    // pool repo, phase 0
-    0, 0, 0, 0, 0, 0,
-    // pool repo, phase 1
-    1, -1, 0, -1, 1, 0,
-    // pool repo, phase 2
-    1, -1, -1, // payments while the security is away
-    -1, 1, 1,
-    // pool repo, phase 3
-    0, -1, 1, 0, 0, // the reverse-repo member has no flows here
-    0,
-    // specified repo, phase 0
-    0, 0, 0, 0, 0, 0,
-    // specified repo, phase 1
-    1, -1, -1, -1, 1, 1, // the reverse-repo member gets what is paid while it has the security
-    // specified repo, phase 2
-    0, -1, 1, 0, 1, -1,
-    // specified repo, phase 3
-    0, 0, 0, 0, 0, 0,
+// The signs of a trade's flows: in, out, or None where there is no such flow.
+#[derive(Clone, Copy, PartialEq, Eq, Debug)]
+pub struct Signs {
+    pub first: Option<Direction>,
+    pub second: Option<Direction>,
+    pub payments: Option<Direction>,
+}
+
+const IN: Option<Direction> = Some(Direction::In);
+
+const OUT: Option<Direction> = Some(Direction::Out);
+
+// The signs of side 1 and of side 2, where there are no flows.
+const NO_FLOWS: [[Option<Direction>; 3]; 2] = [[None, None, None], [None, None, None]];
+
+// First leg, second leg and payments, by kind, phase and side. What no trade can be has no flows.
+static SIGNS: [[[[Option<Direction>; 3]; 2]; 4]; 3] = [
+    // outright
+    [
+        // the buyer's settlement cash goes out, and the payments come in
+        [[OUT, None, IN], [IN, None, OUT]],
+        NO_FLOWS,
+        NO_FLOWS,
+        NO_FLOWS,
+    ],
+    // pool repo
+    [
+        NO_FLOWS,
+        [[IN, OUT, None], [OUT, IN, None]],
+        // payments while the security is away
+        [[IN, OUT, OUT], [OUT, IN, IN]],
+        [[None, OUT, IN], [None, None, None]], // the reverse-repo member has no flows here
+    ],
+    // specified repo
+    [
+        NO_FLOWS,
+        [[IN, OUT, OUT], [OUT, IN, IN]], // the reverse-repo member gets what is paid while it has the security
+        [[None, OUT, IN], [None, IN, OUT]],
+        NO_FLOWS,
+    ],
 ];
 
 pub fn signs_of(kind: u64, phase: u64, side: u64) -> Signs
     requires { (1 ≤ kind) × ((kind ≤ 3) × ((phase ≤ 3) × ((1 ≤ side) × (side ≤ 2)))) }
     ensures { result ≡ signs_of kind phase side }
 {
-    let row = (((kind - 1) * 4 + phase) * 2 + (side - 1)) * 3;
-    let at = row as usize;
-    // named once: the table is laid out at each mention of it
-    let table = SIGNS;
+    let [first, second, payments] = SIGNS[(kind - 1) as usize][phase as usize][(side - 1) as usize];
     Signs {
-        first: table[at],
-        second: table[at + 1],
-        payments: table[at + 2],
+        first,
+        second,
+        payments,
     }
 }

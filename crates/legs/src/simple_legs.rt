@@ -1,8 +1,9 @@
 // A leg: none, one of one flow, and a leg by its sign.
 ghost use Rattle.std.specs.Prelude.{◌≡◌};
-ghost use Rattle.legs.specs.Runs.{no_leg, one_flow, directed, signed_leg};
+ghost use Rattle.legs.specs.Runs.{no_leg, one_flow, signed_leg};
 
 use crate::Leg;
+use crate::signs::Direction;
 
 pub fn no_leg() -> Leg
     ensures { result ≡ no_leg }
@@ -32,29 +33,20 @@ pub fn one_flow(curve: u64, day: u64, amount: u64) -> Leg
     }
 }
 
-fn direct(received: bool, l: Leg) -> Leg
-    ensures { result ≡ directed received l }
-{
-    Leg {
-        curve: l.curve,
-        received,
-        first: l.first,
-        period: l.period,
-        count: l.count,
-        each: l.each,
-        last: l.last,
-    }
-}
-
-// 1 in, -1 out, 0 none.
-pub fn signed_leg(sign: i64, l: Leg) -> Leg
+// A leg whose flows go as its sign says.
+#[tactic(auto, unfolding(crate::specs::Runs::signed_leg))]
+pub fn signed_leg(sign: Option<Direction>, l: Leg) -> Leg
     ensures { result ≡ signed_leg sign l }
 {
-    if 0 < sign {
-        return direct(true, l);
+    match sign {
+        Some(Direction::In) => Leg {
+            received: true,
+            ..l
+        },
+        Some(Direction::Out) => Leg {
+            received: false,
+            ..l
+        },
+        None => no_leg(),
     }
-    if sign < 0 {
-        return direct(false, l);
-    }
-    no_leg()
 }

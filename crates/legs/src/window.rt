@@ -6,6 +6,7 @@ ghost use Rattle.legs.specs.Limits.{LegLimits};
 use crate::{Leg, simple_legs};
 
 // How many of the flows fall on days up to one, of which the first is one.
+#[tactic(auto, unfolding(crate::specs::Counted::paid_by))]
 fn paid_by(day: u64, l: Leg) -> u64
     requires { l.first ≤ day }
     ensures { result ≡ paid_by day l }
@@ -14,14 +15,11 @@ fn paid_by(day: u64, l: Leg) -> u64
         return l.count;
     }
     let periods = (day - l.first) / l.period;
-    if periods < l.count {
-        periods + 1
-    } else {
-        l.count
-    }
+    periods.saturating_add(1).min(l.count)
 }
 
 // The flows after a day.
+#[tactic(auto, using(crate::proofs::Reach::span), unfolding(crate::specs::Counted::leg_after))]
 fn leg_after(day: u64, l: Leg) -> Leg
     requires { LegLimits l }
     ensures { result ≡ leg_after day l }
@@ -34,17 +32,14 @@ fn leg_after(day: u64, l: Leg) -> Leg
         return simple_legs::no_leg();
     }
     Leg {
-        curve: l.curve,
-        received: l.received,
         first: l.first + paid * l.period,
-        period: l.period,
         count: l.count - paid,
-        each: l.each,
-        last: l.last,
+        ..l
     }
 }
 
 // The flows up to a day: the last amount only where the last flow is one of them.
+#[tactic(auto, unfolding(crate::specs::Counted::leg_up_to))]
 fn leg_up_to(day: u64, l: Leg) -> Leg
     ensures { result ≡ leg_up_to day l }
 {
@@ -54,13 +49,9 @@ fn leg_up_to(day: u64, l: Leg) -> Leg
     let paid = paid_by(day, l);
     let last = if paid == l.count { l.last } else { l.each };
     Leg {
-        curve: l.curve,
-        received: l.received,
-        first: l.first,
-        period: l.period,
         count: paid,
-        each: l.each,
         last,
+        ..l
     }
 }
 

@@ -8,7 +8,6 @@ ghost use Rattle.std.specs.Io.{ReadsAtMost};
 ghost use Rattle.std.specs.Io.KnownBytes.{Appends, Consumes, IsAtEnd};
 ghost use Rattle.list.specs.Text.{printed};
 
-use ground::Written;
 use std::io;
 use std::io::{Read, Write};
 
@@ -19,6 +18,7 @@ fn read_full<R: Read>(input: &mut R, space: &mut [u8]) -> io::Result<usize>
     ensures end { IfOk result (λ n. n < length space.new → IsAtEnd (R.remaining input.new)) }
 {
     let mut done = 0;
+    // A read may give fewer bytes than asked for, so no range or iterator says how many turns there are.
     while done < space.len() {
         let n = input.read(&mut space[done..])?;
         if n == 0 {
@@ -37,15 +37,9 @@ fn print_listing<R: Read, W: Write>(input: &mut R, output: &mut W) -> io::Result
     let mut book = [0u8; 65537];
     let used = read_full(input, &mut book)?;
     let mut text = [0u8; 1481];
-    let written = book_text::list_text(&book[..used], used, &mut text);
-    match written {
-        Written::Length(n) => output.write_all(&text[..n]),
-        // The text's space always suffices.
-        Written::Refused(_, _) => {
-            prove!(false);
-            Ok(())
-        }
-    }
+    // The text's space suffices for any, so nothing is refused.
+    let n = book_text::list_text(&book[..used], used, &mut text).unwrap();
+    output.write_all(&text[..n])
 }
 
 fn main(rt: HostRuntime) -> io::Result<()> {

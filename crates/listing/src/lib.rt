@@ -4,7 +4,7 @@
 
 ghost use Rattle.std.specs.Prelude.{◌≡◌, ◌++◌, ◌+◌, ◌*◌, ◌≤◌, length, take, drop};
 ghost use Rattle.text.specs.Text.{lines_of, TextWritten};
-ghost use Rattle.listing.specs.Listing.{curve_figures, curve_listed, currency_figures, currency_listed_if, currency_listed_in, listing, refused_line};
+ghost use Rattle.listing.specs.Listing.{curve_figures, curve_listed, currency_figures, currency_listed, currency_listed_in, listing, refused_line};
 
 use margin::margins::has_currency;
 use margin::{CurrencyMargin, CurveMargin, Margin};
@@ -42,41 +42,30 @@ fn put_currency_figures(out: &mut [u8], at: usize, m: CurrencyMargin) -> usize
     put_signed(out, total, b" total ", m.total)
 }
 
-fn put_curve_lines(out: &mut [u8], at: usize, curves: [CurveMargin; 8], count: usize) -> usize
-    requires { (count ≤ 8) × (at + 144 * count ≤ length out.old) }
-    ensures text_written { TextWritten out.old at (lines_of curve_listed 1 (take count curves)) out.new result }
-    ensures upper_bound { result ≤ at + 144 * count }
+// The lines of the curves. This and put_currency_lines stay two: one generic needs a trait with a text and a room, longer than these loops.
+fn put_curve_lines(out: &mut [u8], at: usize, curves: &[CurveMargin]) -> usize
+    requires { at + 144 * length curves.now ≤ length out.old }
+    ensures text_written { TextWritten out.old at (lines_of curve_listed 1 curves.now) out.new result }
+    ensures upper_bound { result ≤ at + 144 * length curves.now }
 {
     let mut next = at;
-    let mut i: usize = 0;
-    while i < count {
-        let m = curves[i];
-        next = put_curve_line(out, next, i as u64 + 1, m);
-        i += 1;
+    for (i, m) in curves.iter().enumerate() {
+        next = put_curve_line(out, next, i as u64 + 1, *m);
     }
     next
 }
 
-// The line of a currency that a curve has.
-fn put_currency_line(
-    out: &mut [u8],
-    at: usize,
-    has: bool,
-    currency: u64,
-    m: CurrencyMargin,
-) -> usize
+fn put_currency_line(out: &mut [u8], at: usize, currency: u64, m: CurrencyMargin) -> usize
     requires { at + 100 ≤ length out.old }
-    ensures text_written { TextWritten out.old at (currency_listed_if has currency m) out.new result }
+    ensures text_written { TextWritten out.old at (currency_listed currency m) out.new result }
     ensures upper_bound { result ≤ at + 100 }
 {
-    if has {
-        let figures = put_currency(out, at, b"currency ", currency);
-        let end = put_currency_figures(out, figures, m);
-        return put_text(out, end, b"\n");
-    }
-    at
+    let figures = put_currency(out, at, b"currency ", currency);
+    let end = put_currency_figures(out, figures, m);
+    put_text(out, end, b"\n")
 }
 
+// The lines of the currencies that a curve has.
 fn put_currency_lines(
     out: &mut [u8],
     at: usize,
@@ -89,13 +78,11 @@ fn put_currency_lines(
     ensures upper_bound { result ≤ at + 300 }
 {
     let mut next = at;
-    let mut i: usize = 0;
-    while i < 3 {
+    for (i, m) in currencies.iter().enumerate() {
         let currency = i as u64 + 1;
-        let has = has_currency(curves, count, currency);
-        let m = currencies[i];
-        next = put_currency_line(out, next, has, currency, m);
-        i += 1;
+        if has_currency(curves, count, currency) {
+            next = put_currency_line(out, next, currency, *m);
+        }
     }
     next
 }
@@ -107,12 +94,10 @@ pub fn write_listing(out: &mut [u8], count: usize, m: Margin) -> usize
     ensures out_after { out.new ≡ listing count m ++ drop result out.old }
     ensures upper_bound { result ≤ 1481 }
 {
-    let curves = m.curves;
-    let currencies = m.currencies;
     let end = put_number(out, 0, b"account ", m.account);
     let first = put_text(out, end, b"\n");
-    let second = put_curve_lines(out, first, curves, count);
-    put_currency_lines(out, second, curves, count, currencies)
+    let second = put_curve_lines(out, first, &m.curves[..count]);
+    put_currency_lines(out, second, m.curves, count, m.currencies)
 }
 
 // The text of a refused book.

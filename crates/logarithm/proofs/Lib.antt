@@ -1,4 +1,3 @@
-pub mod Products
 pub mod Cayley
 pub mod Pade
 pub mod Exponents

@@ -1,5 +1,4 @@
 pub mod RangeLaws
-pub mod Sizes
 pub mod StraightSegments
 pub mod SegmentBuckets
 pub mod SegmentLists

@@ -1,5 +1,5 @@
 -- Net amounts mapped day by day, and their sizes added up: what is held, with what is left, is all.
-use mathlib.Core.Path.{◌≡◌, refl, ap}
+use mathlib.Core.Path.{◌≡◌, refl, ap, ◌∙◌}
 use mathlib.Core.List.{List, [], ◌∷◌}
 use Prim.Native.Nat.{ℕ, ◌+◌, ◌-◌, ◌*◌, ◌≤◌, ◌<◌}
 use native.Mathlib.Numerals.{add-one}
@@ -9,7 +9,10 @@ use lib.IntN.{ℤ, pos, negsuc, nat_abs}
 use lib.ListN.{length, get_or, drop}
 use lib.Seq.{drop-cons, drop-length}
 use lib.Signed.{le_z}
+use mir.Syntax.{w64}
+use mir.Val.{SFits}
 use Rattle.laws.specs.All.{All}
+use Rattle.laws.proofs.Signed.{read, back}
 use Rattle.discount.specs.declared.Flow.{Flow}
 use Rattle.discount.specs.Flows.{sum}
 use Rattle.netting.specs.Netting.{no_nets, net_on, netted, listed, net_size}
@@ -17,6 +20,7 @@ use Rattle.netting.proofs.DaySums.{listed_below}
 use Rattle.netting.proofs.Sizes.{net-size-on}
 use Rattle.estimate.specs.Values.{most_size, Listed}
 use Rattle.bucket.specs.Mapped.{BucketLimits, mapped, is_received, net_flow, net_flows}
+use Rattle.mapping.specs.declared.segments.Segment.{Segment}
 use Rattle.mapping.specs.Segments.{Grid, bucket_in}
 use Rattle.mapping.specs.Mapping.{mapped_nets, mapped_with, Mappable, NetFlowLimits, MappedRoom}
 use Rattle.mapping.proofs.NetParts.{mapped-length, mapped-moved}
@@ -25,6 +29,10 @@ pub received_is : (z : ℤ) → le_z (pos 0) z ≡ is_received z
 unfolding is_received
 received_is (pos n) = le-leb 0 n (omega arith)
 received_is (negsuc n) = refl
+
+-- the net amount that the code reads, by its bits, on a day of the list
+pub net-at : (nets : List ℤ) {d e : ℕ} → d ≡ e → SFits w64 (net_on nets d) → read (net_on nets d) ≡ net_on nets e
+net-at nets {d} q f = back (net_on nets d) f.sfits ∙ ap (net_on nets) q
 
 -- ---- the days left
 
@@ -63,16 +71,16 @@ none_left days i h k = let e : i ≡ length days = omega arith in rw e (drop-len
 
 -- ---- mapped
 
-pub record Mapping (segments : List ℕ) (n : ℕ) (nets : List ℤ) (days : List ℕ) (held : List ℤ) (i : ℕ) : Type 0 where
+pub record Mapping (segments : List Segment) (nets : List ℤ) (days : List ℕ) (held : List ℤ) (i : ℕ) : Type 0 where
   pub most : i ≤ length days
   pub placed : Placed (drop i days)
   pub size : net_size nets (drop i days) ≤ 139000000000000000
   pub places : length held ≡ 10951
   pub room : (day : ℕ) → nat_abs (net_on held day) + 2 * net_size nets (drop i days) + (length days - i) ≤ 300000000000000000
-  pub whole : netted (mapped (bucket_in segments n) (net_flows nets (drop i days))) held ≡ mapped_nets segments n nets days
+  pub whole : netted (mapped (bucket_in segments) (net_flows nets (drop i days))) held ≡ mapped_nets segments nets days
 
-module _ (segments : List ℕ) (n : ℕ) (nets : List ℤ) (days : List ℕ) where
-  pub mapping-first : Mappable nets days → (held : List ℤ) → held ≡ no_nets → length held ≡ 10951 → Mapping segments n nets days held 0
+module _ (segments : List Segment) (nets : List ℤ) (days : List ℕ) where
+  pub mapping-first : Mappable nets days → (held : List ℤ) → held ≡ no_nets → length held ≡ 10951 → Mapping segments nets days held 0
   unfolding sum
   mapping-first m held e l =
       record {
@@ -84,7 +92,7 @@ module _ (segments : List ℕ) (n : ℕ) (nets : List ℤ) (days : List ℕ) whe
         whole = rw e refl;
       }
 
-  module _ (held : List ℤ) (i : ℕ) (m : Mapping segments n nets days held i) (h : i < length days) where
+  module _ (held : List ℤ) (i : ℕ) (m : Mapping segments nets days held i) (h : i < length days) where
     abbrev at : ℕ
     at = get_or days i 0
 
@@ -100,14 +108,14 @@ module _ (segments : List ℕ) (n : ℕ) (nets : List ℤ) (days : List ℕ) whe
     pub mapping-room : MappedRoom held
     mapping-room = record { places = m.places; each = λ day. omega (arith, m.room day) }
 
-    module _ (g : Grid segments n) where
-      pub bucket-limits : BucketLimits (bucket_in segments n at)
+    module _ (g : Grid segments) where
+      pub bucket-limits : BucketLimits (bucket_in segments at)
       bucket-limits = g.buckets at (omega (arith, mapping-day))
 
-      pub mapping-next : Mapping segments n nets days (mapped_with held flow (bucket_in segments n at)) (i + 1)
+      pub mapping-next : Mapping segments nets days (mapped_with held flow (bucket_in segments at)) (i + 1)
       unfolding mapped
       mapping-next =
-          let k = bucket_in segments n at in
+          let k = bucket_in segments at in
           let e = size-left nets days i h in
           record {
             most = omega arith;
@@ -118,7 +126,7 @@ module _ (segments : List ℕ) (n : ℕ) (nets : List ℤ) (days : List ℕ) whe
             whole = rw (flows-left nets days i h) at m.whole;
           }
 
-  pub mapping-all : (held : List ℤ) (i : ℕ) → Mapping segments n nets days held i → length days ≤ i → held ≡ mapped_nets segments n nets days
+  pub mapping-all : (held : List ℤ) (i : ℕ) → Mapping segments nets days held i → length days ≤ i → held ≡ mapped_nets segments nets days
   unfolding mapped
   mapping-all held i m l = rw (none_left days i m.most l) at m.whole
 
@@ -138,9 +146,6 @@ module _ (nets : List ℤ) (days : List ℕ) where
   adding-first e l = record { most = omega arith; placed = rw e (listed-placed nets l); whole = omega arith }
 
   module _ (held i : ℕ) (a : Adding nets days held i) (h : i < length days) where
-    pub adding-day : get_or days i 0 < 10951
-    adding-day = placed-day nets days i h a.placed
-
     pub adding-most : held + nat_abs (net_on nets (get_or days i 0)) ≤ net_size nets days
     adding-most = omega (arith, a.whole, size-left nets days i h)
 

@@ -26,9 +26,10 @@ use Rattle.estimate.specs.Values.{scenario_value}
 use Rattle.bucket.specs.Mapped.{allowance, mapped, net_flows}
 use Rattle.bucket.proofs.NearLines.{Meets}
 use Rattle.bucket.proofs.Mapping.{mapped-below, sum-mapped}
+use Rattle.mapping.specs.declared.segments.Segment.{Segment}
 use Rattle.mapping.specs.Segments.{Grid, Segments, rates_in, bucket_in}
 use Rattle.mapping.specs.Mapping.{mapped_nets, spare_of, LowNets, Mappable}
-use Rattle.mapping.proofs.SegmentBuckets.{segments-limits, buckets-meet}
+use Rattle.mapping.proofs.SegmentBuckets.{buckets-meet}
 use Rattle.mapping.proofs.MappedDays.{Placed, listed-placed}
 
 -- ---- net amounts as flows
@@ -59,19 +60,14 @@ allowed nets (d ∷ ds) =
 
 -- ---- a curve's
 
-module _ (c : Curve) (p : ProperCurve c) (x : Components) (segments : List ℕ) (places : length segments ≡ 100) (listing : Segments c x segments (c.count + 1)) where
-  abbrev n : ℕ
-  n = c.count + 1
+module _ (c : Curve) (p : ProperCurve c) (x : Components) (segments : List Segment) (listing : Segments c x segments) where
+  meets : (s : ℕ) → s < scenario_count x → (day : ℕ) → day ≤ 10950 → Meets (rates_in c x s) day (bucket_in segments day)
+  meets s k day d = buckets-meet c x s k day d segments listing.each
 
-  meets : (s : ℕ) → s < scenario_count x → (day : ℕ) → day ≤ 10950 → Meets (rates_in c x s) day (bucket_in segments n day)
-  meets s k day d = buckets-meet c x segments n listing s k day d
-
-  pub grid : Grid segments n
+  pub grid : Grid segments
   grid =
       record {
-        limits = segments-limits c x segments n listing;
-        places = omega (arith, places, p.most);
-        few = omega (arith, p.most);
+        limits = record { each = λ i k. (listing.each i k).limits };
         buckets = λ day d. (meets 0 (scenarios-some x) day d).limits;
       }
 
@@ -87,16 +83,16 @@ module _ (c : Curve) (p : ProperCurve c) (x : Components) (segments : List ℕ) 
     on = on-days nets days (rw m.list (listed-placed nets m.places))
 
     abbrev low : List ℤ
-    low = mapped_nets segments n nets days
+    low = mapped_nets segments nets days
 
     low-size : net_size low (listed low) ≤ 140000000000000000
     low-size =
-        let all = sum-mapped (rates_in c x 0) (rated 0) (bucket_in segments n) (meets 0 (scenarios-some x)) flows on in
-        omega (arith, net-size (mapped (bucket_in segments n) flows), all, flows-size nets days, m.size, m.few, flows-length nets days)
+        let all = sum-mapped (rates_in c x 0) (rated 0) (bucket_in segments) (meets 0 (scenarios-some x)) flows on in
+        omega (arith, net-size (mapped (bucket_in segments) flows), all, flows-size nets days, m.size, m.few, flows-length nets days)
 
     low_below : (s : ℕ) → s < scenario_count x → Below (scenario_value c x low s) (scenario_value c x nets s) (spare_of nets days)
     low_below s k =
-        let found = mapped-below (rates_in c x s) (rated s) (bucket_in segments n) (meets s k) nets days on in
+        let found = mapped-below (rates_in c x s) (rated s) (bucket_in segments) (meets s k) nets days on in
         let fine : net_value (cheap_on (rates_in c x s)) nets days ≡ scenario_value c x nets s = ap (net_value (cheap_on (rates_in c x s)) nets) m.list in
         wide _ _ _ _ (rw fine at found) (allowed nets days)
       where
@@ -106,7 +102,7 @@ module _ (c : Curve) (p : ProperCurve c) (x : Components) (segments : List ℕ) 
     pub mapped-low : LowNets c x nets days low
     mapped-low =
         record {
-          places = nets-length (mapped (bucket_in segments n) flows) no_nets ∙ length-replicate 10951 (pos 0);
+          places = nets-length (mapped (bucket_in segments) flows) no_nets ∙ length-replicate 10951 (pos 0);
           size = low-size;
           below = low_below;
         }

@@ -1,11 +1,10 @@
 -- The parts of a net amount in its bucket, and net amounts with them: 64 bits hold them.
-use mathlib.Core.Path.{◌≡◌, sym, ap, ◌∙◌}
+use mathlib.Core.Path.{◌≡◌, ◌∙◌}
 use mathlib.Core.List.{List}
-use Prim.Native.Nat.{ℕ, ◌+◌, ◌*◌, ◌/◌, ◌%◌, ◌≤◌, ◌<◌}
-use native.Mathlib.Nat.{mul-le-mul, mul-le-mul_left, add-mul-div_right, div-add-mod', add_comm, div-le_of_le-mul}
+use Prim.Native.Nat.{ℕ, ◌+◌, ◌*◌, ◌/◌, ◌≤◌, ◌<◌}
+use native.Mathlib.Nat.{mul-le-mul, mul-le-mul_left, div-le_of_le-mul}
 use native.Mathlib.Decide.{ℕ_discrete}
 use native.Mathlib.Omega.{arith}
-use lib.Dec.{lit<}
 use lib.IntN.{ℤ, pos, nat_abs, ◌+ℤ◌}
 use lib.ListN.{length, length-set, set}
 use lib.Seq.{get_or-set_same, get_or-set_other}
@@ -17,43 +16,15 @@ use Rattle.bucket.specs.declared.buckets.Bucket.{Bucket}
 use Rattle.bucket.specs.Mapped.{BucketLimits, first_flow, last_flow, last_part, excess, excess_flow}
 use Rattle.mapping.specs.Mapping.{mapped_with, NetFlowLimits}
 
--- ---- the excess in parts above and below 2 ^ 32
-
-pub excess-parts : (n e : ℕ) → n / 4294967296 * e + n % 4294967296 * e / 4294967296 ≡ n * e / 4294967296
-excess-parts n e =
-    sym (parts (n / 4294967296) (n % 4294967296)) ∙ ap (λ (x : ℕ). x * e / 4294967296) (div-add-mod' n 4294967296)
-  where
-    parts : (a b : ℕ) → (a * 4294967296 + b) * e / 4294967296 ≡ a * e + b * e / 4294967296
-    parts a b =
-        let q : (a * 4294967296 + b) * e ≡ b * e + a * e * 4294967296 = omega arith in
-        ap (λ (x : ℕ). x / 4294967296) q ∙ add-mul-div_right (b * e) (a * e) (lit< tt) ∙ add_comm (b * e / 4294967296) (a * e)
-
--- what the products are at most
-pub record SmallParts (n e : ℕ) : Type 0 where
-  pub upper : n / 4294967296 * e ≤ 32363459 * 4000000
-  pub lower : n % 4294967296 * e ≤ 4294967295 * 4000000
-
-pub small-parts : (n e : ℕ) → n ≤ 139000000000000000 → e ≤ 4000000 → SmallParts n e
-small-parts n e h k =
-    let few : n / 4294967296 ≤ 32363459 = omega arith in
-    let less : n % 4294967296 ≤ 4294967295 = omega arith in
-    record { upper = mul-le-mul few k; lower = mul-le-mul less k }
-
 -- ---- the parts of a flow in its bucket
 
 module _ (f : Flow) (k : Bucket) (s : NetFlowLimits f) (l : BucketLimits k) where
-  pub gone-bound : f.amount * k.gone ≤ 139000000000000000 * 32
-  gone-bound = mul-le-mul {n₂ = 139000000000000000} {m₂ = 32} s.amount (omega (arith, l.few))
-
   pub part-le : last_part k f.amount ≤ f.amount
   unfolding last_part
   part-le = div-le_of_le-mul (k.gone + k.left) (go k.left)
     where
       go : (v : ℕ) → f.amount * k.gone ≤ (k.gone + v) * f.amount
       go v = omega arith
-
-  pub first-limits : NetFlowLimits (first_flow k f)
-  first-limits = record { amount = omega (arith, s.amount); day = l.first }
 
   pub last-limits : NetFlowLimits (last_flow k f)
   last-limits = record { amount = omega (arith, part-le, s.amount); day = l.last }
@@ -68,7 +39,7 @@ module _ (f : Flow) (k : Bucket) (s : NetFlowLimits f) (l : BucketLimits k) wher
   pub excess-limits : NetFlowLimits (excess_flow k f)
   unfolding excess
   excess-limits =
-      record { amount = omega (arith, excess-parts f.amount k.error, (small-parts f.amount k.error s.amount l.error).upper, (small-parts f.amount k.error s.amount l.error).lower); day = l.first }
+      record { amount = omega (arith, mul-le-mul {n₂ = 139000000000000000} {m₂ = 4000000} s.amount l.error); day = l.first }
 
   -- ---- added one after the other
 

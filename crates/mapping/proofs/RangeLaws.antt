@@ -3,7 +3,7 @@
 use mathlib.Core.Path.{◌≡◌, refl, ◌∙◌}
 use mathlib.Core.Bool.{Bool, true, false, cond}
 use Prim.Native.Nat.{ℕ, suc, min, ◌+◌, ◌-◌, ◌*◌, ◌/◌, ◌≤◌, ◌<◌}
-use native.Mathlib.Nat.{mul-le-mul_left, mul-le-mul_right, div-mul-le_self, lt-div-mul-add}
+use native.Mathlib.Nat.{mul-le-mul, mul-le-mul_left, mul-le-mul_right, div-mul-le_self, lt-div-mul-add}
 use native.Mathlib.Omega.{arith}
 use borrow.Author.Tests.{eqb-true}
 use lib.Dec.{eqb, lit<}
@@ -11,7 +11,7 @@ use lib.IntN.{ℤ, pos, negsuc, nat_abs, ◌+ℤ◌, ◌-ℤ◌, ◌*ℤ◌, +�
 use lib.Signed.{quot_z}
 use Rattle.laws.specs.Distance.{Below, Within}
 use Rattle.laws.proofs.Integer.{int, up, down, plus, up_pos, down_pos, up_neg, down-neg, within-abs, below-read}
-use Rattle.laws.proofs.Signed.{abs-add, abs-mul, abs-quot}
+use Rattle.laws.proofs.Signed.{abs-add, abs-sub, abs-mul, abs-quot}
 use Rattle.curve.specs.declared.Node.{Node}
 use Rattle.curve.specs.declared.Component.{Component}
 use Rattle.curve.specs.declared.Components.{Components}
@@ -34,13 +34,18 @@ swing-size x k h = go (eqb x.steps 0) refl
     go true e = rw (coefficient-none x k (eqb-true x.steps 0 e)) (omega arith)
     go false e = coefficient-size x k h
 
-pub swing-most : (x : Component) → ComponentLimits x → swing x ≤ 10000
+swing-most : (x : Component) → ComponentLimits x → swing x ≤ 10000
 unfolding swing
 swing-most x h = go (eqb x.steps 0)
   where
     go : (t : Bool) → cond t 0 x.range ≤ 10000
     go true = omega arith
     go false = h.range
+
+-- what the code multiplies fits
+pub moved-most : (x : Component) (a b : ℤ) → ComponentLimits x × (nat_abs a ≤ 1000000) × (nat_abs b ≤ 1000000) → swing x * nat_abs (a -ℤ b) ≤ 20000000000
+moved-most x a b h =
+    mul-le-mul {n₂ = 10000} {m₂ = 2000000} (swing-most x h.0) (omega (arith, abs-sub a b, h.1, h.2))
 
 record Swings (x : Components) (s : Scenario) : Type 0 where
   first : nat_abs s.first ≤ swing x.first

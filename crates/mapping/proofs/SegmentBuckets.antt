@@ -1,60 +1,51 @@
 -- The search for the bucket of a day; and its chord is near the day's factor in every scenario.
-use mathlib.Core.Path.{◌≡◌, ◌∙◌}
+use mathlib.Core.Path.{◌≡◌}
 use mathlib.Core.Bool.{Bool, true, false, cond}
-use mathlib.Core.List.{List}
-use Prim.Native.Nat.{ℕ, zero, suc, ◌+◌, ◌-◌, ◌≤◌, ◌<◌}
+use mathlib.Core.List.{List, [], ◌∷◌}
+use Prim.Native.Nat.{ℕ, suc, ◌+◌, ◌≤◌, ◌<◌}
+use native.Mathlib.Numerals.{add-one}
 use native.Mathlib.Omega.{arith}
 use borrow.Author.Tests.{lt-ltb, le-ltb}
 use lib.Dec.{ltb}
-use Rattle.laws.specs.Walk.{over}
-use Rattle.laws.proofs.Walk.{over-step, over-end}
+use lib.ListN.{length, drop, drop_of_length-le}
+use lib.Seq.{drop-cons}
 use Rattle.curve.specs.declared.Curve.{Curve}
 use Rattle.curve.specs.declared.Components.{Components}
 use Rattle.curve.specs.Scenarios.{scenario_count}
 use Rattle.bucket.specs.declared.buckets.Bucket.{Bucket}
 use Rattle.bucket.specs.Buckets.{alone, bucket_on}
 use Rattle.bucket.proofs.NearLines.{Meets, alone-meets, bucket-meets}
-use Rattle.mapping.specs.Segments.{segment_from, segment_until, segment_width, segment_highest, rates_in, SegmentsLimits, Segments, bucket_in}
+use Rattle.mapping.specs.declared.segments.Segment.{Segment}
+use Rattle.mapping.specs.Segments.{segment_at, rates_in, CurveSegment, bucket_in}
 
-module _ (segments : List ℕ) (day : ℕ) where
-  abbrev pub bucket_at : ℕ → Bucket
-  bucket_at i = bucket_on (segment_from segments i) (segment_until segments i) (segment_width segments i) (segment_highest segments i) day
+-- ---- the code's search, from segment i on
 
-  abbrev pub turn : ℕ → Bucket → Bucket
-  turn i rest = cond (ltb day (segment_until segments i)) (bucket_at i) rest
+module _ (segments : List Segment) (day i : ℕ) where
+  abbrev g : Segment
+  g = segment_at segments i
 
-  abbrev pub bucket_from : ℕ → ℕ → Bucket
-  bucket_from i n = over turn (alone day) i (n - i)
-
-  pub bucket-first : (n : ℕ) → bucket_in segments n day ≡ bucket_from 0 n
+  pub bucket-found : i < length segments → day < g.until → bucket_in (drop i segments) day ≡ bucket_on g.from g.until g.width g.highest day
   unfolding bucket_in
-  bucket-first n = let e : n - 0 ≡ n = omega arith in rw e
+  bucket-found h k = rw (drop-cons segments i (segment_at [] 0) h, lt-ltb day g.until k)
 
-  module _ (i n : ℕ) where
-    pub bucket-found : i < n → day < segment_until segments i → bucket_from i n ≡ bucket_at i
-    bucket-found h k = over-step turn (alone day) i n h ∙ rw (lt-ltb day (segment_until segments i) k)
+  pub bucket-passed : i < length segments → g.until ≤ day → bucket_in (drop i segments) day ≡ bucket_in (drop (i + 1) segments) day
+  unfolding bucket_in
+  bucket-passed h k = rw (drop-cons segments i (segment_at [] 0) h, le-ltb day g.until k, add-one)
 
-    pub bucket-passed : i < n → segment_until segments i ≤ day → bucket_from i n ≡ bucket_from (i + 1) n
-    bucket-passed h k = over-step turn (alone day) i n h ∙ rw (le-ltb day (segment_until segments i) k)
+  pub bucket-none : length segments ≤ i → bucket_in (drop i segments) day ≡ alone day
+  unfolding bucket_in
+  bucket-none h = rw (drop_of_length-le segments h)
 
-    pub bucket-none : n ≤ i → bucket_from i n ≡ alone day
-    bucket-none h = over-end turn (alone day) i n h
+-- ---- its chord
 
-pub segments-limits : (c : Curve) (x : Components) (segments : List ℕ) (n : ℕ) → Segments c x segments n → SegmentsLimits segments n
-segments-limits c x segments n h = record { each = λ i k. (h.each i k).limits }
-
-module _ (c : Curve) (x : Components) (segments : List ℕ) (n : ℕ) (h : Segments c x segments n) (s : ℕ) (k : s < scenario_count x) (day : ℕ) (on : day ≤ 10950) where
-  over-meets : (i m : ℕ) → i + m ≤ n → Meets (rates_in c x s) day (over (turn segments day) (alone day) i m)
-  unfolding over
-  over-meets i zero l = alone-meets (rates_in c x s) day on
-  over-meets i (suc m) l = go (ltb day (segment_until segments i)) (over-meets (suc i) m (omega arith))
+module _ (c : Curve) (x : Components) (s : ℕ) (k : s < scenario_count x) (day : ℕ) (on : day ≤ 10950) where
+  pub buckets-meet : (segments : List Segment) → ((i : ℕ) → i < length segments → CurveSegment c x (segment_at segments i)) → Meets (rates_in c x s) day (bucket_in segments day)
+  unfolding bucket_in
+  buckets-meet [] h = alone-meets (rates_in c x s) day on
+  buckets-meet (g ∷ gs) h = go (ltb day g.until) (buckets-meet gs (λ i l. h (suc i) (omega arith)))
     where
-      go : (t : Bool) {rest : Bucket} → Meets (rates_in c x s) day rest → Meets (rates_in c x s) day (cond t (bucket_at segments day i) rest)
+      go : (t : Bool) {rest : Bucket} → Meets (rates_in c x s) day rest → Meets (rates_in c x s) day (cond t (bucket_on g.from g.until g.width g.highest day) rest)
       go true r =
-          let segment = h.each i (omega arith) in
-          bucket-meets (rates_in c x s) (segment_from segments i) (segment_until segments i) (segment_width segments i) (segment_highest segments i) day (segment.straight s k) segment.limits.most segment.limits.until on
+          let segment = h 0 (omega arith) in
+          bucket-meets (rates_in c x s) g.from g.until g.width g.highest day (segment.straight s k) segment.limits.most segment.limits.until on
       go false r = r
-
-  pub buckets-meet : Meets (rates_in c x s) day (bucket_in segments n day)
-  unfolding bucket_in
-  buckets-meet = over-meets 0 n (omega arith)

@@ -21,7 +21,7 @@ use Rattle.bucket.specs.Mapped.{StraightSegment}
 use Rattle.bucket.proofs.Straights.{line-straight}
 use Rattle.mapping.specs.declared.ranges.Range.{Range}
 use Rattle.mapping.specs.Ranges.{Ranges}
-use Rattle.mapping.specs.Segments.{SegmentLimits, Segment}
+use Rattle.mapping.specs.Segments.{segment_of, SegmentLimits, CurveSegment}
 
 -- ---- one rate on every day
 
@@ -85,33 +85,33 @@ module _ (c : Curve) (p : ProperCurve c) (x : Components) where
   count-is s = refl
 
   module _ (w : Range) where
-    segment-limits : (until : ℕ) → until ≤ 10951 → w.width ≤ 1000000 → w.highest ≤ 1000000 → SegmentLimits until w.width w.highest
-    segment-limits until h k l = record { until = h; width = k; most = l }
+    segment-limits : (from until : ℕ) → until ≤ 10951 → w.width ≤ 1000000 → w.highest ≤ 1000000 → SegmentLimits (segment_of from until w)
+    segment-limits from until h k l = record { until = h; width = k; most = l }
 
-    pub segment-first : Ranges (node c 0) (node c 0) x w → Segment c x 0 (node c 0).day w.width w.highest
+    pub segment-first : Ranges (node c 0) (node c 0) x w → CurveSegment c x (segment_of 0 (node c 0).day w)
     segment-first h =
         record {
-          limits = segment-limits (node c 0).day (omega (arith, (p.each 0 (omega (arith, p.least))).day)) h.limits.width h.limits.highest;
+          limits = segment-limits 0 (node c 0).day (omega (arith, (p.each 0 (omega (arith, p.least))).day)) h.limits.width h.limits.highest;
           straight =
               λ s m.
               let n = node-stressed s 0 (omega (arith, p.least)) in
               rw n at (rw (nodes-stressed (scenario_at x s) c p) at (first-segment (in-scenario s) (proper s) w.width w.highest (rw n (h.each s m).first)));
         }
 
-    pub segment-last : (j : ℕ) → suc j ≡ c.count → Ranges (node c j) (node c j) x w → Segment c x (node c j).day 10951 w.width w.highest
+    pub segment-last : (j : ℕ) → suc j ≡ c.count → Ranges (node c j) (node c j) x w → CurveSegment c x (segment_of (node c j).day 10951 w)
     segment-last j e h =
         record {
-          limits = segment-limits 10951 (omega arith) h.limits.width h.limits.highest;
+          limits = segment-limits (node c j).day 10951 (omega arith) h.limits.width h.limits.highest;
           straight =
               λ s m.
               let n = node-stressed s j (omega arith) in
               rw n at (rw (nodes-stressed (scenario_at x s) c p) at (last-segment (in-scenario s) (proper s) j (rw (count-is s) e) w.width w.highest (rw n (h.each s m).first)));
         }
 
-    pub segment-next : (j : ℕ) → suc j < c.count → Ranges (node c j) (node c (suc j)) x w → Segment c x (node c j).day (node c (suc j)).day w.width w.highest
+    pub segment-next : (j : ℕ) → suc j < c.count → Ranges (node c j) (node c (suc j)) x w → CurveSegment c x (segment_of (node c j).day (node c (suc j)).day w)
     segment-next j k h =
         record {
-          limits = segment-limits (node c (suc j)).day (omega (arith, (p.each (suc j) k).day)) h.limits.width h.limits.highest;
+          limits = segment-limits (node c j).day (node c (suc j)).day (omega (arith, (p.each (suc j) k).day)) h.limits.width h.limits.highest;
           straight =
               λ s m.
               let n = node-stressed s j (omega arith) in

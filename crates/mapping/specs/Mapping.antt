@@ -10,11 +10,12 @@ use Rattle.netting.specs.Netting.{no_nets, net_on, net_with, netted, listed, net
 use Rattle.estimate.specs.Values.{scenario_value}
 use Rattle.bucket.specs.declared.buckets.Bucket.{Bucket}
 use Rattle.bucket.specs.Mapped.{first_flow, last_flow, excess_flow, mapped, net_flows}
+use Rattle.mapping.specs.declared.segments.Segment.{Segment}
 use Rattle.mapping.specs.Segments.{bucket_in}
 
--- in the buckets of the first n segments
-abbrev pub mapped_nets : List ℕ → ℕ → List ℤ → List ℕ → List ℤ
-mapped_nets segments n nets days = netted (mapped (bucket_in segments n) (net_flows nets days)) no_nets
+-- in the buckets of some segments
+abbrev pub mapped_nets : List Segment → List ℤ → List ℕ → List ℤ
+mapped_nets segments nets days = netted (mapped (bucket_in segments) (net_flows nets days)) no_nets
 
 -- with one flow more, mapped to the ends of its bucket
 abbrev pub mapped_with : List ℤ → Flow → Bucket → List ℤ

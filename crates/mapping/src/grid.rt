@@ -8,8 +8,7 @@ ghost use Rattle.bucket.specs.Mapped.{BucketLimits, first_flow, last_flow, exces
 ghost use Rattle.mapping.specs.Segments.{Grid};
 ghost use Rattle.mapping.specs.Mapping.{mapped_nets, mapped_with, LowNets, most_mapped, Mappable, NetFlowLimits, MappedRoom};
 
-use super::ranges::size;
-use super::segments::{bucket_in, list_segments};
+use super::segments::{Segment, bucket_in, list_segments};
 use bucket::buckets::Bucket;
 use curve::{Components, Curve};
 use discount::Flow;
@@ -22,9 +21,9 @@ fn net_flow(day: u64, net: i64) -> Flow
 {
     Flow {
         curve: 0,
-        day: day,
+        day,
         received: 0 <= net,
-        amount: size(net),
+        amount: net.unsigned_abs(),
     }
 }
 
@@ -38,16 +37,15 @@ fn add_flow(nets: &mut [i64], f: Flow)
 }
 
 // What of a flow goes to the last day of its bucket.
+#[tactic(auto, unfolding(bucket::specs::Mapped::last_part))]
 fn last_flow(f: Flow, k: Bucket) -> Flow
     requires { NetFlowLimits f × BucketLimits k }
     ensures { result ≡ last_flow k f }
 {
-    let part = f.amount * k.gone / (k.gone + k.left);
     Flow {
-        curve: f.curve,
         day: k.last,
-        received: f.received,
-        amount: part,
+        amount: f.amount * k.gone / (k.gone + k.left),
+        ..f
     }
 }
 
@@ -56,33 +54,32 @@ fn first_flow(f: Flow, k: Bucket) -> Flow
     requires { NetFlowLimits f × BucketLimits k }
     ensures { result ≡ first_flow k f }
 {
-    let last = last_flow(f, k);
     Flow {
-        curve: f.curve,
         day: k.first,
-        received: f.received,
-        amount: f.amount - last.amount,
+        amount: f.amount - last_flow(f, k).amount,
+        ..f
     }
 }
 
-// amount * error / 2^32 + 1. The whole product does not fit a u64, so it is taken in parts.
+// amount * error / 2^32 + 1.
 fn excess(amount: u64, error: u64) -> u64
     requires { (amount ≤ most_mapped) × (error ≤ 4_000_000) }
     ensures { result ≡ amount * error / 4_294_967_296 + 1 }
 {
-    amount / 4_294_967_296 * error + amount % 4_294_967_296 * error / 4_294_967_296 + 1
+    (u128::from(amount) * u128::from(error) >> 32) as u64 + 1
 }
 
 // What the two may be worth too much, paid.
+#[tactic(auto, unfolding(bucket::specs::Mapped::excess))]
 fn excess_flow(f: Flow, k: Bucket) -> Flow
     requires { NetFlowLimits f × BucketLimits k }
     ensures { result ≡ excess_flow k f }
 {
     Flow {
-        curve: f.curve,
         day: k.first,
         received: false,
         amount: excess(f.amount, k.error),
+        ..f
     }
 }
 
@@ -97,18 +94,14 @@ fn add_mapped(nets: &mut [i64], f: Flow, k: Bucket)
 }
 
 // Adds the net amounts of some days to those of the ends of their buckets.
-fn map_days(segments: &[u64], count: usize, days: &[u16], nets: &[i64], mapped: &mut [i64])
-    requires { Grid segments.now count × Mappable nets.now days.now × (mapped.old ≡ no_nets) }
-    ensures { mapped.new ≡ mapped_nets segments.now count nets.now days.now }
+fn map_days(segments: &[Segment], days: &[u16], nets: &[i64], mapped: &mut [i64])
+    requires { Grid segments.now × Mappable nets.now days.now × (mapped.old ≡ no_nets) }
+    ensures { mapped.new ≡ mapped_nets segments.now nets.now days.now }
 {
-    let n = days.len();
-    let mut i: usize = 0;
-    while i < n {
-        let day = days[i] as u64;
-        let at = day as usize;
-        let k = bucket_in(segments, count, day);
-        add_mapped(mapped, net_flow(day, nets[at]), k);
-        i += 1;
+    for day in days {
+        let at = usize::from(*day);
+        let k = bucket_in(segments, at as u64);
+        add_mapped(mapped, net_flow(at as u64, nets[at]), k);
     }
 }
 
@@ -123,9 +116,15 @@ pub fn map_nets(
     requires { ProperCurve curve × ProperComponents components × Mappable nets.now days.now × (mapped.old ≡ no_nets) }
     ensures { LowNets curve components nets.now days.now mapped.new }
 {
-    let mut segments = [0u64; 100];
+    let none = Segment {
+        from: 0,
+        until: 0,
+        width: 0,
+        highest: 0,
+    };
+    let mut segments = [none; 25];
     list_segments(curve, components, &mut segments);
-    map_days(&segments, curve.count + 1, days, nets, mapped);
+    map_days(&segments[..curve.count + 1], days, nets, mapped);
 }
 
 // How much the net amounts of the listed days are, whatever their signs.
@@ -133,13 +132,9 @@ pub fn size_of(days: &[u16], nets: &[i64]) -> u64
     requires { Listed nets.now days.now }
     ensures { result ≡ net_size nets.now days.now }
 {
-    let n = days.len();
     let mut sum: u64 = 0;
-    let mut i: usize = 0;
-    while i < n {
-        let at = days[i] as usize;
-        sum += size(nets[at]);
-        i += 1;
+    for day in days {
+        sum += nets[usize::from(*day)].unsigned_abs();
     }
     sum
 }

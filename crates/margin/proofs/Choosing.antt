@@ -86,9 +86,6 @@ module _ (deviation : ℕ) (small : deviation ≤ most_flows * 200000) where
   twice-is : pos 2 *ℤ cast deviation ≡ pos (2 * deviation)
   twice-is = rw (cast_is deviation (omega arith)) refl
 
-  pub twice-fits : SFits w64 (pos 2 *ℤ cast deviation)
-  twice-fits = rw twice-is (fits (pos (2 * deviation)) (omega arith))
-
   -- v is the least estimate
   module _ (v : ℤ) (size : nat_abs v ≤ most_flows * unit + deviation) where
     limit-size : nat_abs (v +ℤ pos (2 * deviation)) < 2 ^ 63

@@ -1,14 +1,17 @@
 -- Scenarios that their estimates rule out can be passed over: the first largest loss over the rest is that over all.
 use mathlib.Core.Path.{◌≡◌, refl, ap}
-use mathlib.Core.Bool.{Bool, true, false, cond}
+use mathlib.Core.Bool.{Bool, true, false, cond, ◌&&◌}
 use mathlib.Core.List.{List, map}
-use Prim.Native.Nat.{ℕ, ◌+◌, ◌-◌, ◌≤◌, ◌<◌}
+use Prim.Native.Nat.{ℕ, zero, suc, ◌+◌, ◌-◌, ◌≤◌, ◌<◌}
 use borrow.Author.Count.{below_more}
 use native.Mathlib.Omega.{arith}
 use lib.Dec.{eqb}
 use lib.IntN.{ℤ, pos, neg_ℤ, ◌-ℤ◌}
-use lib.ListN.{length, get_or}
-use lib.Seq.{get_or-take}
+use lib.ListN.{length, get_or, take, drop}
+use lib.Seq.{get_or-take, length-take-le, drop-cons}
+use Rattle.std.specs.List.{HoldsAt, AllWithin, list_all, zip}
+use Rattle.laws.specs.Walk.{over}
+use Rattle.laws.specs.Every.{every}
 use borrow.Author.Tests.{eqb-true}
 use lib.Signed.{lt_z, ◌≤ℤ◌, ◌<ℤ◌, lt_z_yes, lt_z_no, ≤ℤ_refl}
 use Rattle.laws.specs.Distance.{Below}
@@ -96,6 +99,14 @@ module _ (base : ℤ) (value : ℕ → ℤ) (estimates : List ℤ) (deviation n 
       → w ≡ record { amount = loss (worst loss 0 (up_from 1 (n - 1))); scenario = worst loss 0 (up_from 1 (n - 1)) }
   kept-worst w h = rw (leads-worst loss n w.scenario (kept-leads w h)) (ap (λ (z : ℤ). record { amount = z; scenario = w.scenario }) h.amount)
 
+-- ---- the first that is kept, as a search finds it
+
+pub first-kept : (values : List ℤ) (limit : ℤ) (n : ℕ) → n ≤ length values → (k : ℕ)
+    → (k < length (take n values)) × HoldsAt (λ (v : ℤ). v ≤ℤ limit) (take n values) k × AllWithin (λ (v : ℤ). limit <ℤ v) (take n values) 0 k → FirstKept values limit k × (k < n)
+first-kept values limit n h k first =
+    let l : k < n = omega (arith, length-take-le n values h) in
+    (record { kept = rw (get_or-take n values k (pos 0) l) at (first.1 (pos 0)); none = λ s m. rw (get_or-take n values s (pos 0) (omega arith)) at (first.2 s (pos 0) (omega arith) m) }, l)
+
 -- ---- the loop: the worst of the scenarios kept so far
 
 module _ (loss : ℕ → ℤ) (values : List ℤ) (limit : ℤ) where
@@ -129,6 +140,21 @@ module _ (loss : ℕ → ℤ) (values : List ℤ) (limit : ℤ) where
             record { within = omega (arith, h.within); amount = h.amount; most = below_more _ s h.most (λ c. less); first = h.first }
 
 -- ---- two scenarios that give the nodes the same rates
+
+pairs-every : (a b : List Node) (i n : ℕ) → i + n ≤ length a → i + n ≤ length b
+    → list_all (λ (p : Node × Node). eqb p.0.rate p.1.rate) (zip (take n (drop i a)) (take n (drop i b))) ≡ every (λ k. eqb (get_or a k zero_node).rate (get_or b k zero_node).rate) i n
+unfolding every over
+pairs-every a b i zero h k = refl
+pairs-every a b i (suc n) h k =
+    let m : i < length a = omega arith in
+    let l : i < length b = omega arith in
+    rw (drop-cons a i zero_node, drop-cons b i zero_node)
+    (ap (λ (rest : Bool). eqb (get_or a i zero_node).rate (get_or b i zero_node).rate && rest) (pairs-every a b (suc i) n (omega arith) (omega arith)))
+
+pub same-rates : (a b : Curve) → a.count ≤ length a.nodes → a.count ≤ length b.nodes
+    → list_all (λ (p : Node × Node). eqb p.0.rate p.1.rate) (zip (take a.count a.nodes) (take a.count b.nodes)) ≡ same_rates a b
+unfolding same_rates
+same-rates a b h k = pairs-every a.nodes b.nodes 0 a.count (omega arith) (omega arith)
 
 same-node : (a b : Scenario) (n : Node) → (stressed a n).rate ≡ (stressed b n).rate → stressed a n ≡ stressed b n
 same-node a b n e = ap (λ r. record { day = n.day; rate = r; first = n.first; second = n.second; third = n.third }) e

@@ -2,7 +2,6 @@ pub mod Bounded
 pub mod Sizes
 pub mod Stressing
 pub mod Currencies
-pub mod Places
 pub mod Accounts
 pub mod Discarding
 pub mod Choosing

@@ -20,14 +20,10 @@ fn first_kept(values: &[i64], limit: i64, n: u64) -> u64
     requires { (n ≤ length values.now) × SomeKept values.now limit n }
     ensures { FirstKept values.now limit result × (result < n) }
 {
-    let mut s: u64 = 0;
-    while s < n {
-        if values[s as usize] <= limit {
-            return s;
-        }
-        s += 1;
-    }
-    s
+    values[..n as usize]
+        .iter()
+        .position(|v| *v <= limit)
+        .unwrap() as u64
 }
 
 // Whether the nodes of two curves have the same rates.
@@ -36,14 +32,10 @@ fn same_rates(a: Curve, b: Curve) -> bool
     ensures { result ≡ same_rates a b }
 {
     let n = a.count;
-    let mut i: usize = 0;
-    while i < n {
-        if a.nodes[i].rate != b.nodes[i].rate {
-            return false;
-        }
-        i += 1;
-    }
-    true
+    a.nodes[..n]
+        .iter()
+        .zip(&b.nodes[..n])
+        .all(|(x, y)| x.rate == y.rate)
 }
 
 // The worse of a loss and that of scenario s. Where both scenarios give the nodes the same rates, the losses are equal, and nothing is valued.
@@ -51,15 +43,14 @@ fn worse_with(valued: ValuedPosition, ladder: &[u64], tables: &[u64], worst: Los
     requires { Based valued ladder.now tables.now × ScenarioLoss (exposure_of valued.position ladder.now) worst × (s < scenario_count valued.position.components) }
     ensures { result ≡ worse_of worst (loss_of (exposure_of valued.position ladder.now) s) }
 {
-    let position = valued.position;
-    if same_rates(curve_in(position, s), curve_in(position, worst.scenario)) {
+    let stressed = curve_in(valued.position, s);
+    if same_rates(stressed, curve_in(valued.position, worst.scenario)) {
         return worst;
     }
-    let next = Loss {
+    worst.worse(Loss {
         amount: loss_of(valued, ladder, tables, s),
         scenario: s,
-    };
-    worst.worse(next)
+    })
 }
 
 // The worst of the scenarios that are kept: those whose estimate is at most the limit.
@@ -73,20 +64,16 @@ fn worst_kept(
     requires { Based valued ladder.now tables.now × (length values.now ≡ 343) × SomeKept values.now limit (scenario_count valued.position.components) }
     ensures { WorstKept (loss_at flow_value (exposure_of valued.position ladder.now)) values.now limit (scenario_count valued.position.components) result }
 {
-    let position = valued.position;
-    let components = position.components;
-    let count = components.scenario_count();
+    let count = valued.position.components.scenario_count();
     let first = first_kept(values, limit, count);
     let mut worst = Loss {
         amount: loss_of(valued, ladder, tables, first),
         scenario: first,
     };
-    let mut s = first + 1;
-    while s < count {
+    for s in first + 1..count {
         if values[s as usize] <= limit {
             worst = worse_with(valued, ladder, tables, worst, s);
         }
-        s += 1;
     }
     worst
 }
@@ -102,9 +89,7 @@ fn worst_estimated(
     requires { Based valued ladder.now tables.now × Estimates (exposure_of valued.position ladder.now) values.now deviation }
     ensures { result ≡ worst_of (exposure_of valued.position ladder.now) }
 {
-    let position = valued.position;
-    let components = position.components;
-    let least = least_of(values, components.scenario_count());
+    let least = least_of(values, valued.position.components.scenario_count());
     let limit = values[least as usize] + 2 * deviation as i64;
     worst_kept(valued, ladder, tables, values, limit)
 }

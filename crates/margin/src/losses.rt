@@ -19,9 +19,7 @@ pub fn curve_in(position: Position, s: u64) -> Curve
     requires { ProperCurve position.curve × ProperComponents position.components × (s < scenario_count position.components) }
     ensures { result ≡ stressed_curve (scenario_at position.components s) position.curve }
 {
-    let curve = position.curve;
-    let components = position.components;
-    curve.stressed(components.scenario(s))
+    position.curve.stressed(position.components.scenario(s))
 }
 
 // The loss of scenario s: the base less the value at the stressed nodes.
@@ -43,14 +41,15 @@ pub struct Loss {
 }
 
 impl Loss {
-    // The worse of two losses, and the first of equal ones.
+    // The worse of two losses, and the first of equal ones: std's max gives the last of these.
     pub fn worse(self, other: Loss) -> Loss
         requires { LossLimits self × LossLimits other }
         ensures { result ≡ worse_of self other }
     {
         if self.amount < other.amount {
-            return other;
+            other
+        } else {
+            self
         }
-        self
     }
 }

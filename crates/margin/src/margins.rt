@@ -1,5 +1,5 @@
 // The figures of a curve, of a currency, and of a whole account.
-ghost use Rattle.std.specs.Prelude.{◌≡◌, ◌++◌, ◌-◌, ◌≤◌, take, replicate};
+ghost use Rattle.std.specs.Prelude.{◌≡◌, ◌++◌, ◌-◌, ◌≤◌, length, take, replicate};
 ghost use Rattle.ladder.specs.Exposure.{exposure_of, PositionLimits};
 ghost use Rattle.margin.specs.Margins.{curve_margin, currency_margin, has_currency, no_curve, assembled, MarginLimits, plus_curve, SumsLimits, PlacesLimits};
 
@@ -24,15 +24,11 @@ pub fn curve_margin(position: Position, ladder: &[u64]) -> CurveMargin
         &tables,
     );
     let base = total.sum;
-    let valued = ValuedPosition {
-        position: position,
-        base: base,
-    };
+    let valued = ValuedPosition { position, base };
     let worst = worst_of(valued, ladder, &tables);
-    let loss = worst.amount;
     CurveMargin {
-        base: base,
-        worstloss: loss,
+        base,
+        worstloss: worst.amount,
         scenario: worst.scenario,
         currency: position.currency,
         tolerance: total.tolerance,
@@ -62,20 +58,17 @@ impl Sums {
     }
 }
 
-// The figures of a currency, from those of the first count curves.
-pub fn currency_margin(currency: u64, curves: [CurveMargin; 8], count: usize) -> CurrencyMargin
-    requires { PlacesLimits curves count }
-    ensures { result ≡ currency_margin currency (take count curves) }
+// The figures of a currency, from those of the curves.
+pub fn currency_margin(currency: u64, curves: &[CurveMargin]) -> CurrencyMargin
+    requires { PlacesLimits curves.now (length curves.now) }
+    ensures { result ≡ currency_margin currency curves.now }
 {
     let mut t = Sums {
         initial: 0,
         variation: 0,
     };
-    let mut i: usize = 0;
-    while i < count {
-        let m = curves[i];
-        t = t.with_curve(currency, m);
-        i += 1;
+    for m in curves {
+        t = t.with_curve(currency, *m);
     }
     CurrencyMargin {
         initial: t.initial,
@@ -84,20 +77,12 @@ pub fn currency_margin(currency: u64, curves: [CurveMargin; 8], count: usize) ->
     }
 }
 
-// Whether one of the first count curves has the currency.
+// Whether one of the first count curves has the currency. The lines of page and listing pass the margin's eight places with their count.
 pub fn has_currency(curves: [CurveMargin; 8], count: usize, currency: u64) -> bool
     requires { count ≤ 8 }
     ensures { result ≡ has_currency currency (take count curves) }
 {
-    let mut i: usize = 0;
-    while i < count {
-        let m = curves[i];
-        if m.currency == currency {
-            return true;
-        }
-        i += 1;
-    }
-    false
+    curves[..count].iter().any(|m| m.currency == currency)
 }
 
 // The figures of a place with no curve.
@@ -114,33 +99,28 @@ pub fn no_curve() -> CurveMargin
 }
 
 // The first count places as they are, and 0 behind them.
-fn cleared(curves: [CurveMargin; 8], count: usize) -> [CurveMargin; 8]
+fn cleared(mut curves: [CurveMargin; 8], count: usize) -> [CurveMargin; 8]
     requires { count ≤ 8 }
     ensures { result ≡ take count curves ++ replicate (8 - count) no_curve }
 {
-    let mut r = curves;
-    let none = no_curve();
-    let mut i: usize = count;
-    while i < 8 {
-        r[i] = none;
-        i += 1;
-    }
-    r
+    curves[count..].fill(no_curve());
+    curves
 }
 
-// The margin of an account, from the figures of its curves: those in the first count places.
+// The margin of an account, from the figures of its curves: those in the first count places of the array that report fills.
 pub fn margin_of(account: u64, curves: [CurveMargin; 8], count: usize) -> Margin
     requires { PlacesLimits curves count }
     ensures { result ≡ assembled account (take count curves) }
 {
-    let lira = currency_margin(1, curves, count);
-    let dollar = currency_margin(2, curves, count);
-    let euro = currency_margin(3, curves, count);
-    let places = cleared(curves, count);
-    let currencies = [lira, dollar, euro];
+    let figures = &curves[..count];
+    let currencies = [
+        currency_margin(1, figures),
+        currency_margin(2, figures),
+        currency_margin(3, figures),
+    ];
     Margin {
-        account: account,
-        curves: places,
-        currencies: currencies,
+        account,
+        curves: cleared(curves, count),
+        currencies,
     }
 }

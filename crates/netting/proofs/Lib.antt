@@ -1,4 +1,3 @@
-pub mod Lifted
 pub mod Worths
 pub mod DaySums
 pub mod Sizes

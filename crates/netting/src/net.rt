@@ -10,7 +10,8 @@ pub fn net_with(net: i64, f: Flow) -> i64
 {
     let amount = f.amount as i64;
     if f.received {
-        return net + amount;
+        net + amount
+    } else {
+        net - amount
     }
-    net - amount
 }

@@ -9,30 +9,16 @@ const WHOLE: u64 = 2_147_483_648;
 
 const TWICE: u64 = 4_294_967_296;
 
-// 2^58, more than any net amount: with so much added, an amount below 0 is cut as one above it is.
-const LIFT: i64 = 288_230_376_151_711_744;
-
-// And how often WHOLE goes into it.
-const LIFTED: u64 = 134_217_728;
-
-// amount * factor / WHOLE, rounded down. The whole product does not fit a u64, so it is taken in parts.
-fn scaled(amount: u64, factor: u64) -> u64
-    requires { (amount ≤ 500_000_000_000_000_000) × (factor ≤ 2_147_483_648) }
-    ensures { result ≡ amount * factor / whole }
-{
-    2 * (amount / TWICE) * factor + amount % TWICE * factor / WHOLE
-}
-
 // What a net amount is worth at a cheap factor, rounded down.
 pub fn worth(net: i64, factor: u64) -> i64
     requires { (nat_abs net ≤ 140_000_000_000_000_000) × (factor ≤ 2_147_483_648) }
     ensures { result ≡ worth factor net }
 {
-    let lifted = scaled((net + LIFT) as u64, factor);
-    lifted as i64 - (LIFTED * factor) as i64
+    (i128::from(net) * i128::from(factor) >> 31) as i64
 }
 
 // How far a flow's part in the value of netted flows may be from its present value.
+#[tactic(auto, unfolding(crate::specs::Netting::deviation, crate::specs::Netting::moved, crate::specs::Netting::distance_up, cheap::specs::Cheap::whole, discount::specs::Discount::products, discount::specs::Discount::year))]
 pub fn deviation(amount: u64, day: u64) -> u64
     requires { (amount ≤ 1_000_000_000_000) × (day ≤ last_day) }
     ensures { result ≡ deviation amount day }

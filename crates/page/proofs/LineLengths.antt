@@ -17,6 +17,16 @@ use Rattle.text.proofs.Lines.{length-lines}
 use Rattle.page.specs.Line.{page_line, title_line, line_day, trade_left, trade_line, record_line}
 use Rattle.page.specs.LineLimits.{AmountFits, TradeLineLimits}
 
+-- ---- numbers of few digits, for the bounds of places
+
+pub one-place : (n : ℕ) → n < 10 → length (decimal_of n) ≤ 1
+one-place n h = length-below 0 n (omega arith)
+
+pub three-places : (n : ℕ) → n < 1000 → length (decimal_of n) ≤ 3
+three-places n h = length-below 2 n (omega arith)
+
+pub ruleset places = (length-decimal, one-place, three-places, length-blanks)
+
 -- ---- a line
 
 length-columns : (amounts : List ℤ) → All AmountFits amounts → length (flat_map amount_column amounts) ≡ 22 * length amounts

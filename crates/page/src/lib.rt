@@ -8,7 +8,7 @@ ghost use Rattle.std.specs.Prelude.{◌≡◌, ◌+◌, ◌*◌, ◌≤◌, leng
 ghost use mathlib.Core.List.{[], ◌∷◌, flat_map};
 ghost use Rattle.text.specs.Text.{lines_of, TextWritten};
 ghost use Rattle.text.specs.Columns.{amount_column};
-ghost use Rattle.page.specs.Page.{curve_left, curve_line, currency_line, currency_part, currency_part_of, one_if, currency_count, page_length};
+ghost use Rattle.page.specs.Page.{curve_left, curve_line, currency_line, currency_part_of, currency_count, page_length};
 ghost use Rattle.page.specs.Limits.{CurveLineLimits, CurveLinesLimits, CurrencyLinesLimits};
 
 use margin::margins::has_currency;
@@ -27,6 +27,7 @@ fn put_amounts(out: &mut [u8], at: usize, first: i64, second: i64, third: i64) -
     put_amount(out, last, third)
 }
 
+#[tactic(auto, using(crate::proofs::LineLengths::places))]
 fn put_curve_left(out: &mut [u8], at: usize, id: u64, m: CurveMargin) -> usize
     requires { (at + 81 ≤ length out.old) × ((id ≤ 8) × CurveLineLimits m) }
     ensures text_written { TextWritten out.old at (curve_left id m) out.new result }
@@ -59,34 +60,14 @@ fn put_currency_line(out: &mut [u8], at: usize, currency: u64, m: CurrencyMargin
     put_text(out, end, b"\n")
 }
 
-// The line of a currency that a curve has.
-fn put_currency_part(
-    out: &mut [u8],
-    at: usize,
-    has: bool,
-    currency: u64,
-    m: CurrencyMargin,
-) -> usize
-    requires { at + 81 * one_if has ≤ length out.old }
-    ensures { TextWritten out.old at (currency_part has currency m) out.new result }
-{
-    if has {
-        return put_currency_line(out, at, currency, m);
-    }
-    at
-}
-
-// The lines of the first count curves.
+// The lines of the first count curves. This and put_currencies stay two, as in listing: a trait for their lines is longer than these loops.
 pub fn put_curves(out: &mut [u8], at: usize, curves: [CurveMargin; 8], count: usize) -> usize
     requires { CurveLinesLimits count curves × (at + length (lines_of curve_line 1 (take count curves)) ≤ length out.old) }
     ensures { TextWritten out.old at (lines_of curve_line 1 (take count curves)) out.new result }
 {
     let mut next = at;
-    let mut i: usize = 0;
-    while i < count {
-        let m = curves[i];
-        next = put_curve(out, next, i as u64 + 1, m);
-        i += 1;
+    for (i, m) in curves[..count].iter().enumerate() {
+        next = put_curve(out, next, i as u64 + 1, *m);
     }
     next
 }
@@ -104,13 +85,11 @@ pub fn put_currencies(
     ensures { TextWritten out.old at (lines_of (currency_part_of (take count curves)) 1 currencies) out.new result }
 {
     let mut next = at;
-    let mut i: usize = 0;
-    while i < 3 {
+    for (i, m) in currencies.iter().enumerate() {
         let currency = i as u64 + 1;
-        let has = has_currency(curves, count, currency);
-        let m = currencies[i];
-        next = put_currency_part(out, next, has, currency, m);
-        i += 1;
+        if has_currency(curves, count, currency) {
+            next = put_currency_line(out, next, currency, *m);
+        }
     }
     next
 }

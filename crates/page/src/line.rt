@@ -20,6 +20,7 @@ pub fn put_title(out: &mut [u8], at: usize, account: u64) -> usize
     put_text(out, end, b"\n")
 }
 
+#[tactic(auto, unfolding(crate::specs::Line::line_day))]
 fn line_day(f: Fields) -> u64
     requires { TradeLineLimits f }
     ensures { result ≡ line_day f }
@@ -32,6 +33,7 @@ fn line_day(f: Fields) -> u64
     days.valueday2
 }
 
+#[tactic(auto, using(crate::proofs::LineLengths::places))]
 fn put_trade_left(out: &mut [u8], at: usize, position: u64, f: Fields) -> usize
     requires { (at + 81 ≤ length out.old) × TradeLineLimits f }
     ensures text_written { TextWritten out.old at (trade_left position f) out.new result }

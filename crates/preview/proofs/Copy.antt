@@ -5,9 +5,8 @@ use mathlib.Core.List.{List, ◌++◌}
 use native.Mathlib.Omega.{arith}
 use lib.ListN.{length, take, drop}
 use lib.Seq.{length-take-le}
-use Rattle.ground.specs.declared.Verdict.{Verdict}
-use Rattle.ground.specs.declared.Verdict.TheVariants.{Accepted}
-use Rattle.ground.specs.Verdicts.{bytes_after}
+use Rattle.std.specs.Prelude.{Ok}
+use Rattle.ground.specs.Verdicts.{Verdict, bytes_after}
 use Rattle.layout.specs.Bytes.{put, AreBytes}
 use Rattle.layout.proofs.Bytes.{length-put, part-put}
 use Rattle.book.specs.Verdict.{blocks_verdict}
@@ -56,11 +55,11 @@ module _ (room : List ℕ) (wide : length room ≡ 65536) (s : List ℕ) (used :
         added_is : u ≡ appended_book s r ++ rest
         added_is = added ∙ ap (λ (b : List ℕ). b ++ rest) same-appended
 
-        pub copy-accepted-with-record : blocks_verdict u n ≡ Accepted
+        pub copy-accepted-with-record : blocks_verdict u n ≡ Ok tt
         copy-accepted-with-record = rw (added_is, size ∙ ap length same-appended) (with-record-accepted s used bytes r long w rest)
 
         -- its report is the preview
-        module _ (day : ℕ) (ok : append_verdict s used day r ≡ Accepted) where
+        module _ (day : ℕ) (ok : append_verdict s used day r ≡ Ok tt) where
           same-margins : margin_in u ≡ margin_in (appended s used day r)
           same-margins =
               same-margin (appended s used day r) u (rw added_is (with-record s used bytes r long w rest ∙ sym (book-appended s used bytes r long day ok)))

@@ -6,43 +6,43 @@ use Prim.Native.Nat.{ℕ, ◌+◌, ◌%◌, ◌≤◌, ◌<◌}
 use native.Mathlib.Omega.{arith}
 use lib.ListN.{length, take}
 use lib.Seq.{take-take, length-take-le}
-use Rattle.ground.specs.declared.Ground.{Ground}
+use Rattle.std.specs.Prelude.{Err, Ok, Some}
 use Rattle.ground.specs.declared.Ground.TheVariants.{BookSpace}
-use Rattle.ground.specs.declared.Verdict.TheVariants.{Accepted, Refused}
+use Rattle.ground.specs.declared.Refusal.{Refusal}
+use Rattle.ground.specs.Verdicts.{refused}
 use Rattle.layout.specs.Bytes.{AreBytes}
 use Rattle.layout.proofs.Bytes.{bytes-part}
 use Rattle.book.specs.Parts.{curves_of, trade_count}
 use Rattle.book.specs.Verdict.{bytes_verdict}
 use Rattle.book.proofs.Accepted.{sound}
-use Rattle.acceptance.specs.declared.Today.TheVariants.{Given}
 use Rattle.acceptance.specs.Verdict.{book_verdict}
 use Rattle.edit.specs.Refusals.{block_of, append_verdict}
 use Rattle.edit.proofs.Given.{admitted, space-broken, record-refused, space-refused}
 use Rattle.preview.specs.Preview.{preview_verdict, preview_bytes}
 use Rattle.preview.proofs.Theorems.{refused-by-append, copy-previewed}
 
-module _ (s : List ℕ) (used day : ℕ) (r out : List ℕ) (ok : book_verdict s used (Given day) ≡ Accepted) where
+module _ (s : List ℕ) (used day : ℕ) (r out : List ℕ) (ok : book_verdict s used (Some day) ≡ Ok tt) where
   -- a record that breaks a rule is refused by it, in the block that it would take, however short the report space is
-  pub wrong-record : (g : Ground) (k : ℕ) → bytes_verdict (curves_of s) r (block_of s (trade_count s)) ≡ Refused g k
-      → (preview_verdict s used day r (length out) ≡ Refused g k) × (preview_bytes s used day r out ≡ out)
-  wrong-record g k e = refused-by-append s used day r out g k (record-refused s used day r ok g k e)
+  pub wrong-record : (refusal : Refusal) → bytes_verdict (curves_of s) r (block_of s (trade_count s)) ≡ Err refusal
+      → (preview_verdict s used day r (length out) ≡ Err refusal) × (preview_bytes s used day r out ≡ out)
+  wrong-record refusal e = refused-by-append s used day r out refusal (record-refused s used day r ok refusal e)
 
   -- a record that breaks none, where the last block is full or there is none
-  module _ (judged : bytes_verdict (curves_of s) r (block_of s (trade_count s)) ≡ Accepted) (full : trade_count s % 9 ≡ 0) where
+  module _ (judged : bytes_verdict (curves_of s) r (block_of s (trade_count s)) ≡ Ok tt) (full : trade_count s % 9 ≡ 0) where
     -- 15: the book has 128 blocks
-    pub no-block-left : used ≡ 65536 → (preview_verdict s used day r (length out) ≡ Refused BookSpace 0) × (preview_bytes s used day r out ≡ out)
+    pub no-block-left : used ≡ 65536 → (preview_verdict s used day r (length out) ≡ refused BookSpace 0) × (preview_bytes s used day r out ≡ out)
     no-block-left e =
-        refused-by-append s used day r out BookSpace 0
+        refused-by-append s used day r out _
         (space-refused s used day r ok judged (space-broken (trade_count s) used (length s) full (inl (omega arith))))
 
     -- 15: the lent bytes end before the new block does, though a copy would have room
-    pub no-block-lent : length s < used + 512 → (preview_verdict s used day r (length out) ≡ Refused BookSpace 0) × (preview_bytes s used day r out ≡ out)
+    pub no-block-lent : length s < used + 512 → (preview_verdict s used day r (length out) ≡ refused BookSpace 0) × (preview_bytes s used day r out ≡ out)
     no-block-lent l =
-        refused-by-append s used day r out BookSpace 0
+        refused-by-append s used day r out _
         (space-refused s used day r ok judged (space-broken (trade_count s) used (length s) full (inr l)))
 
 -- of the bytes lent, those past 65,536 make no difference
-pub longer-lent : (s : List ℕ) (used day : ℕ) (r out : List ℕ) → AreBytes s → length r ≡ 56 → append_verdict s used day r ≡ Accepted
+pub longer-lent : (s : List ℕ) (used day : ℕ) (r out : List ℕ) → AreBytes s → length r ≡ 56 → append_verdict s used day r ≡ Ok tt
     → (lent : ℕ) → 65536 ≤ lent → lent ≤ length s
     → (preview_verdict (take lent s) used day r (length out) ≡ preview_verdict s used day r (length out)) × (preview_bytes (take lent s) used day r out ≡ preview_bytes s used day r out)
 longer-lent s used day r out bytes long taken lent most within =

@@ -4,15 +4,13 @@ use Prim.Native.Nat.{ℕ, ◌≤◌, ◌<◌}
 use mathlib.Core.List.{List}
 use lib.ListN.{length, take}
 use borrow.Author.Tests.{lt-ltb}
-use Rattle.ground.specs.declared.Ground.{Ground}
+use Rattle.std.specs.Prelude.{Err, Ok, Some}
 use Rattle.ground.specs.declared.Ground.TheVariants.{ReportSpace}
-use Rattle.ground.specs.declared.Verdict.{Verdict}
-use Rattle.ground.specs.declared.Verdict.TheVariants.{Accepted, Refused}
-use Rattle.ground.specs.Verdicts.{bytes_after}
+use Rattle.ground.specs.declared.Refusal.{Refusal}
+use Rattle.ground.specs.Verdicts.{Verdict, refused, bytes_after}
 use Rattle.ground.specs.Space.{breaks_space}
 use Rattle.ground.proofs.Verdicts.{or_else-accepted}
 use Rattle.layout.specs.Bytes.{AreBytes}
-use Rattle.acceptance.specs.declared.Today.TheVariants.{Given}
 use Rattle.acceptance.specs.Verdict.{book_verdict}
 use Rattle.edit.specs.Refusals.{append_verdict}
 use Rattle.edit.specs.Edits.{appended, used_appended}
@@ -28,29 +26,29 @@ use Rattle.preview.specs.Previewed.{Previewed}
 
 module _ (s : List ℕ) (used day : ℕ) (r out : List ℕ) where
   -- refused by append: its ground and block, and nothing is written
-  pub refused-by-append : (g : Ground) (k : ℕ) → append_verdict s used day r ≡ Refused g k
-      → (preview_verdict s used day r (length out) ≡ Refused g k) × (preview_bytes s used day r out ≡ out)
+  pub refused-by-append : (refusal : Refusal) → append_verdict s used day r ≡ Err refusal
+      → (preview_verdict s used day r (length out) ≡ Err refusal) × (preview_bytes s used day r out ≡ out)
   unfolding preview_verdict preview_bytes
-  refused-by-append g k e = (rw e, rw e)
+  refused-by-append refusal e = (rw e, rw e)
 
   -- else what margin answers and writes after it
-  pub as-after-append : append_verdict s used day r ≡ Accepted
+  pub as-after-append : append_verdict s used day r ≡ Ok tt
       → (preview_verdict s used day r (length out) ≡ margin_verdict (appended s used day r) (used_appended s used day r) day (length out))
       × (preview_bytes s used day r out ≡ margin_bytes (appended s used day r) (used_appended s used day r) day out)
   unfolding preview_verdict preview_bytes
   as-after-append e = (rw e, rw e)
 
   -- the bytes that an accepted call leaves are within demand 3
-  pub preview-bounded : {v : Verdict} {after : List ℕ} → v ≡ preview_verdict s used day r (length out) → after ≡ preview_bytes s used day r out → v ≡ Accepted
+  pub preview-bounded : {v : Verdict} {after : List ℕ} → v ≡ preview_verdict s used day r (length out) → after ≡ preview_bytes s used day r out → v ≡ Ok tt
       → Bounded (appended s used day r) after
   unfolding preview_verdict
   preview-bounded e f h =
-      let both = or_else-accepted (append_verdict s used day r) (margin_verdict (appended s used day r) (used_appended s used day r) day (length out)) (sym e ∙ h) in
+      let both = or_else-accepted (append_verdict s used day r) (margin_verdict (appended s used day r) (used_appended s used day r) day (length out)) tt (sym e ∙ h) in
       demand-met (appended s used day r) (used_appended s used day r) day out (sym both.1) (f ∙ (as-after-append both.0).1) refl
 
-  module _ (bytes : AreBytes s) (long : length r ≡ 56) (ok : append_verdict s used day r ≡ Accepted) where
-    accepted-with-record : book_verdict (appended s used day r) (used_appended s used day r) (Given day) ≡ Accepted
-    accepted-with-record = appended-accepted s used bytes r long day ok (Given day) (append-book s used r day ok)
+  module _ (bytes : AreBytes s) (long : length r ≡ 56) (ok : append_verdict s used day r ≡ Ok tt) where
+    accepted-with-record : book_verdict (appended s used day r) (used_appended s used day r) (Some day) ≡ Ok tt
+    accepted-with-record = appended-accepted s used bytes r long day ok (Some day) (append-book s used r day ok)
 
     -- and that is up to the report space alone
     pub with-record-reported : (preview_verdict s used day r (length out) ≡ report_verdict (length out))
@@ -72,7 +70,7 @@ module _ (s : List ℕ) (used day : ℕ) (r out : List ℕ) where
         }
 
     -- 13 comes last
-    pub no-report-space : length out < 512 → (preview_verdict s used day r (length out) ≡ Refused ReportSpace 0) × (preview_bytes s used day r out ≡ out)
+    pub no-report-space : length out < 512 → (preview_verdict s used day r (length out) ≡ refused ReportSpace 0) × (preview_bytes s used day r out ≡ out)
     unfolding breaks_space
     no-report-space short =
         let e = lt-ltb (length out) 512 short in
@@ -84,7 +82,7 @@ module _ (s : List ℕ) (used day : ℕ) (r out : List ℕ) where
     unfolding preview_verdict preview_bytes
     copy-previewed t copy-bytes same wide =
         let taken = copy-takes s t used day r bytes ok same wide in
-        let accepted-copy = appended-accepted t used copy-bytes r long day taken (Given day) (append-book t used r day taken) in
+        let accepted-copy = appended-accepted t used copy-bytes r long day taken (Some day) (append-book t used r day taken) in
         let reports = same-report (appended s used day r) (appended t used day r) (used_appended s used day r) (used_appended t used day r) day out
         accepted-with-record accepted-copy (copy-appended s t used day r bytes ok same wide copy-bytes long) in
         (rw (ok, taken) reports.0, rw (ok, taken) reports.1)

@@ -1,7 +1,6 @@
 -- The report of a book with one more trade, the book not written (document 02, wish 2): what append and margin themselves answer and write.
 use Rattle.std.specs.Prelude.{ℕ, List}
-use Rattle.ground.specs.declared.Verdict.{Verdict}
-use Rattle.ground.specs.Verdicts.{or_else, bytes_after}
+use Rattle.ground.specs.Verdicts.{Verdict, or_else, bytes_after}
 use Rattle.edit.specs.Refusals.{append_verdict}
 use Rattle.edit.specs.Edits.{appended, used_appended}
 use Rattle.report.specs.Entry.{margin_verdict, margin_bytes}

@@ -5,7 +5,7 @@
 ghost use Rattle.std.specs.Prelude.{◌≡◌};
 ghost use Rattle.edit.specs.Edits.{found};
 
-use edit::Found;
+use ground::Refusal;
 
 #[derive(Clone, Copy)]
 pub struct Reader<'a> {
@@ -21,14 +21,14 @@ pub fn new<'a>(book: &'a [u8], position: usize) -> Reader<'a>
 }
 
 // The record that the reader stands at, in the book of a used length.
-pub fn current<'a>(r: Reader<'a>, used: usize) -> Found
+pub fn current<'a>(r: Reader<'a>, used: usize) -> Result<[u8; 56], Refusal>
     ensures { result ≡ found r.entry.book.now used r.entry.position }
 {
     edit::read(r.book, used, r.position)
 }
 
 // What a reader at a position finds.
-pub fn read_at(book: &[u8], used: usize, position: usize) -> Found
+pub fn read_at(book: &[u8], used: usize, position: usize) -> Result<[u8; 56], Refusal>
     ensures { result ≡ found book.now used position }
 {
     current(new(book, position), used)

@@ -1,5 +1,5 @@
-// The rules 8 to 11 on a record: for each a function of its fields that answers whether it is broken, in straight-line code over bools.
-ghost use Rattle.std.specs.Prelude.{◌≡◌, cond, ◌-◌, ◌≤◌};
+// The rules 8 to 11 on a record: for each a function of its fields that answers whether it is broken.
+ghost use Rattle.std.specs.Prelude.{◌≡◌, ◌≤◌};
 ghost use Rattle.ground.specs.Limits.{last_day};
 ghost use Rattle.record.specs.Uses.{in_limits, used_in_limits, asked, is_outright, is_pool, is_specified, has_settled, has_security, has_coupons, is_indexed, last_payment_day};
 ghost use Rattle.record.specs.Rules.{phase_fits, security_fits, curves_fit, breaks_form};
@@ -13,19 +13,17 @@ use ground::LAST_DAY;
 fn in_limits(least: u64, x: u64, most: u64) -> bool
     ensures { result ≡ in_limits least x most }
 {
-    (least <= x) & (x <= most)
-}
-
-fn pick(test: bool, yes: bool, no: bool) -> bool
-    ensures { result ≡ cond test yes no }
-{
-    test & yes | !test & no
+    (least..=most).contains(&x)
 }
 
 fn used_in_limits(used: bool, least: u64, x: u64, most: u64) -> bool
     ensures { result ≡ used_in_limits used least x most }
 {
-    pick(used, in_limits(least, x, most), x == 0)
+    if used {
+        in_limits(least, x, most)
+    } else {
+        x == 0
+    }
 }
 
 fn asked(used: bool, rule: bool) -> bool
@@ -61,7 +59,7 @@ pub fn has_settled(kind: u64, phase: u64) -> bool
 pub fn has_security(security: u64) -> bool
     ensures { result ≡ has_security security }
 {
-    !(security == 0)
+    security != 0
 }
 
 fn has_coupons(security: u64) -> bool
@@ -99,6 +97,7 @@ fn curves_fit(count: u64, f: Form) -> bool
         & used_in_limits(has_security(f.security), 1, f.securitycurve, count)
 }
 
+#[tactic(auto, unfolding(crate::specs::Rules::breaks_form))]
 pub fn breaks_form(curves: Curves, f: Form) -> bool
     ensures { result ≡ breaks_form curves f }
 {
@@ -116,19 +115,12 @@ fn in_reach(day: u64) -> bool
     day <= LAST_DAY
 }
 
-// The difference, 0 where it would be negative.
-fn minus(a: u64, b: u64) -> u64
-    ensures { result ≡ a - b }
-{
-    if b <= a { a - b } else { 0 }
-}
-
 fn legs_ahead(d: Days) -> bool
     ensures { result ≡ legs_ahead d }
 {
     in_limits(1, d.term, 730)
         & (d.valueday1 < d.valueday2)
-        & (minus(d.valueday2, d.valueday1) == d.term)
+        & (d.valueday2.saturating_sub(d.valueday1) == d.term)
         & in_reach(d.valueday2)
 }
 
@@ -141,25 +133,24 @@ fn second_leg_ahead(d: Days) -> bool
 fn value_days_fit(f: Form, d: Days) -> bool
     ensures { result ≡ value_days_fit f d }
 {
-    pick(
-        is_outright(f.kind),
-        in_reach(d.valueday1),
-        pick(
-            has_settled(f.kind, f.phase),
-            second_leg_ahead(d),
-            legs_ahead(d),
-        ),
-    )
+    if is_outright(f.kind) {
+        in_reach(d.valueday1)
+    } else if has_settled(f.kind, f.phase) {
+        second_leg_ahead(d)
+    } else {
+        legs_ahead(d)
+    }
 }
 
 fn first_payment_fits(f: Form, d: Days) -> bool
     ensures { result ≡ first_payment_fits f d }
 {
-    pick(
-        has_settled(f.kind, f.phase),
-        0 < d.first,
-        d.valueday1 < d.first,
-    ) & in_reach(d.first)
+    let ahead = if has_settled(f.kind, f.phase) {
+        0 < d.first
+    } else {
+        d.valueday1 < d.first
+    };
+    ahead & in_reach(d.first)
 }
 
 fn counts_fit(period: u64, payments: u64) -> bool
@@ -172,22 +163,19 @@ pub fn last_payment_day(first: u64, period: u64, payments: u64) -> u64
     requires { (first ≤ last_day) × ((period ≤ 366) × (payments ≤ 120)) }
     ensures { result ≡ last_payment_day first period payments }
 {
-    first + minus(payments, 1) * period
+    first + payments.saturating_sub(1) * period
 }
 
 // The days are added only where they are known to fit.
 fn coupon_days_fit(first: u64, period: u64, payments: u64) -> bool
     ensures { result ≡ coupon_days_fit first period payments }
 {
-    if !counts_fit(period, payments) {
-        return false;
-    }
-    if !in_reach(first) {
-        return false;
-    }
-    in_reach(last_payment_day(first, period, payments))
+    counts_fit(period, payments)
+        && in_reach(first)
+        && in_reach(last_payment_day(first, period, payments))
 }
 
+#[tactic(auto, unfolding(crate::specs::Rules::breaks_days))]
 pub fn breaks_days(f: Form, d: Days) -> bool
     ensures { result ≡ breaks_days f d }
 {
@@ -213,6 +201,7 @@ fn unused_days_fit(f: Form, d: Days) -> bool
         )
 }
 
+#[tactic(auto, unfolding(decimal::specs::Product::unit))]
 fn principals_fit(f: Form, a: Amounts) -> bool
     ensures { result ≡ principals_fit f a }
 {
@@ -223,11 +212,11 @@ fn principals_fit(f: Form, a: Amounts) -> bool
 fn price_fits(f: Form, a: Amounts) -> bool
     ensures { result ≡ price_fits f a }
 {
-    pick(
-        is_outright(f.kind),
-        in_limits(1, a.price, 4_000_000),
-        a.price <= 1_000_000,
-    )
+    if is_outright(f.kind) {
+        in_limits(1, a.price, 4_000_000)
+    } else {
+        a.price <= 1_000_000
+    }
 }
 
 fn coupons_fit(f: Form, a: Amounts) -> bool
@@ -244,6 +233,7 @@ fn indices_fit(f: Form, a: Amounts) -> bool
         & used_in_limits(is_indexed(f.security), 1, a.issue, 10_000_000)
 }
 
+#[tactic(auto, unfolding(crate::specs::Rules::breaks_amounts))]
 pub fn breaks_amounts(f: Form, d: Days, a: Amounts) -> bool
     ensures { result ≡ breaks_amounts f d a }
 {
@@ -262,15 +252,15 @@ fn currency_of_id(curves: Curves, id: u64) -> u64
     ensures { result ≡ currency_of_id curves id }
 {
     if in_limits(1, id, 8) {
-        let at = (id - 1) as usize;
-        return curves.currency[at];
+        return curves.currency[(id - 1) as usize];
     }
     0
 }
 
+#[tactic(auto, unfolding(crate::specs::Rules::breaks_currency))]
 pub fn breaks_currency(curves: Curves, f: Form) -> bool
     ensures { result ≡ breaks_currency curves f }
 {
     has_security(f.security)
-        & !(currency_of_id(curves, f.securitycurve) == currency_of_id(curves, f.cashcurve))
+        & (currency_of_id(curves, f.securitycurve) != currency_of_id(curves, f.cashcurve))
 }

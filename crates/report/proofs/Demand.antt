@@ -5,14 +5,13 @@ use Prim.Native.Nat.{ℕ, zero, suc, ◌+◌, ◌≤◌}
 use native.Mathlib.Omega.{arith}
 use borrow.Author.Tests.{le-ltb}
 use lib.ListN.{length, drop}
+use Rattle.std.specs.Prelude.{Ok, Some}
 use Rattle.laws.specs.All.{All}
 use Rattle.laws.specs.Walk.{table}
 use Rattle.laws.proofs.Signed.{fits}
-use Rattle.ground.specs.declared.Ground.TheVariants.{ReportSpace}
-use Rattle.ground.specs.declared.Verdict.{Verdict}
-use Rattle.ground.specs.declared.Verdict.TheVariants.{Accepted}
+use Rattle.ground.specs.Verdicts.{Verdict}
 use Rattle.ground.specs.Space.{breaks_space}
-use Rattle.ground.proofs.Verdicts.{unless-accepted, or_else-accepted}
+use Rattle.ground.proofs.Verdicts.{or_else-accepted}
 use Rattle.decimal.specs.Product.{unit}
 use Rattle.curve.specs.Limits.{NodeLimits}
 use Rattle.curve.proofs.Rates.{each-limits}
@@ -27,7 +26,6 @@ use Rattle.report_block.specs.Report.{report_bytes}
 use Rattle.report_block.specs.Shown.{curve_shown, currency_shown, shown_initial, CurveFits, CurrencyFits}
 use Rattle.report_block.proofs.Shown.{curve-shown, currency-shown}
 use Rattle.exposure.specs.Exposures.{exposure_at, exposures}
-use Rattle.acceptance.specs.declared.Today.TheVariants.{Given}
 use Rattle.acceptance.specs.Verdict.{book_verdict}
 use Rattle.acceptance.proofs.Laws.{book-accepted}
 use Rattle.report.specs.Entry.{margin_in, report_verdict, margin_verdict, margin_bytes}
@@ -99,15 +97,15 @@ module _ (s : List ℕ) (used : ℕ) (b : Sound s used) where
 
 -- For every book that is accepted "with the day that margin was given", and every report space of 512 bytes, what margin writes there is bounded by
 -- the exact values
-pub demand : (s : List ℕ) (used day : ℕ) (out : List ℕ) → book_verdict s used (Given day) ≡ Accepted → 512 ≤ length out → Bounded s (margin_bytes s used day out)
+pub demand : (s : List ℕ) (used day : ℕ) (out : List ℕ) → book_verdict s used (Some day) ≡ Ok tt → 512 ≤ length out → Bounded s (margin_bytes s used day out)
 unfolding margin_bytes margin_verdict breaks_space
 demand s used day out e h =
-    rw (e, le-ltb (length out) 512 h) (report-bounded s used (sound s used (book-accepted s used (Given day) e).blocks) (drop 512 out))
+    rw (e, le-ltb (length out) 512 h) (report-bounded s used (sound s used (book-accepted s used (Some day) e).blocks) (drop 512 out))
 
 -- so are the bytes that an accepted call leaves
 pub demand-met : (s : List ℕ) (used day : ℕ) (out : List ℕ) {r : Verdict} {after : List ℕ} → r ≡ margin_verdict s used day (length out) → after ≡ margin_bytes s used day out
-    → r ≡ Accepted → Bounded s after
+    → r ≡ Ok tt → Bounded s after
 unfolding margin_verdict
 demand-met s used day out e f h =
-    let both = or_else-accepted (book_verdict s used (Given day)) (report_verdict (length out)) (sym e ∙ h) in
-    rw f (demand s used day out both.0 (space s out (unless-accepted (breaks_space 512 (length out)) ReportSpace 0 Accepted both.1).0))
+    let both = or_else-accepted (book_verdict s used (Some day)) (report_verdict (length out)) tt (sym e ∙ h) in
+    rw f (demand s used day out both.0 (space s out both.1))

@@ -1,10 +1,8 @@
 -- The margin entry: its answer, and every lent byte afterwards (document 01, "Margin" and ground 13).
-use Rattle.std.specs.Prelude.{List, ◌++◌, ℕ, length, drop}
-use Rattle.ground.specs.declared.Verdict.{Verdict}
-use Rattle.ground.specs.Verdicts.{or_else, bytes_after}
+use Rattle.std.specs.Prelude.{List, ◌++◌, ℕ, length, drop, Some}
+use Rattle.ground.specs.Verdicts.{Verdict, or_else, bytes_after}
 use Rattle.ground.specs.Space.{space_verdict}
 use Rattle.book.specs.Parts.{header_of}
-use Rattle.acceptance.specs.declared.Today.TheVariants.{Given}
 use Rattle.acceptance.specs.Verdict.{book_verdict}
 use Rattle.margin.specs.declared.Margin.{Margin}
 use Rattle.margin.specs.Margins.{margin_of}
@@ -21,7 +19,7 @@ report_verdict space = space_verdict 512 space
 
 -- given the day: the whole-book check, then 13
 unfoldable pub margin_verdict : List ℕ → ℕ → ℕ → ℕ → Verdict
-margin_verdict s used day space = or_else (book_verdict s used (Given day)) (report_verdict space)
+margin_verdict s used day space = or_else (book_verdict s used (Some day)) (report_verdict space)
 
 -- the report in the first 512 bytes, "bytes past it kept"
 abbrev pub reported : List ℕ → List ℕ → List ℕ

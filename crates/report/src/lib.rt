@@ -2,7 +2,6 @@
 #![tactic(auto)]
 
 ghost use Rattle.std.specs.Prelude.{◌≡◌, ◌*◌, ◌≤◌, length};
-ghost use Rattle.ground.specs.declared.Verdict.TheVariants.{Accepted};
 ghost use Rattle.ground.specs.Verdicts.{bytes_after};
 ghost use Rattle.book.specs.Parts.{curve_count, trade_count};
 ghost use Rattle.book.specs.Verdict.{StartsWithBook};
@@ -11,9 +10,8 @@ ghost use Rattle.exposure.specs.Exposures.{exposure_at};
 ghost use Rattle.report.specs.Bounded.{Bounded};
 ghost use Rattle.report.specs.Entry.{margin_in, report_verdict, margin_verdict, reported, margin_bytes};
 
-use acceptance::Today;
 use book::parts;
-use ground::{Ground, Verdict};
+use ground::{Ground, Refusal, breaks_space, refuse_if};
 use ladder::Position;
 use margin::{CurveMargin, Margin};
 
@@ -22,16 +20,15 @@ fn curve_figures(book: &[u8], curve: usize, ladder: &mut [u64]) -> CurveMargin
     requires { StartsWithBook book.now × (1 ≤ curve) × (curve ≤ curve_count book.now) × (trade_count book.now * 18 ≤ length ladder.old) }
     ensures { result ≡ curve_margin (exposure_at book.now curve) }
 {
-    let n = exposure::gather(book, curve as u64, ladder);
+    let id = curve as u64;
+    let schedules = exposure::gather(book, id, ladder);
     let b = parts::block_at(book, curve);
-    let currency = curve_block::currency_of(b);
-    let components = exposure::components_at(book, curve);
     let position = Position {
-        id: curve as u64,
-        currency: currency,
+        id,
+        currency: curve_block::currency_of(b),
         curve: curve_block::curve_of(b),
-        components: components,
-        schedules: n,
+        components: exposure::components_at(book, curve),
+        schedules,
     };
     margin::margins::curve_margin(position, ladder)
 }
@@ -43,11 +40,8 @@ fn margin_with(book: &[u8], ladder: &mut [u64]) -> Margin
 {
     let count = parts::curve_count(book);
     let mut curves = [margin::margins::no_curve(); 8];
-    let mut k: usize = 0;
-    while k < count {
-        let m = curve_figures(book, k + 1, ladder);
-        curves[k] = m;
-        k += 1;
+    for k in 0..count {
+        curves[k] = curve_figures(book, k + 1, ladder);
     }
     margin::margins::margin_of(parts::account(book), curves, count)
 }
@@ -66,27 +60,22 @@ pub fn margin_of_book(book: &[u8]) -> Margin
 }
 
 // Writes the report of an accepted book, where there is space for it.
-pub fn fill_report(book: &[u8], out: &mut [u8]) -> Verdict
+pub fn fill_report(book: &[u8], out: &mut [u8]) -> Result<(), Refusal>
     requires { StartsWithBook book.now }
     ensures value { result ≡ report_verdict (length out.old) }
     ensures out_after { out.new ≡ bytes_after (report_verdict (length out.old)) out.old (reported book.now out.old) }
 {
-    if ground::breaks_space(512, out.len()) {
-        return Verdict::Refused(Ground::ReportSpace, 0);
-    }
+    refuse_if(ground::breaks_space(512, out.len()), Ground::ReportSpace, 0)?;
     report_block::write_report(out, margin_of_book(book));
-    Verdict::Accepted
+    Ok(())
 }
 
 // Writes the report of a book's margin, or answers the first ground that applies and writes nothing, given the current day. Takes every input.
-pub fn margin(book: &[u8], used: usize, day: u64, out: &mut [u8]) -> Verdict
+pub fn margin(book: &[u8], used: usize, day: u64, out: &mut [u8]) -> Result<(), Refusal>
     ensures value { result ≡ margin_verdict book.now used day (length out.old) }
     ensures out_after { out.new ≡ margin_bytes book.now used day out.old }
-    ensures bounded { result ≡ Accepted → Bounded book.now out.new }
+    ensures bounded { result ≡ Ok tt → Bounded book.now out.new }
 {
-    let v = acceptance::check(book, used, Today::Given(day));
-    match v {
-        Verdict::Refused(g, k) => Verdict::Refused(g, k),
-        Verdict::Accepted => fill_report(book, out),
-    }
+    acceptance::check(book, used, Some(day))?;
+    fill_report(book, out)
 }

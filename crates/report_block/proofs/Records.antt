@@ -30,11 +30,6 @@ pub record RecordsLeft {A : Type 0} (f : A → List ℕ) (w : ℕ) (s : List ℕ
 
 module _ {A : Type 0} (f : A → List ℕ) (w : ℕ) (long : (x : A) → length (f x) ≡ w) where
   module _ (s : List ℕ) (at : ℕ) (xs : List A) (n : ℕ) where
-    pub records-all : length xs ≡ n → RecordsLeft f w s at xs n s 0
-    records-all e =
-        let start : at + w * 0 ≡ at = omega arith in
-        record { most = omega arith; count = e; lent = refl; bytes = rw start refl }
-
     pub records-next : {t u : List ℕ} {i : ℕ} (d : A) → RecordsLeft f w s at xs n t i → i < n → u ≡ put t (at + w * i) (f (get_or xs i d)) → RecordsLeft f w s at xs n u (i + 1)
     unfolding flat_map
     records-next {t} {u} {i} d h l e =

@@ -30,15 +30,13 @@ fn put_currency(out: &mut [u8], at: usize, m: CurrencyMargin)
     put_signed(out, at + 16, 8, m.total);
 }
 
+// The curves' records, and below the currencies': a trait over both would be longer than the two loops.
 fn put_curves(out: &mut [u8], curves: [CurveMargin; 8])
     requires { 512 ≤ length out.old }
     ensures { out.new ≡ put out.old 8 (flat_map curve_bytes curves) }
 {
-    let mut i: usize = 0;
-    while i < 8 {
-        let m = curves[i];
-        put_curve(out, 8 + 32 * i, m);
-        i += 1;
+    for (i, m) in curves.iter().enumerate() {
+        put_curve(out, 8 + 32 * i, *m);
     }
 }
 
@@ -46,11 +44,8 @@ fn put_currencies(out: &mut [u8], currencies: [CurrencyMargin; 3])
     requires { 512 ≤ length out.old }
     ensures { out.new ≡ put out.old 264 (flat_map currency_bytes currencies) }
 {
-    let mut i: usize = 0;
-    while i < 3 {
-        let m = currencies[i];
-        put_currency(out, 264 + 24 * i, m);
-        i += 1;
+    for (i, m) in currencies.iter().enumerate() {
+        put_currency(out, 264 + 24 * i, *m);
     }
 }
 
@@ -59,12 +54,10 @@ fn put_fields(out: &mut [u8], m: Margin)
     requires { 512 ≤ length out.old }
     ensures { out.new ≡ put out.old 0 (field_bytes m) }
 {
-    let curves = m.curves;
-    let currencies = m.currencies;
     put_le(out, 0, 4, 9);
     put_le(out, 4, 4, m.account);
-    put_curves(out, curves);
-    put_currencies(out, currencies);
+    put_curves(out, m.curves);
+    put_currencies(out, m.currencies);
     put_le(out, 336, 176, 0);
 }
 

@@ -1,12 +1,10 @@
 -- Values lowered one by one, and what that makes of the cheap values of mapped amounts.
-use mathlib.Core.Path.{◌≡◌, refl, ◌∙◌}
+use mathlib.Core.Path.{◌≡◌, ◌∙◌}
 use mathlib.Core.List.{List, map}
-use Prim.Native.Nat.{ℕ, ◌+◌, ◌≤◌, ◌<◌}
+use Prim.Native.Nat.{ℕ, ◌≤◌, ◌<◌}
 use native.Mathlib.Omega.{arith}
-use borrow.Author.Count.{below_more}
 use lib.IntN.{ℤ, pos, neg_ℤ, nat_abs, ◌-ℤ◌}
-use lib.ListN.{length, get_or, set, length-set}
-use lib.Seq.{get_or-set_same, get_or-set_other}
+use lib.ListN.{length, get_or}
 use lib.Signed.{◌≤ℤ◌}
 use Rattle.laws.specs.Distance.{Below}
 use Rattle.laws.proofs.Integer.{int, plus, up_pos, down_pos, up_neg, down-neg}
@@ -30,25 +28,6 @@ pub record Lowering (spare : ℕ) (values₀ values : List ℤ) (n : ℕ) : Type
   pub places : length values ≡ length values₀
   pub done : Lowered spare values₀ values n
   pub rest : (s : ℕ) → n ≤ s → get_or values s (pos 0) ≡ get_or values₀ s (pos 0)
-
-module _ (spare : ℕ) (values₀ : List ℤ) where
-  pub lowering-none : Lowering spare values₀ values₀ 0
-  lowering-none = record { places = refl; done = record { each = λ s k. absurd (omega arith) }; rest = λ s k. refl }
-
-  pub lowering-next : (values : List ℤ) (n : ℕ) → Lowering spare values₀ values n → n < length values₀ → (z : ℤ) → z ≡ get_or values n (pos 0) -ℤ pos spare
-      → Lowering spare values₀ (set values n z) (n + 1)
-  lowering-next values n h k z e =
-      record {
-        places = length-set values n z ∙ h.places;
-        done =
-            record {
-              each =
-                  below_more _ n
-                  (λ s l. get_or-set_other values n s z (pos 0) (λ q. absurd (omega arith)) ∙ h.done.each s l)
-                  (get_or-set_same values n z (pos 0) (omega (arith, h.places)) ∙ (rw (h.rest n (omega arith)) at e));
-            };
-        rest = λ s l. get_or-set_other values n s z (pos 0) (λ q. absurd (omega arith)) ∙ h.rest s (omega arith);
-      }
 
 -- ---- how large cheap values are
 

@@ -1,5 +1,5 @@
 -- Refined estimates: none is above its scenario's value from every day, and each is at least that of some scenario.
-use mathlib.Core.Path.{◌≡◌, refl, ◌∙◌}
+use mathlib.Core.Path.{◌≡◌, refl, sym, ◌∙◌}
 use mathlib.Core.Bool.{Bool, true, false, cond}
 use mathlib.Core.List.{List}
 use Prim.Native.Nat.{ℕ, ◌+◌, ◌≤◌, ◌<◌}
@@ -42,9 +42,6 @@ module _ (c : Curve) (x : Components) (nets : List ℤ) where
       pub rest : (s : ℕ) → n ≤ s → get_or values s (pos 0) ≡ get_or values₀ s (pos 0)
 
     module _ (values₀ : List ℤ) where
-      pub refining-none : Refining values₀ values₀ 0
-      refining-none = record { places = refl; done = λ s k. absurd (omega arith); rest = λ s k. refl }
-
       pub refining-next : (values : List ℤ) (n : ℕ) → Refining values₀ values n → n < length values₀ → (z : ℤ) → z ≡ refined_value c x nets limit n (get_or values n (pos 0))
           → Refining values₀ (set values n z) (n + 1)
       refining-next values n h k z e =
@@ -55,6 +52,16 @@ module _ (c : Curve) (x : Components) (nets : List ℤ) where
                 (λ s l. get_or-set_other values n s z (pos 0) (λ q. absurd (omega arith)) ∙ h.done s l)
                 (get_or-set_same values n z (pos 0) (omega (arith, h.places)) ∙ (rw (h.rest n (omega arith)) at e));
             rest = λ s l. get_or-set_other values n s z (pos 0) (λ q. absurd (omega arith)) ∙ h.rest s (omega arith);
+          }
+
+      -- one above the limit stays
+      pub refining-left : (values : List ℤ) (n : ℕ) → Refining values₀ values n → le_z (get_or values n (pos 0)) limit ≡ false → Refining values₀ values (n + 1)
+      refining-left values n h e =
+          let same = h.rest n (omega arith) in
+          record {
+            places = h.places;
+            done = below_more _ n h.done (same ∙ sym (refined-left n _ (rw same at e)));
+            rest = λ s l. h.rest s (omega arith);
           }
 
       -- the limit is some scenario's value

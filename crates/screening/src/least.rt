@@ -8,12 +8,10 @@ pub fn least_of(values: &[i64], n: u64) -> u64
     ensures { Least values.now n result }
 {
     let mut least: u64 = 0;
-    let mut s: u64 = 1;
-    while s < n {
+    for s in 1..n {
         if values[s as usize] < values[least as usize] {
             least = s;
         }
-        s += 1;
     }
     least
 }

@@ -25,11 +25,8 @@ fn lower(values: &mut [i64], n: u64, spare: u64)
     ensures kept { length values.new ≡ length values.old }
     ensures each { Lowered spare values.old values.new n }
 {
-    let mut s: u64 = 0;
-    while s < n {
-        let at = s as usize;
-        values[at] = lowered(values[at], spare);
-        s += 1;
+    for value in values[..n as usize].iter_mut() {
+        *value = lowered(*value, spare);
     }
 }
 

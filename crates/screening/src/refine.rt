@@ -29,14 +29,10 @@ pub fn refine(
     let n = components.scenario_count();
     let least = least_of(values, n);
     let limit = value_in(curve, components.scenario(least), &ends, days, nets, tables);
-    let mut s: u64 = 0;
-    while s < n {
+    for s in 0..n {
         let at = s as usize;
-        let mut v = values[at];
-        if v <= limit {
-            v = value_in(curve, components.scenario(s), &ends, days, nets, tables);
+        if values[at] <= limit {
+            values[at] = value_in(curve, components.scenario(s), &ends, days, nets, tables);
         }
-        values[at] = v;
-        s += 1;
     }
 }

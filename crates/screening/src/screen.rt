@@ -22,13 +22,10 @@ fn outer(x: Component) -> Component
     requires { ComponentLimits x }
     ensures { ComponentLimits result }
 {
-    if 1 < x.steps {
-        return Component {
-            steps: 1,
-            range: x.range,
-        };
+    Component {
+        steps: x.steps.min(1),
+        ..x
     }
-    x
 }
 
 // The outermost scenarios.
@@ -36,13 +33,10 @@ fn outermost(components: Components) -> Components
     requires { ProperComponents components }
     ensures { ProperComponents result }
 {
-    let first = outer(components.first);
-    let second = outer(components.second);
-    let third = outer(components.third);
     Components {
-        first: first,
-        second: second,
-        third: third,
+        first: outer(components.first),
+        second: outer(components.second),
+        third: outer(components.third),
     }
 }
 
@@ -51,15 +45,8 @@ fn kept_of(values: &[i64], n: u64, limit: i64) -> u64
     requires { n ≤ length values.now }
     ensures { result ≤ n }
 {
-    let mut kept: u64 = 0;
-    let mut s: u64 = 0;
-    while s < n {
-        if values[s as usize] <= limit {
-            kept += 1;
-        }
-        s += 1;
-    }
-    kept
+    let values = &values[..n as usize];
+    values.iter().filter(|v| **v <= limit).count() as u64
 }
 
 // Whether mapped amounts pay: they are on few days, and rule out half of the outermost scenarios or more. Nothing rests on it but time. The values are
@@ -102,28 +89,20 @@ fn screen_mapped(
     ensures kept { length values.new ≡ length values.old }
     ensures each { Screened curve components nets.now values.new }
 {
-    if !pays(curve, components, days, nets, tables, spare, values) {
+    if pays(curve, components, days, nets, tables, spare, values)
+        && low_values(curve, components, days, nets, tables, spare, values)
+    {
+        refine(curve, components, days, nets, tables, values);
+    } else {
         fill_values(curve, components, days, nets, tables, values);
-        return;
     }
-    if !low_values(curve, components, days, nets, tables, spare, values) {
-        fill_values(curve, components, days, nets, tables, values);
-        return;
-    }
-    refine(curve, components, days, nets, tables, values);
 }
 
 // Whether a curve with so many scenarios, days and amounts is one to map. Only the size of the amounts is a rule: what is mapped fits 64 bits.
 fn mappable(scenarios: u64, days: usize, size: u64) -> bool
     ensures { result ≡ true → size ≤ most_mapped }
 {
-    if 139_000_000_000_000_000 < size {
-        return false;
-    }
-    if scenarios < 100 {
-        return false;
-    }
-    300 < days
+    size <= 139_000_000_000_000_000 && 100 <= scenarios && 300 < days
 }
 
 // An estimate of each scenario.

@@ -1,17 +1,15 @@
 -- Number 0 is done and nothing else: no ground has it, and the two numbers (with the tolerance) then give the whole answer back.
 use mathlib.Core.Path.{◌≡◌, refl}
-use Prim.Native.Nat.{◌<◌}
+use Prim.Native.Nat.{ℕ, ◌<◌}
 use native.Mathlib.Omega.{arith}
 use lib.Dec.{lit<}
+use Rattle.std.specs.Prelude.{Result, Ok, Err}
 use Rattle.ground.specs.Number.{number_of}
 use Rattle.ground.specs.declared.Ground.{Ground}
 use Rattle.ground.specs.declared.Ground.TheVariants.{Length, Check, Place, Header, Curve, Node, TradeBlock, Form, Days, Amounts, Currency, FlowLimit, ReportSpace, Position, BookSpace, ValueRange, CurveEnd, RateRange, ValuationDay}
-use Rattle.ground.specs.declared.Verdict.{Verdict}
-use Rattle.ground.specs.declared.Verdict.TheVariants as verdict
-use Rattle.ground.specs.declared.Written.{Written}
-use Rattle.ground.specs.declared.Written.TheVariants as written
-use Rattle.discount.specs.declared.entry.Valued.{Valued}
-use Rattle.discount.specs.declared.entry.Valued.TheVariants as valued
+use Rattle.ground.specs.declared.Refusal.{Refusal}
+use Rattle.ground.specs.Verdicts.{Verdict}
+use Rattle.discount.specs.declared.entry.Worth.{Worth}
 use Rattle.seddolki.specs.Answers.{verdict_answer, written_answer, valued_answer, valued_tolerance}
 
 pub number-above-zero : (g : Ground) → 0 < number_of g
@@ -35,14 +33,14 @@ number-above-zero CurveEnd = lit< tt
 number-above-zero RateRange = lit< tt
 number-above-zero ValuationDay = lit< tt
 
-pub done-accepted : (v : Verdict) → (verdict_answer v).number ≡ 0 → v ≡ verdict.Accepted
-done-accepted verdict.Accepted done = refl
-done-accepted (verdict.Refused g block) done = absurd (omega (arith, number-above-zero g))
+pub done-accepted : (v : Verdict) → (verdict_answer v).number ≡ 0 → v ≡ Ok tt
+done-accepted (Ok tt) done = refl
+done-accepted (Err r) done = absurd (omega (arith, number-above-zero r.by))
 
-pub done-used : (w : Written) → (written_answer w).number ≡ 0 → w ≡ written.Length (written_answer w).value
-done-used (written.Length n) done = refl
-done-used (written.Refused g block) done = absurd (omega (arith, number-above-zero g))
+pub done-used : (w : Result ℕ Refusal) → (written_answer w).number ≡ 0 → w ≡ Ok (written_answer w).value
+done-used (Ok n) done = refl
+done-used (Err r) done = absurd (omega (arith, number-above-zero r.by))
 
-pub done-worth : (v : Valued) → (valued_answer v).number ≡ 0 → v ≡ valued.Worth (valued_answer v).value (valued_tolerance v)
-done-worth (valued.Worth value tolerance) done = refl
-done-worth (valued.Refused g block) done = absurd (omega (arith, number-above-zero g))
+pub done-worth : (v : Result Worth Refusal) → (valued_answer v).number ≡ 0 → v ≡ Ok (record { value = (valued_answer v).value; tolerance = valued_tolerance v })
+done-worth (Ok worth) done = refl
+done-worth (Err r) done = absurd (omega (arith, number-above-zero r.by))

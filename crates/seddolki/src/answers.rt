@@ -1,61 +1,45 @@
 // The answers of the entries as numbers.
 ghost use Rattle.std.specs.Prelude.{◌≡◌};
-ghost use Rattle.seddolki.specs.Answers.{done_answer, refused, verdict_answer, written_answer, valued_answer, valued_tolerance};
+ghost use Rattle.seddolki.specs.Answers.{done_answer, refused, verdict_answer, written_answer};
 
 use super::Answer;
-use discount::entry::Valued;
-use ground::{Ground, Verdict, Written};
+use ground::Refusal;
 
-fn done_answer(value: u64) -> Answer
+pub fn done_answer(value: u64) -> Answer
     ensures { result ≡ done_answer value }
 {
-    Answer {
-        number: 0,
-        value: value,
+    Answer { number: 0, value }
+}
+
+impl From<Refusal> for Answer {
+    ghost from_gives = { λ r a. a ≡ refused r };
+
+    fn from(r: Refusal) -> Answer {
+        Answer {
+            number: u64::from(r.by),
+            value: r.block,
+        }
     }
 }
 
-fn refused(g: Ground, block: u64) -> Answer
-    ensures { result ≡ refused g block }
-{
-    Answer {
-        number: ground::number(g),
-        value: block,
+impl From<Result<(), Refusal>> for Answer {
+    ghost from_gives = { λ r a. a ≡ verdict_answer r };
+
+    fn from(r: Result<(), Refusal>) -> Answer {
+        match r {
+            Ok(()) => done_answer(0),
+            Err(refusal) => Answer::from(refusal),
+        }
     }
 }
 
-pub fn verdict_answer(v: Verdict) -> Answer
-    ensures { result ≡ verdict_answer v }
-{
-    match v {
-        Verdict::Accepted => done_answer(0),
-        Verdict::Refused(g, k) => refused(g, k),
-    }
-}
+impl From<Result<usize, Refusal>> for Answer {
+    ghost from_gives = { λ r a. a ≡ written_answer r };
 
-pub fn written_answer(w: Written) -> Answer
-    ensures { result ≡ written_answer w }
-{
-    match w {
-        Written::Length(n) => done_answer(n as u64),
-        Written::Refused(g, k) => refused(g, k),
-    }
-}
-
-pub fn valued_answer(v: Valued) -> Answer
-    ensures { result ≡ valued_answer v }
-{
-    match v {
-        Valued::Worth(value, _) => done_answer(value),
-        Valued::Refused(g, k) => refused(g, k),
-    }
-}
-
-pub fn valued_tolerance(v: Valued) -> u64
-    ensures { result ≡ valued_tolerance v }
-{
-    match v {
-        Valued::Worth(_, tolerance) => tolerance,
-        Valued::Refused(_, _) => 0,
+    fn from(r: Result<usize, Refusal>) -> Answer {
+        match r {
+            Ok(n) => done_answer(n as u64),
+            Err(refusal) => Answer::from(refusal),
+        }
     }
 }

@@ -4,14 +4,13 @@
 
 mod answers;
 
-ghost use Rattle.std.specs.Prelude.{◌≡◌, length};
+ghost use Rattle.std.specs.Prelude.{◌≡◌, length, None};
 ghost use Rattle.acceptance.specs.Verdict.{book_verdict};
-ghost use Rattle.acceptance.specs.declared.Today.TheVariants.{NotGiven};
 ghost use Rattle.bootstrap.specs.Bootstrap.{bootstrapped};
 ghost use Rattle.bootstrap.specs.Bought.{quote_of};
 ghost use Rattle.bootstrap.specs.Refusals.{bootstrap_verdict};
 ghost use Rattle.discount.specs.Valued.{valued_of};
-ghost use Rattle.edit.specs.Edits.{found, append_answer, appended, strike_answer, struck};
+ghost use Rattle.edit.specs.Edits.{record_found, found, append_answer, appended, strike_answer, struck};
 ghost use Rattle.preview.specs.Preview.{preview_verdict, preview_bytes};
 ghost use Rattle.report.specs.Bounded.{Bounded};
 ghost use Rattle.report.specs.Entry.{margin_verdict, margin_bytes};
@@ -19,8 +18,7 @@ ghost use Rattle.statement.specs.Entry.{statement_answer, statement_bytes};
 ghost use Rattle.seddolki.specs.Answers.{verdict_answer, written_answer, valued_answer, valued_tolerance};
 ghost use Rattle.seddolki.specs.Version.{version};
 
-use acceptance::Today;
-use answers::{valued_answer, valued_tolerance, verdict_answer, written_answer};
+use answers::done_answer;
 use bootstrap::Quote;
 
 // Number 0 is done, and the value is the result; any other number is the ground of refusal, and the value is the block.
@@ -42,9 +40,9 @@ pub extern "C" fn seddolki_version() -> u64
 // The check of a whole book; it is given no day.
 #[unsafe(no_mangle)]
 pub extern "C" fn seddolki_check(book: &[u8], used: usize) -> Answer
-    ensures { result ≡ verdict_answer (book_verdict book.now used NotGiven) }
+    ensures { result ≡ verdict_answer (book_verdict book.now used None) }
 {
-    verdict_answer(acceptance::check(book, used, Today::NotGiven))
+    acceptance::check(book, used, None).into()
 }
 
 // Writes the report of a book's margin into the first 512 bytes of the report space; a refused call writes nothing.
@@ -54,7 +52,7 @@ pub extern "C" fn seddolki_margin(book: &[u8], used: usize, day: u32, report: &m
     ensures report_after { report.new ≡ margin_bytes book.now used day report.old }
     ensures bounded { result.number ≡ 0 → Bounded book.now report.new }
 {
-    verdict_answer(report::margin(book, used, day as u64, report))
+    report::margin(book, used, u64::from(day), report).into()
 }
 
 // Writes the page of a book into the first bytes of the space lent for it; the value is its length. A refused call writes nothing.
@@ -63,7 +61,7 @@ pub extern "C" fn seddolki_statement(book: &[u8], used: usize, day: u32, page: &
     ensures value { result ≡ written_answer (statement_answer book.now used day (length page.old)) }
     ensures page_after { page.new ≡ statement_bytes book.now used day page.old }
 {
-    written_answer(statement::statement(book, used, day as u64, page))
+    statement::statement(book, used, u64::from(day), page).into()
 }
 
 // Writes the report of a book's margin as it would be after the append of a record; the book is not written.
@@ -79,8 +77,7 @@ pub extern "C" fn seddolki_preview(
     ensures report_after { report.new ≡ preview_bytes book.now used day «record».now report.old }
     ensures bounded { result.number ≡ 0 → Bounded (appended book.now used day «record».now) report.new }
 {
-    let bytes = *record;
-    verdict_answer(preview::preview(book, used, day as u64, bytes, report))
+    preview::preview(book, used, u64::from(day), *record, report).into()
 }
 
 // Appends a record; the value is the new used length.
@@ -94,8 +91,7 @@ pub extern "C" fn seddolki_append(
     ensures value { result ≡ written_answer (append_answer book.old used day «record».now) }
     ensures book_after { book.new ≡ appended book.old used day «record».now }
 {
-    let bytes = *record;
-    written_answer(edit::append(book, used, day as u64, bytes))
+    edit::append(book, used, u64::from(day), *record).into()
 }
 
 // Strikes the record at a position; the value is the new used length.
@@ -104,7 +100,7 @@ pub extern "C" fn seddolki_strike(book: &mut [u8], used: usize, day: u32, positi
     ensures value { result ≡ written_answer (strike_answer book.old used day position) }
     ensures book_after { book.new ≡ struck book.old used day position }
 {
-    written_answer(edit::strike(book, used, day as u64, position))
+    edit::strike(book, used, u64::from(day), position).into()
 }
 
 // What a desk gives, its components as numbers of 64 bits.
@@ -112,12 +108,12 @@ fn quote_of(curve: usize, bond: [u8; 20], cash: u64, first: i32, second: i32, th
     ensures { result ≡ quote_of curve bond cash first second third }
 {
     Quote {
-        curve: curve,
-        bond: bond,
-        cash: cash,
-        first: first as i64,
-        second: second as i64,
-        third: third as i64,
+        curve,
+        bond,
+        cash,
+        first: i64::from(first),
+        second: i64::from(second),
+        third: i64::from(third),
     }
 }
 
@@ -137,9 +133,8 @@ pub extern "C" fn seddolki_bootstrap(
     ensures value { result ≡ verdict_answer (bootstrap_verdict book.old used day (quote_of curve bond.now cash first second third)) }
     ensures book_after { book.new ≡ bootstrapped book.old used day (quote_of curve bond.now cash first second third) }
 {
-    let bytes = *bond;
-    let quote = quote_of(curve, bytes, cash, first, second, third);
-    verdict_answer(bootstrap::bootstrap(book, used, day as u64, quote))
+    let quote = quote_of(curve, *bond, cash, first, second, third);
+    bootstrap::bootstrap(book, used, u64::from(day), quote).into()
 }
 
 // Reads the record at a position; a refused call writes zeros.
@@ -150,14 +145,19 @@ pub extern "C" fn seddolki_read(
     position: usize,
     record: &mut [u8; 56],
 ) -> Answer
-    ensures value { result ≡ verdict_answer (found book.now used position).verdict }
-    ensures record_after { «record».new ≡ (found book.now used position).bytes }
+    ensures value { result ≡ verdict_answer (found book.now used position) }
+    ensures record_after { «record».new ≡ record_found (found book.now used position) }
 {
-    let found = reader::read_at(book, used, position);
-    let bytes = found.bytes;
-    let verdict = found.verdict;
-    *record = bytes;
-    verdict_answer(verdict)
+    match reader::read_at(book, used, position) {
+        Ok(bytes) => {
+            *record = bytes;
+            done_answer(0)
+        }
+        Err(refusal) => {
+            *record = [0; 56];
+            refusal.into()
+        }
+    }
 }
 
 // One present value and its tolerance; a refused call writes 0 as the tolerance.
@@ -171,7 +171,14 @@ pub extern "C" fn seddolki_present_value(
     ensures value { result ≡ valued_answer (valued_of amount rate day) }
     ensures tolerance_after { tolerance.new ≡ valued_tolerance (valued_of amount rate day) }
 {
-    let valued = discount::entry::value(amount, rate, day);
-    *tolerance = valued_tolerance(valued);
-    valued_answer(valued)
+    match discount::entry::value(amount, rate, day) {
+        Ok(worth) => {
+            *tolerance = worth.tolerance;
+            done_answer(worth.value)
+        }
+        Err(refusal) => {
+            *tolerance = 0;
+            refusal.into()
+        }
+    }
 }

@@ -6,7 +6,7 @@ use Prim.Native.Nat.{ℕ, ◌*◌, ◌≤◌, ◌<◌}
 use native.Mathlib.Omega.{arith}
 use lib.IntN.{pos}
 use lib.ListN.{length, length-append}
-use Rattle.ground.specs.declared.Verdict.TheVariants.{Accepted}
+use Rattle.std.specs.Prelude.{Ok}
 use Rattle.decimal.specs.Product.{unit}
 use Rattle.ladder.specs.Totals.{most_flows}
 use Rattle.record.specs.declared.Fields.{Fields}
@@ -105,7 +105,7 @@ curve-left id m few h =
 
 -- ---- an accepted book
 
-pub every-amount-fits : (s : List ℕ) (used : ℕ) → blocks_verdict s used ≡ Accepted → EveryAmountFits s
+pub every-amount-fits : (s : List ℕ) (used : ℕ) → blocks_verdict s used ≡ Ok tt → EveryAmountFits s
 every-amount-fits s used ok =
     let b = sound s used ok in
     record {

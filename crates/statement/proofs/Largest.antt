@@ -9,7 +9,7 @@ use borrow.Author.Tests.{ne_eqb}
 use lib.Dec.{eqb}
 use lib.ListN.{length, take}
 use lib.Seq.{length-take-le}
-use Rattle.ground.specs.declared.Verdict.TheVariants.{Accepted}
+use Rattle.std.specs.Prelude.{Ok}
 use Rattle.book.specs.Parts.{curve_count, trade_count}
 use Rattle.book.specs.Verdict.{blocks_verdict}
 use Rattle.book.proofs.Accepted.{Sound, sound, blocks-taken}
@@ -64,5 +64,5 @@ module _ (s : List ℕ) (used : ℕ) (b : Sound s used) where
           omega (arith, one, one-curve curves (omega (arith, long, one)), (blocks-taken s used b).most, b.blocks, b.limit)
       go (no l) = omega (arith, three-most curves, (blocks-taken s used b).most, b.blocks, b.limit)
 
-pub page-most : (s : List ℕ) (used : ℕ) → blocks_verdict s used ≡ Accepted → length (page_of s) ≤ 92097
+pub page-most : (s : List ℕ) (used : ℕ) → blocks_verdict s used ≡ Ok tt → length (page_of s) ≤ 92097
 page-most s used ok = let b = sound s used ok in omega (arith, length-page_of s used b, lines-most s used b)

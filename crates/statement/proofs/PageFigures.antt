@@ -6,7 +6,7 @@ use Prim.Native.Nat.{ℕ, ◌+◌, ◌-◌, ◌*◌, ◌≤◌, ◌<◌}
 use native.Mathlib.Omega.{arith}
 use lib.IntN.{pos}
 use lib.ListN.{length, get_or, take}
-use Rattle.ground.specs.declared.Verdict.TheVariants.{Accepted}
+use Rattle.std.specs.Prelude.{Ok}
 use Rattle.record.specs.Bytes.{fields_of}
 use Rattle.book.specs.Parts.{curve_count, trade_count, record_at, records}
 use Rattle.book.specs.Verdict.{blocks_verdict}
@@ -61,7 +61,7 @@ module _ (s : List ℕ) (used : ℕ) (b : Sound s used) (rest : List ℕ) where
         ∙ currency-read (curve_count s) (margin_in s) (records s) (page-limits s used b) c least most has j l
         ∙ ap (λ (f : CurrencyMargin). get_or (f.initial ∷ f.variation ∷ f.total ∷ []) j (pos 0)) currency-of
 
-pub page-reads : (s : List ℕ) (used : ℕ) → blocks_verdict s used ≡ Accepted → (rest : List ℕ) → PageReads s rest
+pub page-reads : (s : List ℕ) (used : ℕ) → blocks_verdict s used ≡ Ok tt → (rest : List ℕ) → PageReads s rest
 page-reads s used ok rest =
     let b = sound s used ok in
     record {

@@ -1,11 +1,9 @@
 -- The statement entry: its answer, and every lent byte afterwards (document 02, wish 6).
-use Rattle.std.specs.Prelude.{List, ℕ, length}
-use Rattle.ground.specs.declared.Verdict.{Verdict}
-use Rattle.ground.specs.declared.Written.{Written}
-use Rattle.ground.specs.Verdicts.{or_else, bytes_after, written_of}
+use Rattle.std.specs.Prelude.{List, ℕ, length, Some, Result, Ok}
+use Rattle.ground.specs.declared.Refusal.{Refusal}
+use Rattle.ground.specs.Verdicts.{Verdict, or_else, bytes_after}
 use Rattle.ground.specs.Space.{space_verdict}
 use Rattle.book.specs.Parts.{curve_count, records}
-use Rattle.acceptance.specs.declared.Today.TheVariants.{Given}
 use Rattle.acceptance.specs.Verdict.{book_verdict}
 use Rattle.report.specs.Entry.{margin_in}
 use Rattle.text.specs.Text.{in_front}
@@ -21,11 +19,11 @@ page_verdict s space = space_verdict (length (page_of s)) space
 
 -- "The page is given the day, as margin is.": the whole-book check, then 13
 unfoldable pub statement_verdict : List ℕ → ℕ → ℕ → ℕ → Verdict
-statement_verdict s used day space = or_else (book_verdict s used (Given day)) (page_verdict s space)
+statement_verdict s used day space = or_else (book_verdict s used (Some day)) (page_verdict s space)
 
 -- "the page's length is returned"
-unfoldable pub statement_answer : List ℕ → ℕ → ℕ → ℕ → Written
-statement_answer s used day space = written_of (statement_verdict s used day space) (length (page_of s))
+unfoldable pub statement_answer : List ℕ → ℕ → ℕ → ℕ → Result ℕ Refusal
+statement_answer s used day space = or_else (statement_verdict s used day space) (Ok (length (page_of s)))
 
 -- "The page is written to lent bytes ..; bytes behind it keep."
 unfoldable pub statement_bytes : List ℕ → ℕ → ℕ → List ℕ → List ℕ

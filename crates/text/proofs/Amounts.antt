@@ -1,21 +1,16 @@
 -- How long an amount's text is, and its column.
 use mathlib.Core.Path.{◌≡◌, refl, sym, ap, ◌∙◌}
-use mathlib.Core.List.{List, [], ◌∷◌, ◌++◌, append_assoc}
-use Prim.Native.Nat.{ℕ, zero, suc, ◌+◌, ◌-◌, ◌/◌, ◌%◌, ◌^◌, ◌≤◌, ◌<◌}
+use mathlib.Core.List.{List, ◌++◌, append_assoc}
+use Prim.Native.Nat.{ℕ, suc, ◌+◌, ◌-◌, ◌/◌, ◌%◌, ◌^◌, ◌≤◌, ◌<◌}
 use native.Mathlib.Omega.{arith}
 use lib.IntN.{ℤ, pos, negsuc, nat_abs}
-use lib.ListN.{length, length-append, length-replicate, replicate-append-replicate}
+use lib.ListN.{length, length-append, length-set, length-replicate, replicate-append-replicate}
 use Rattle.text.specs.Text.{ascii, digits_within, decimal_of, with_sign}
 use Rattle.text.specs.Columns.{blanks, money_text, amount_text, right_aligned, amount_column}
-use Rattle.text.proofs.Digits.{decimal-one, length-below, length-rises}
+use Rattle.text.proofs.Digits.{decimal-one, length-below, length-decimal, length-rises}
 
 pub length-blanks : (n : ℕ) → length (blanks n) ≡ n
 length-blanks n = length-replicate n 32
-
--- a blank, and the others
-pub blanks-next : (k : ℕ) → 0 < k → blanks k ≡ (32 ∷ []) ++ blanks (k - 1)
-blanks-next zero h = absurd (omega arith)
-blanks-next (suc k) h = let e : suc k - 1 ≡ k = omega arith in rw e
 
 pub one-digit : (n : ℕ) → n < 10 → length (decimal_of n) ≡ 1
 one-digit n h = ap length (decimal-one n h)
@@ -25,6 +20,16 @@ pub length-money : (n : ℕ) → length (money_text n) ≡ length (decimal_of (n
 unfolding money_text ascii
 length-money n =
     simp (length-append, one-digit (n / 10 % 10) (omega arith), one-digit (n % 10) (omega arith)) (omega arith)
+
+-- those of a number of 63 bits, or the next, and those of its lira
+pub length-size : (n : ℕ) → n ≤ 2 ^ 63 → length (decimal_of n) ≤ 19
+length-size n h = length-below 18 n (omega arith)
+
+pub length-lira : (n : ℕ) → n ≤ 2 ^ 63 → length (decimal_of (n / 100)) ≤ 17
+length-lira n h = length-below 16 (n / 100) (omega arith)
+
+-- for the bounds of places
+pub ruleset lengths = (length-decimal, length-size, length-lira, length-money, length-blanks, length-set)
 
 -- an amount of 63 bits, or the next
 pub length-amount : (z : ℤ) → nat_abs z ≤ 2 ^ 63 → length (amount_text z) ≤ 21

@@ -5,9 +5,8 @@ use Prim.Native.Nat.{ℕ, zero, suc, ◌+◌, ◌*◌, ◌≤◌, ◌<◌}
 use native.Mathlib.Nat.{suc-mul, zero-mul}
 use native.Mathlib.Numerals.{add-one}
 use native.Mathlib.Omega.{arith}
-use lib.ListN.{length, get_or, take, drop, length-append, get_or-append}
+use lib.ListN.{length, get_or, drop, length-append, get_or-append}
 use lib.Seq.{drop-cons, drop-length}
-use Rattle.laws.proofs.Lists.{drop-next, drop-end}
 use Rattle.layout.specs.Bytes.{part}
 use Rattle.layout.proofs.Bytes.{part_same, part-behind}
 use Rattle.text.specs.Text.{lines_of}
@@ -20,15 +19,6 @@ module _ {A : Type 0} (line : ℕ → A → List ℕ) (l : List A) (i k : ℕ) w
   pub lines_none : i ≡ length l → lines_of line k (drop i l) ≡ []
   unfolding lines_of
   lines_none h = rw (h, drop-length l)
-
-  -- of the first n
-  pub first-lines-next : (n : ℕ) (d : A) → n ≤ length l → i < n → lines_of line k (drop i (take n l)) ≡ line k (get_or l i d) ++ lines_of line (k + 1) (drop (i + 1) (take n l))
-  unfolding lines_of
-  first-lines-next n d h m = rw (drop-next l n i d h m) (simp add-one)
-
-  pub first-lines-none : (n : ℕ) → n ≤ i → lines_of line k (drop i (take n l)) ≡ []
-  unfolding lines_of
-  first-lines-none n h = rw (drop-end l n i h)
 
 -- each of w bytes
 pub length-lines : {A : Type 0} (line : ℕ → A → List ℕ) (w : ℕ) (xs : List A) (d : A) (k : ℕ) → ((i : ℕ) → i < length xs → length (line (k + i) (get_or xs i d)) ≡ w)

@@ -10,15 +10,12 @@ pub fn put_blanks(out: &mut [u8], at: usize, n: usize) -> usize
     ensures { TextWritten out.old at (blanks n) out.new result }
 {
     let end = at + n;
-    let mut next = at;
-    while next < end {
-        out[next] = b' ';
-        next += 1;
-    }
-    next
+    out[at..end].fill(b' ');
+    end
 }
 
 // Kuruş as lira and kuruş, the lira of so many digits.
+#[tactic(auto, using(crate::proofs::Amounts::lengths))]
 fn put_money(out: &mut [u8], at: usize, count: usize, n: u64) -> usize
     requires { (count ≡ length (decimal_of (n / 100))) × (at + length (money_text n) ≤ length out.old) }
     ensures { TextWritten out.old at (money_text n) out.new result }
@@ -26,12 +23,13 @@ fn put_money(out: &mut [u8], at: usize, count: usize, n: u64) -> usize
     let point = put_counted(out, at, count, n / 100);
     let tens = point + 1;
     out[point] = b'.';
-    out[tens] = 48 + (n / 10 % 10) as u8;
-    out[tens + 1] = 48 + (n % 10) as u8;
+    out[tens] = b'0' + (n / 10 % 10) as u8;
+    out[tens + 1] = b'0' + (n % 10) as u8;
     tens + 2
 }
 
 // An amount, right-aligned in 22 columns or more: of 63 bits it has at most 17 digits before the point, and with its minus 21 characters.
+#[tactic(auto, using(crate::proofs::Amounts::lengths))]
 pub fn put_right_aligned(out: &mut [u8], at: usize, width: usize, v: i64) -> usize
     requires { (22 ≤ width) × (at + width ≤ length out.old) }
     ensures text_written { TextWritten out.old at (right_aligned width v) out.new result }

@@ -21,13 +21,7 @@ pub fn put_text(out: &mut [u8], at: usize, text: &[u8]) -> usize
 fn digit_count(n: u64) -> usize
     ensures { result ≡ length (decimal_of n) }
 {
-    let mut rest = n;
-    let mut count: usize = 1;
-    while 10 <= rest {
-        rest = rest / 10;
-        count += 1;
-    }
-    count
+    n.max(1).ilog10() as usize + 1
 }
 
 // A number of so many digits, from the last to the first.
@@ -36,14 +30,11 @@ fn put_counted(out: &mut [u8], at: usize, count: usize, n: u64) -> usize
     ensures { TextWritten out.old at (decimal_of n) out.new result }
 {
     let end = at + count;
-    let mut next = end;
     let mut rest = n;
-    while 10 <= rest {
-        next -= 1;
-        out[next] = 48 + (rest % 10) as u8;
-        rest = rest / 10;
+    for place in (at..end).rev() {
+        out[place] = b'0' + (rest % 10) as u8;
+        rest /= 10;
     }
-    out[at] = 48 + rest as u8;
     end
 }
 
@@ -59,12 +50,10 @@ pub fn size_of(v: i64) -> u64
     ensures value { result ≡ nat_abs v }
     ensures upper_bound { result ≤ 9223372036854775808 }
 {
-    if v < 0 {
-        return (-1 - v) as u64 + 1;
-    }
-    v as u64
+    v.unsigned_abs()
 }
 
+#[tactic(auto, using(crate::proofs::Amounts::lengths))]
 pub fn put_integer(out: &mut [u8], at: usize, v: i64) -> usize
     requires { at + 20 ≤ length out.old }
     ensures text_written { TextWritten out.old at (signed_text v) out.new result }
@@ -78,7 +67,8 @@ pub fn put_integer(out: &mut [u8], at: usize, v: i64) -> usize
     put_digits(out, at, size)
 }
 
-// A word and a number.
+// A word, and behind it a number. This, put_signed and put_currency stay three: a trait for what may follow is longer than the calls it joins.
+#[tactic(auto, using(crate::proofs::Amounts::lengths))]
 pub fn put_number(out: &mut [u8], at: usize, word: &[u8], n: u64) -> usize
     requires { at + length word.now + 20 ≤ length out.old }
     ensures text_written { TextWritten out.old at (word.now ++ decimal_of n) out.new result }
@@ -97,21 +87,24 @@ pub fn put_signed(out: &mut [u8], at: usize, word: &[u8], v: i64) -> usize
     put_integer(out, from, v)
 }
 
+#[tactic(auto, unfolding(crate::specs::Text::letters, crate::specs::Text::ascii))]
+fn letters_of(currency: u64) -> [u8; 3]
+    ensures { result ≡ letters currency }
+{
+    match currency {
+        1 => *b"TRY",
+        2 => *b"USD",
+        3 => *b"EUR",
+        _ => *b"???",
+    }
+}
+
 pub fn put_letters(out: &mut [u8], at: usize, currency: u64) -> usize
     requires { at + 3 ≤ length out.old }
     ensures text_written { TextWritten out.old at (letters currency) out.new result }
     ensures value { result ≡ at + 3 }
 {
-    if currency == 1 {
-        return put_text(out, at, b"TRY");
-    }
-    if currency == 2 {
-        return put_text(out, at, b"USD");
-    }
-    if currency == 3 {
-        return put_text(out, at, b"EUR");
-    }
-    put_text(out, at, b"???")
+    put_text(out, at, &letters_of(currency))
 }
 
 // A word and a currency.

@@ -40,6 +40,7 @@ fn indexed_bond_of(f: Fields) -> IndexedBond
     }
 }
 
+// The security of a number, from what it would be of each kind.
 fn pick_security(
     number: u64,
     single: SinglePayment,
@@ -48,18 +49,15 @@ fn pick_security(
 ) -> Security
     ensures { result ≡ pick_security number single bond indexed }
 {
-    if number == 0 {
-        return Security::Nothing;
+    match number {
+        0 => Security::Nothing,
+        1 => Security::Single(single),
+        2 => Security::Coupons(bond),
+        _ => Security::Indexed(indexed),
     }
-    if number == 1 {
-        return Security::Single(single);
-    }
-    if number == 2 {
-        return Security::Coupons(bond);
-    }
-    Security::Indexed(indexed)
 }
 
+#[tactic(auto, unfolding(crate::specs::Read::security_of))]
 fn security_of(f: Fields) -> Security
     ensures { result ≡ security_of f }
 {
@@ -100,18 +98,18 @@ fn repo_of(f: Fields) -> RepoTrade
     }
 }
 
+// The trade of a kind, from what it would be of each.
 fn pick_trade(kind: u64, outright: OutrightTrade, repo: RepoTrade) -> Trade
     ensures { result ≡ pick_trade kind outright repo }
 {
-    if kind == 1 {
-        return Trade::Outright(outright);
+    match kind {
+        1 => Trade::Outright(outright),
+        2 => Trade::Pool(repo),
+        _ => Trade::Specified(repo),
     }
-    if kind == 2 {
-        return Trade::Pool(repo);
-    }
-    Trade::Specified(repo)
 }
 
+#[tactic(auto, unfolding(crate::specs::Read::trade_of))]
 pub fn trade_of(f: Fields) -> Trade
     ensures { result ≡ trade_of f }
 {

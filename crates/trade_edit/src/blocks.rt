@@ -7,6 +7,7 @@ use layout::check::seal;
 use layout::{copy_in, put_le};
 
 // Puts a record into place n of a block of trades, behind its others.
+#[tactic(auto, unfolding(crate::specs::Blocks::with_record))]
 pub fn put_record(b: &mut [u8], n: usize, r: [u8; 56])
     requires { (length b.old ≡ 512) × (n < 9) }
     ensures { b.new ≡ with_record b.old n r }
@@ -17,6 +18,7 @@ pub fn put_record(b: &mut [u8], n: usize, r: [u8; 56])
 }
 
 // A block of trades with no record, not sealed.
+#[tactic(auto, unfolding(crate::specs::Blocks::bare_block))]
 pub fn bare_block(number: usize) -> [u8; 512]
     ensures { result ≡ bare_block number }
 {
@@ -27,6 +29,7 @@ pub fn bare_block(number: usize) -> [u8; 512]
 }
 
 // Writes the header's number of trade blocks.
+#[tactic(auto, unfolding(crate::specs::Blocks::with_trade_blocks))]
 pub fn put_trade_blocks(b: &mut [u8], n: usize)
     requires { length b.old ≡ 512 }
     ensures { b.new ≡ with_trade_blocks b.old n }
@@ -40,5 +43,5 @@ pub fn clear(s: &mut [u8], at: usize, n: usize)
     requires { at + n ≤ length s.old }
     ensures { s.new ≡ put s.old at (replicate n 0) }
 {
-    put_le(s, at, n, 0);
+    s[at..at + n].fill(0);
 }

@@ -35,11 +35,7 @@ fn move_record(book: &mut [u8], from: usize, to: usize)
     requires { (to + 56 ≤ from) × (from + 56 ≤ length book.old) }
     ensures { book.new ≡ put book.old to (part book.old from 56) }
 {
-    let mut k: usize = 0;
-    while k < 56 {
-        book[to + k] = book[from + k];
-        k += 1;
-    }
+    book.copy_within(from..from + 56, to);
 }
 
 // Moves every record behind a position up by one, from block to block too.
@@ -49,10 +45,8 @@ pub fn move_up(book: &mut [u8], position: usize, left: usize)
     ensures { book.new ≡ run (record_moved (curve_count book.old)) position (left - position) book.old }
 {
     let curves = curve_count(&book[..]);
-    let mut i: usize = position;
-    while i < left {
+    for i in position..left {
         move_record(book, place_of(curves, i + 1), place_of(curves, i));
-        i += 1;
     }
 }
 
@@ -75,7 +69,7 @@ pub fn cut_back(book: &mut [u8], used: usize, n: usize)
     let end = end_of(curve_count(&book[..]), n);
     clear(book, end, used - end);
     book[used - 511] = (n % 9) as u8;
-    put_trade_blocks(&mut book[0..512], (n + 8) / 9);
+    put_trade_blocks(&mut book[0..512], n.div_ceil(9));
 }
 
 // Seals the blocks from one up to, not including, another.
@@ -83,9 +77,7 @@ pub fn seal_blocks(book: &mut [u8], from: usize, to: usize)
     requires { (to ≤ 128) × (to * 512 ≤ length book.old) }
     ensures { book.new ≡ run block_sealed from (to - from) book.old }
 {
-    let mut k: usize = from;
-    while k < to {
+    for k in from..to {
         seal(&mut book[k * 512..k * 512 + 512]);
-        k += 1;
     }
 }

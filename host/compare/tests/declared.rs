@@ -8,7 +8,9 @@ const PARTS: [&str; 4] = ["specs", "src", "proofs", "must-fail"];
 
 /// What may stand before a declaration, and what begins one.
 const BEFORE: [&str; 6] = ["pub", "unfoldable", "abbrev", "ghost", "extern", "\"C\""];
-const BEGINS: [&str; 7] = ["record", "data", "fn", "struct", "enum", "const", "mod"];
+const BEGINS: [&str; 8] = [
+    "record", "data", "fn", "struct", "enum", "const", "static", "mod",
+];
 
 fn root() -> PathBuf {
     Path::new(env!("CARGO_MANIFEST_DIR")).join("../..")

@@ -1,19 +1,8 @@
 -- `curve::interpolate` meets its contract: proofs/Interpolation.antt names what each operation gives, and its size.
 use native.Mathlib.Omega.{arith}
 use Rattle.laws.proofs.Signed.{fits, to-u64}
-use Rattle.curve.proofs.Interpolation.{run_is, interpolated-is, rise-size, gone-size, run-size, product-size, quot-size, interpolated-size, code-rise, code-gone, code-run, code-product, code-quot, code-interpolated, interpolated-read}
+use Rattle.curve.proofs.Interpolation.{run_is, interpolated-is, product-size, quot-size, interpolated-size, code-run, code-product, code-quot, code-interpolated, interpolated-read}
 use Rattle.curve.proofs.interpolate.Goals as goal
-
-pub overflow_sub-rise : goal.overflow_sub-rise
-overflow_sub-rise c = let h = c.requires in rw (code-rise _ _ _ h) (fits _ (omega (arith, rise-size _ _ _ h)))
-
-pub overflow_sub-gone : goal.overflow_sub-gone
-overflow_sub-gone c = let h = c.requires in rw (code-gone _ _ _ h) (fits _ (omega (arith, gone-size _ _ _ h)))
-
-pub overflow_sub-run : goal.overflow_sub-run
-overflow_sub-run c =
-    let h = c.requires in
-    rw (code-run _ _ _ h) (fits _ (omega (arith, run-size _ _ _ h)))
 
 pub overflow_mul-result : goal.overflow_mul-result
 overflow_mul-result c =

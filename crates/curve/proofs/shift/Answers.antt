@@ -1,19 +1,8 @@
 -- `curve::shift` meets its contract: proofs/Shifting.antt names what each operation gives, and its size.
 use native.Mathlib.Omega.{arith}
-use lib.Dec.{lit<}
 use Rattle.laws.proofs.Signed.{fits, read_is}
-use Rattle.curve.proofs.Shifting.{first-size, second-size, third-size, two_size, three-size, hundredth-size, shifted-size, code-first, code-second, code-third, code-two, code-three, code-hundredth, code-shifted}
+use Rattle.curve.proofs.Shifting.{third-size, two_size, three-size, shifted-size, code-third, code-two, code-three, code-shifted}
 use Rattle.curve.proofs.shift.Goals as goal
-
-pub overflow_mul-sum : goal.overflow_mul-sum
-overflow_mul-sum c =
-    let h = c.requires in
-    rw (code-first _ _ h) (fits _ (omega (arith, first-size _ _ h)))
-
-pub overflow_mul-sum-2 : goal.overflow_mul-sum-2
-overflow_mul-sum-2 c =
-    let h = c.requires in
-    rw (code-second _ _ h) (fits _ (omega (arith, second-size _ _ h)))
 
 pub overflow_add-sum : goal.overflow_add-sum
 overflow_add-sum c =
@@ -29,11 +18,6 @@ pub overflow_add-sum-2 : goal.overflow_add-sum-2
 overflow_add-sum-2 c =
     let h = c.requires in
     rw (code-three _ _ h) (fits _ (omega (arith, three-size _ _ h)))
-
-pub nonzero_div-result : goal.nonzero_div-result
-nonzero_div-result c =
-    let h = c.requires in
-    (lit< tt, rw (code-hundredth _ _ h) (fits _ (omega (arith, hundredth-size _ _ h))))
 
 pub overflow_add-result : goal.overflow_add-result
 overflow_add-result c =

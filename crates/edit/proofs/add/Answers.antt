@@ -14,9 +14,6 @@ use Rattle.edit.proofs.Given.{record-admitted, room}
 use borrow.Author.Rules.{rules}
 use Rattle.edit.proofs.add.Goals as goal
 
-pub trade_count-place-requires : goal.trade_count-place-requires
-trade_count-place-requires c = let b = sound _ _ c.requires.0 in omega arith
-
 pub grow-requires : goal.grow-requires
 grow-requires c =
     let given = c.requires in
@@ -25,10 +22,6 @@ grow-requires c =
     let r = room _ _ _ w.roomy (ap (λ (n : ℕ). n % 9) (sym c.trade_count-place.ensures) ∙ c.if-place-eq0.true) in
     omega arith
 
-pub overflow_add-result : goal.overflow_add-result
-overflow_add-result c =
-    let b = sound _ _ c.requires.0 in omega arith
-
 pub returns-then-place-eq0 : goal.returns-then-place-eq0
 returns-then-place-eq0 c =
     let s = c.args.book.now in
@@ -36,23 +29,11 @@ returns-then-place-eq0 c =
     let r = c.args.r in
     let long : length r ≡ 56 = search rules in
     let w = record-admitted s used r c.requires.0 c.requires.1 in
-    let bytes : AreBytes s = λ k. omega (arith, c.slice_known-1.given k) in
+    let bytes : AreBytes s = λ k. search rules in
     let full = ap (λ (n : ℕ). n % 9) (sym c.trade_count-place.ensures) ∙ c.if-place-eq0.true in
     let space = room (trade_count s) used (length s) w.roomy full in
     let a = new-block-lent s used bytes w.accepted r long full space.within in
     record { value = a.0; book_after = c.grow.ensures ∙ a.1 }
-
-pub overflow_sub-used : goal.overflow_sub-used
-overflow_sub-used c =
-    let b = sound _ _ c.requires.0 in omega arith
-
-pub slice_bounds-put_record-end : goal.slice_bounds-put_record-end
-slice_bounds-put_record-end c =
-    let b = sound _ _ c.requires.0 in omega arith
-
-pub put_record-requires : goal.put_record-requires
-put_record-requires c =
-    let b = sound _ _ c.requires.0 in omega arith
 
 pub returns : goal.returns
 returns c =
@@ -62,7 +43,7 @@ returns c =
     let long : length r ≡ 56 = search rules in
     let w = record-admitted s used r c.requires.0 c.requires.1 in
     let b = sound s used w.accepted in
-    let bytes : AreBytes s = λ k. omega (arith, c.slice_known-1.given k) in
+    let bytes : AreBytes s = λ k. search rules in
     let count = c.trade_count-place.ensures in
     let some : trade_count s % 9 ≡ 0 → ⊥ = rw count at c.if-place-eq0.false in
     let a = filled-lent s used bytes w.accepted r long some in

@@ -3,13 +3,12 @@ use mathlib.Core.Path.{◌≡◌, refl, sym, ap, ◌∙◌}
 use Prim.Native.Nat.{◌<◌}
 use native.Mathlib.Omega.{arith}
 use borrow.Author.Rules.{rules}
-use lib.ListN.{length}
 use Rattle.record.specs.Bytes.{fields_of}
 use Rattle.trade.specs.Read.{trade_of}
 use Rattle.flows.specs.Legs.{flows_of, breaks_flow_limit}
 use Rattle.flows.specs.Limits.{SoundTrade}
 use Rattle.book.specs.Parts.{trade_count}
-use Rattle.book.proofs.Accepted.{Sound, sound, place-held, length-record_at}
+use Rattle.book.proofs.Accepted.{Sound, sound, place-held}
 use Rattle.exposure.specs.Exposures.{trade_at}
 use Rattle.exposure.proofs.Collected.{Collected, collected-none, collected-next, collected-all, accepted-at}
 use Rattle.exposure.proofs.gather.Goals as goal
@@ -23,7 +22,7 @@ pub trade_count-count-requires : goal.trade_count-count-requires
 trade_count-count-requires c = let b = here (goal.at.trade_count-count-requires c).Start in omega (arith, b.blocks, b.lent)
 
 pub loop-i-init : goal.loop-i-init
-loop-i-init c = (omega arith, refl, collected-none _ _ _)
+loop-i-init c = (refl, collected-none _ _ _)
 
 -- in the loop: the position is one of the book's
 at : (c : In-loop-i) → c.loop-i.i < trade_count c.args.book.now
@@ -33,10 +32,6 @@ pub record_at-r-requires : goal.record_at-r-requires
 record_at-r-requires c =
     let b = here (goal.at.record_at-r-requires c).Start in
     omega (arith, (place-held c.args.book.now c.requires.0.used b c.loop-i.i (at (goal.at.record_at-r-requires c).In-loop-i)).0, b.blocks, b.lent)
-
-pub fields_of-requires : goal.fields_of-requires
-fields_of-requires c =
-    ap length c.record_at-r.ensures ∙ length-record_at c.args.book.now c.requires.0.used (here (goal.at.fields_of-requires c).Start) c.loop-i.i (at (goal.at.fields_of-requires c).In-loop-i)
 
 -- after the trade is read: it is the one at the position
 module _ (c : After-trade_of) where
@@ -54,22 +49,15 @@ pub push_legs-schedules-requires : goal.push_legs-schedules-requires
 unfolding breaks_flow_limit
 push_legs-schedules-requires c =
     let inv = c.loop-i.invariant in (
-      omega (arith, inv.1, inv.2.few, at (goal.at.push_legs-schedules-requires c).In-loop-i, c.requires.1),
+      omega (arith, inv.0, inv.1.few, at (goal.at.push_legs-schedules-requires c).In-loop-i, c.requires.1),
       record { reach = c.legs_of-legs.ensures.limits; within = rw (c.legs_of-legs.ensures.flows, trade-is (goal.at.push_legs-schedules-requires c).After-trade_of) (trade-sound (goal.at.push_legs-schedules-requires c).After-trade_of).within },
     )
-
-pub overflow_add-i : goal.overflow_add-i
-overflow_add-i c = omega arith
-
-pub loop-i-smaller : goal.loop-i-smaller
-loop-i-smaller c = omega arith
 
 pub loop-i-preserved : goal.loop-i-preserved
 loop-i-preserved c =
     let inv = c.loop-i.invariant in (
-      omega arith,
       search rules,
-      collected-next _ _ c.legs_of-legs.result inv.2 (c.legs_of-legs.ensures.flows ∙ ap flows_of (trade-is (goal.at.loop-i-preserved c).After-trade_of)) c.push_legs-schedules.ensures,
+      collected-next _ _ c.legs_of-legs.result inv.1 (c.legs_of-legs.ensures.flows ∙ ap flows_of (trade-is (goal.at.loop-i-preserved c).After-trade_of)) c.push_legs-schedules.ensures,
     )
 
 pub returns : goal.returns
@@ -77,5 +65,5 @@ returns c =
     let s = c.args.book.now in
     let inv = c.loop-i.invariant in
     let e : c.loop-i.i ≡ trade_count s = omega (arith, c.trade_count-count.ensures) in
-    let all : Collected s c.args.curve c.loop-i.ladder c.loop-i.schedules (trade_count s) = rw (sym e) inv.2 in
-    record { flows = all.flows; limits = collected-all s c.requires.0.used (here (goal.at.returns c).Start) c.args.curve c.loop-i.ladder c.loop-i.schedules (omega (arith, inv.1, c.requires.1)) all }
+    let all : Collected s c.args.curve c.loop-i.ladder c.loop-i.schedules (trade_count s) = rw (sym e) inv.1 in
+    record { flows = all.flows; limits = collected-all s c.requires.0.used (here (goal.at.returns c).Start) c.args.curve c.loop-i.ladder c.loop-i.schedules (omega (arith, inv.0, c.requires.1)) all }

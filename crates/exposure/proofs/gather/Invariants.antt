@@ -1,12 +1,8 @@
 -- `exposure::gather` meets its contract. The invariant: the ladder holds the flows of the first i trades that stand on the curve.
 use mathlib.Core.Path.{◌≡◌}
-use Prim.Native.Nat.{◌-◌, ◌≤◌}
 use lib.ListN.{length}
 use Rattle.exposure.proofs.Collected.{Collected}
 use Rattle.exposure.proofs.gather.Given as goal
 
 abbrev pub invariant-loop-i : goal.invariant-loop-i
-invariant-loop-i l = (l.i ≤ l.count) × (length l.ladder ≡ length l.initial.ladder) × Collected l.book l.curve l.ladder l.schedules l.i
-
-abbrev pub decreases-loop-i : goal.decreases-loop-i
-decreases-loop-i l = l.count - l.i
+invariant-loop-i l = (length l.ladder ≡ length l.initial.ladder) × Collected l.book l.curve l.ladder l.schedules l.i

@@ -1,28 +1,13 @@
 -- `layout::zeros` meets its contract.
-use Rattle.std.proofs.Common.{ℕ, eqb, sym, refl, ◌∙◌, arith, eq-eqb, ne_eqb}
-use Rattle.laws.proofs.Every.{every-passed, every-failed, every-end}
-use Rattle.layout.specs.Bytes.{byte_at, zeros}
+use Rattle.std.proofs.Common.{ℕ, eqb, ◌-◌, ◌∙◌, rules}
+use Rattle.std.proofs.lemmas.Iterator.{YieldsList-from_slice}
+use Rattle.std.proofs.lemmas.Iterator.Search.{all_from_yields_List}
+use Rattle.layout.specs.Bytes.{part}
+use Rattle.layout.proofs.Bytes.{zeros-all}
 use Rattle.layout.proofs.zeros.Goals as goal
 
-pub loop-i-init : goal.loop-i-init
-unfolding zeros
-loop-i-init c = (omega arith, refl)
-
-pub returns-then-s-i-ne0 : goal.returns-then-s-i-ne0
-returns-then-s-i-ne0 c =
-    let i = c.loop-i.i in
-    let s = c.args.s.now in
-    sym (c.loop-i.invariant.1
-    ∙ every-failed (λ (k : ℕ). eqb (byte_at s k) 0) i _ c.loop-i-test.true (ne_eqb (byte_at s i) 0 c.if-s-i-ne0.true))
-
-pub loop-i-preserved : goal.loop-i-preserved
-loop-i-preserved c =
-    let i = c.loop-i.i in
-    let s = c.args.s.now in (
-      omega arith,
-      c.loop-i.invariant.1
-          ∙ every-passed (λ (k : ℕ). eqb (byte_at s k) 0) i _ c.loop-i-test.true (eq-eqb (byte_at s i) 0 c.if-s-i-ne0.false),
-    )
-
 pub returns : goal.returns
-returns c = sym (c.loop-i.invariant.1 ∙ every-end (λ (k : ℕ). eqb (byte_at c.args.s.now k) 0) _ _ c.loop-i-test.false)
+returns c =
+    let a = c.args in
+    all_from_yields_List (λ (x : ℕ). eqb x 0) _ _ _ c.all.ensures.ran (YieldsList-from_slice (part a.s.now a.from (a.to - a.from)) cc) (λ x b q k. search rules)
+    ∙ zeros-all a.s.now a.from a.to c.requires.0 c.requires.1

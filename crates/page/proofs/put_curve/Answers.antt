@@ -10,25 +10,9 @@ use lib.IntN.{pos}
 use lib.ListN.{length}
 use Rattle.laws.proofs.Signed.{cast_is}
 use Rattle.layout.proofs.Signed.{code_read}
-use Rattle.text.proofs.Amounts.{length-blanks}
 use Rattle.page.specs.Page.{curve_left, curve_line}
 use Rattle.page.proofs.LineWritten.{line-written}
 use Rattle.page.proofs.put_curve.Goals as goal
-
-pub put_amounts-end-requires : goal.put_amounts-end-requires
-put_amounts-end-requires c =
-    omega (arith, c.requires.0, c.put_curve_left-left.ensures.upper_bound, c.put_blanks-base.ensures.place, length-blanks (c.args.at + 14 - c.put_curve_left-left.result))
-
-pub put_text-requires : goal.put_text-requires
-put_text-requires c =
-    omega (
-      arith,
-      c.requires.0,
-      c.put_curve_left-left.ensures.upper_bound,
-      c.put_blanks-base.ensures.place,
-      length-blanks (c.args.at + 14 - c.put_curve_left-left.result),
-      c.put_amounts-end.ensures.value,
-    )
 
 pub returns : goal.returns
 unfolding curve_line

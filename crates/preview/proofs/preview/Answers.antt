@@ -1,19 +1,20 @@
 -- `preview::preview` meets its contract: where append takes the record the copy takes it too, and its report is the preview.
-use mathlib.Core.Path.{◌≡◌, sym, ap, ◌∙◌}
+use mathlib.Core.Path.{◌≡◌, sym, ◌∙◌}
 use mathlib.Core.List.{List}
-use Prim.Native.Nat.{ℕ, ◌-◌}
+use Prim.Native.Nat.{ℕ, ◌≤◌}
 use native.Mathlib.Omega.{arith}
 use borrow.Author.Rules.{rules}
 use lib.ListN.{length, take, replicate, length-replicate}
-use Rattle.ground.specs.declared.Verdict.TheVariants.{Accepted}
+use lib.Seq.{length-take-le}
+use Rattle.std.specs.Prelude.{Ok}
 use Rattle.layout.specs.Bytes.{put, AreBytes}
 use Rattle.book.proofs.Accepted.{sound}
 use Rattle.edit.specs.Refusals.{append_verdict}
 use Rattle.edit.proofs.Given.{Admitted, record-taken, admitted}
-use Rattle.preview.proofs.Theorems.{refused-by-append, preview-bounded}
+use Rattle.preview.proofs.Theorems.{preview-bounded}
 use Rattle.preview.proofs.Copy.{copy-fits, copy-admits-record, copy-accepted-with-record, copy-shown}
 use Rattle.preview.proofs.preview.Goals as goal
-use Rattle.preview.proofs.preview.Goals.{After-append_verdict-v, After-copy_in, In-Accepted, Start}
+use Rattle.preview.proofs.preview.Goals.{After-copy_in, In_ok-append_verdict, Start}
 
 abbrev zeros : List ℕ
 zeros = replicate 65536 0
@@ -24,62 +25,56 @@ zeros-room = length-replicate {A = ℕ} 65536 0
 record-long : (c : Start) → length c.args.r ≡ 56
 record-long c = search rules
 
--- refused by append
-pub returns-in-Refused : goal.returns-in-Refused
-returns-in-Refused c =
-    let a = c.args in
-    let p = refused-by-append a.book.now a.used a.day a.r a.out.now _ _ (sym c.append_verdict-v.ensures ∙ c.in-Refused.is) in
-    record { value = sym p.0; out_after = sym p.1; bounded = preview-bounded a.book.now a.used a.day a.r a.out.now (sym p.0) (sym p.1) }
-
--- taken by it
-module _ (c : In-Accepted) where
-  abbrev s : List ℕ
-  s = c.args.book.now
-
-  bytes : AreBytes s
+-- taken by append
+module _ (c : In_ok-append_verdict) where
+  bytes : AreBytes c.args.book.now
   bytes k = omega (arith, c.shared_slice_known-1.given k)
 
-  ok : append_verdict s c.args.used c.args.day c.args.r ≡ Accepted
-  ok = sym c.append_verdict-v.ensures ∙ c.in-Accepted.is
+  ok : append_verdict c.args.book.now c.args.used c.args.day c.args.r ≡ Ok tt
+  ok = sym c.append_verdict.ensures ∙ c.in_ok-append_verdict.was
 
-  given : Admitted s c.args.used c.args.r
-  given = admitted s c.args.used c.args.r c.args.day ok
+  given : Admitted c.args.book.now c.args.used c.args.r
+  given = admitted c.args.book.now c.args.used c.args.r c.args.day ok
 
-pub slice_bounds-copy_in-end-in-Accepted : goal.slice_bounds-copy_in-end-in-Accepted
-slice_bounds-copy_in-end-in-Accepted c = let b = sound _ _ (given (goal.at.slice_bounds-copy_in-end-in-Accepted c).In-Accepted).accepted in omega (arith, b.lent)
+  within : c.args.used ≤ length c.args.book.now
+  within = (sound c.args.book.now c.args.used given.accepted).lent
+
+pub slice_bounds-copy_in-end : goal.slice_bounds-copy_in-end
+slice_bounds-copy_in-end c = omega (arith, within (goal.at.slice_bounds-copy_in-end c).In_ok-append_verdict)
+
+pub slice_bounds-copy_in-end-2 : goal.slice_bounds-copy_in-end-2
+slice_bounds-copy_in-end-2 c = sym (length-take-le c.args.used c.args.book.now (within (goal.at.slice_bounds-copy_in-end-2 c).In_ok-append_verdict))
 
 pub copy_in-requires : goal.copy_in-requires
 copy_in-requires c =
     let a = c.args in
-    copy-fits zeros zeros-room a.book.now a.used a.r (given (goal.at.copy_in-requires c).In-Accepted) (a.used - 0) (omega arith)
+    copy-fits zeros zeros-room a.book.now a.used a.r (given (goal.at.copy_in-requires c).In_ok-append_verdict) a.used (omega arith)
 
 -- from the copy on
 module _ (c : After-copy_in) where
-  abbrev used : ℕ
-  used = c.args.used
-
-  is-copy : c.copy_in.new.dst ≡ put zeros 0 (take used c.args.book.now)
-  is-copy =
-      let whole : used - 0 ≡ used = omega arith in
-      c.copy_in.ensures ∙ ap (λ (n : ℕ). put zeros 0 (take n c.args.book.now)) whole
+  is-copy : c.copy_in.new.dst ≡ put zeros 0 (take c.args.used c.args.book.now)
+  is-copy = c.copy_in.ensures
 
 pub add-requires : goal.add-requires
 add-requires c =
-    let w = copy-admits-record zeros zeros-room c.args.book.now c.args.used c.args.r (given (goal.at.add-requires c).In-Accepted) c.copy_in.new.dst (is-copy (goal.at.add-requires c).After-copy_in) (bytes (goal.at.add-requires c).In-Accepted) in
+    let s = (goal.at.add-requires c).In_ok-append_verdict in
+    let w = copy-admits-record zeros zeros-room c.args.book.now c.args.used c.args.r (given s) c.copy_in.new.dst (is-copy (goal.at.add-requires c).After-copy_in) (bytes s) in
     (w.accepted, record-taken _ _ _ w)
 
 pub fill_report-requires : goal.fill_report-requires
 fill_report-requires c =
     let a = c.args in
+    let s = (goal.at.fill_report-requires c).In_ok-append_verdict in
     record {
       used = _;
-      accepted = copy-accepted-with-record zeros zeros-room a.book.now a.used a.r (given (goal.at.fill_report-requires c).In-Accepted) _ (is-copy (goal.at.fill_report-requires c).After-copy_in) (bytes (goal.at.fill_report-requires c).In-Accepted) (record-long (goal.at.fill_report-requires c).Start) _ _
+      accepted = copy-accepted-with-record zeros zeros-room a.book.now a.used a.r (given s) _ (is-copy (goal.at.fill_report-requires c).After-copy_in) (bytes s) (record-long (goal.at.fill_report-requires c).Start) _ _
           c.add.ensures.value c.add.ensures.book_after;
     }
 
-pub returns-in-Accepted : goal.returns-in-Accepted
-returns-in-Accepted c =
+pub returns : goal.returns
+returns c =
     let a = c.args in
-    let p = copy-shown zeros zeros-room a.book.now a.used a.r (given (goal.at.returns-in-Accepted c).In-Accepted) _ (is-copy (goal.at.returns-in-Accepted c).After-copy_in) (bytes (goal.at.returns-in-Accepted c).In-Accepted) (record-long (goal.at.returns-in-Accepted c).Start) _ _
-    c.add.ensures.value c.add.ensures.book_after a.day (ok (goal.at.returns-in-Accepted c).In-Accepted) a.out.now c.fill_report.ensures.value c.fill_report.ensures.out_after in
+    let s = (goal.at.returns c).In_ok-append_verdict in
+    let p = copy-shown zeros zeros-room a.book.now a.used a.r (given s) _ (is-copy (goal.at.returns c).After-copy_in) (bytes s) (record-long (goal.at.returns c).Start) _ _
+    c.add.ensures.value c.add.ensures.book_after a.day (ok s) a.out.now c.fill_report.ensures.value c.fill_report.ensures.out_after in
     record { value = p.0; out_after = p.1; bounded = preview-bounded a.book.now a.used a.day a.r a.out.now p.0 p.1 }

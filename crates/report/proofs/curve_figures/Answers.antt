@@ -4,17 +4,14 @@ use native.Mathlib.Omega.{arith}
 use Rattle.book.proofs.Accepted.{sound, curve-sound}
 use Rattle.exposure.specs.Exposures.{exposure_at}
 use Rattle.report.proofs.curve_figures.Goals as goal
-use Rattle.report.proofs.curve_figures.Goals.{After-gather-n, Start}
-
--- the entry's record
 
 pub block_at-b-requires : goal.block_at-b-requires
 block_at-b-requires c =
     let b = sound _ _ c.requires.0.accepted in
     omega (arith, b.blocks, b.lent, c.requires.2)
 
-pub components_at-components-requires : goal.components_at-components-requires
-components_at-components-requires c =
+pub components_at-requires : goal.components_at-requires
+components_at-requires c =
     (c.requires.0, omega (arith, c.requires.1), omega (arith, c.requires.1, c.requires.2))
 
 pub curve_margin-requires : goal.curve_margin-requires
@@ -22,12 +19,12 @@ curve_margin-requires c =
     let b = curve-sound _ _ (sound _ _ c.requires.0.accepted) c.args.curve c.requires.1 c.requires.2 in
     record {
       proper = rw (c.curve_of.ensures, c.block_at-b.ensures.result_value) b.curve;
-      stress = c.components_at-components.ensures.proper_components;
-      schedules = c.gather-n.ensures.limits;
+      stress = c.components_at.ensures.proper_components;
+      schedules = c.gather-schedules.ensures.limits;
     }
 
 pub returns : goal.returns
 unfolding exposure_at
 returns c =
     c.curve_margin.ensures
-    ∙ rw (c.curve_of.ensures, c.components_at-components.ensures.value, c.currency_of-currency.ensures, c.block_at-b.ensures.result_value, c.gather-n.ensures.flows) refl
+    ∙ rw (c.curve_of.ensures, c.components_at.ensures.value, c.currency_of.ensures, c.block_at-b.ensures.result_value, c.gather-schedules.ensures.flows) refl

@@ -13,7 +13,7 @@ use Rattle.exposure.specs.Exposures.{exposures}
 use Rattle.report.specs.Entry.{margin_in}
 use Rattle.report.proofs.Placed.{CurvesPlaced, placed-as, placed-next, placed-all, placed-limits}
 use Rattle.report.proofs.margin_with.Goals as goal
-use Rattle.report.proofs.margin_with.Goals.{After-curve_count-count, After-loop-k, After-slice_known-in-loop-k-1, In-loop-k, Start}
+use Rattle.report.proofs.margin_with.Goals.{After-curve_count-count, After-loop-k, In-loop-k, Start}
 
 -- at the entry: the book is sound
 here : (s : Start) → Sound s.args.book.now s.requires.0.used
@@ -23,14 +23,12 @@ pub curve_count-count-requires : goal.curve_count-count-requires
 curve_count-count-requires c = let b = here (goal.at.curve_count-count-requires c).Start in omega (arith, b.blocks, b.lent)
 
 pub loop-k-init : goal.loop-k-init
-loop-k-init c = (omega arith, refl, record { places = refl; each = λ i l. absurd (omega arith) })
+loop-k-init c = (refl, record { places = refl; each = λ i l. absurd (omega arith) })
 
--- the entry's record
-
-pub curve_figures-m-requires : goal.curve_figures-m-requires
-curve_figures-m-requires c =
+pub curve_figures-requires : goal.curve_figures-requires
+curve_figures-requires c =
     let p = c.requires in
-    (p.0, omega arith, omega (arith, c.curve_count-count.ensures.value), omega (arith, c.loop-k.invariant.1, p.1))
+    (p.0, omega arith, omega (arith, c.curve_count-count.ensures.value), omega (arith, c.loop-k.invariant.0, p.1))
 
 -- in the loop: a place is free
 below : (c : In-loop-k) → c.loop-k.k < 8
@@ -38,11 +36,9 @@ below c =
     let b = sound c.args.book.now c.requires.0.used c.requires.0.accepted in
     omega (arith, c.curve_count-count.ensures.value, b.most)
 
--- a turn, behind its call
-
 pub loop-k-preserved : goal.loop-k-preserved
 loop-k-preserved c =
-    (omega arith, search rules, placed-next _ _ _ c.loop-k.invariant.2 c.curve_figures-m.result (below (goal.at.loop-k-preserved c).In-loop-k) c.curve_figures-m.ensures)
+    (search rules, placed-next _ _ _ c.loop-k.invariant.1 c.curve_figures.result (below (goal.at.loop-k-preserved c).In-loop-k) c.curve_figures.ensures)
 
 -- behind the loop: every curve has its place
 module _ (c : After-loop-k) where
@@ -52,7 +48,7 @@ module _ (c : After-loop-k) where
   all : take c.curve_count-count.result c.loop-k.curves ≡ map curve_margin (exposures c.args.book.now)
   all =
       let e : c.loop-k.k ≡ c.curve_count-count.result = omega arith in
-      let placed : CurvesPlaced c.args.book.now c.loop-k.curves c.curve_count-count.result = placed-as _ _ e c.loop-k.invariant.2 in
+      let placed : CurvesPlaced c.args.book.now c.loop-k.curves c.curve_count-count.result = placed-as _ _ e c.loop-k.invariant.1 in
       placed-all _ _ _ placed count-is (omega (arith, count-is, (sound c.args.book.now c.requires.0.used c.requires.0.accepted).most))
 
   limits : PlacesLimits c.loop-k.curves c.curve_count-count.result
@@ -70,9 +66,6 @@ returns c =
     c.margin_of.ensures
     ∙ margin-of c.loop-k.curves c.curve_count-count.result (exposures c.args.book.now) (all (goal.at.returns c).After-loop-k) c.account.result
     ∙ ap (λ (a : ℕ). margin_of a (exposures c.args.book.now)) c.account.ensures.value
-
-pub no_curve-curves-requires : goal.no_curve-curves-requires
-no_curve-curves-requires c = tt
 
 pub offset_bounds-curves-k : goal.offset_bounds-curves-k
 offset_bounds-curves-k c = omega (arith, below (goal.at.offset_bounds-curves-k c).In-loop-k)

@@ -1,12 +1,8 @@
 -- `report::margin_with` meets its contract. The invariant: the first k places hold the figures of the first k curves.
 use mathlib.Core.Path.{◌≡◌}
-use Prim.Native.Nat.{◌-◌, ◌≤◌}
 use lib.ListN.{length}
 use Rattle.report.proofs.Placed.{CurvesPlaced}
 use Rattle.report.proofs.margin_with.Given as goal
 
 abbrev pub invariant-loop-k : goal.invariant-loop-k
-invariant-loop-k l = (l.k ≤ l.count) × (length l.ladder ≡ length l.initial.ladder) × CurvesPlaced l.book l.curves l.k
-
-abbrev pub decreases-loop-k : goal.decreases-loop-k
-decreases-loop-k l = l.count - l.k
+invariant-loop-k l = (length l.ladder ≡ length l.initial.ladder) × CurvesPlaced l.book l.curves l.k

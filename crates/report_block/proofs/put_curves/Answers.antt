@@ -1,14 +1,10 @@
 -- `report_block::put_curves` meets its contract: what is written and what is left to write are together all.
 use borrow.Author.Rules.{rules}
-use Rattle.laws.proofs.Arrays.{length-mapped}
 use Rattle.margin.specs.Margins.{no_curve}
 use Rattle.report_block.specs.Report.{curve_bytes}
-use Rattle.report_block.proofs.Records.{records-all, records-next, records-none}
+use Rattle.report_block.proofs.Records.{records-next, records-none}
 use Rattle.report_block.proofs.Report.{length-curve}
 use Rattle.report_block.proofs.put_curves.Goals as goal
-
-pub loop-i-init : goal.loop-i-init
-loop-i-init c = records-all curve_bytes 32 length-curve _ 8 c.args.curves 8 (search (rules, length-mapped))
 
 pub loop-i-preserved : goal.loop-i-preserved
 loop-i-preserved c =
@@ -16,6 +12,3 @@ loop-i-preserved c =
 
 pub returns : goal.returns
 returns c = records-none curve_bytes 32 length-curve _ 8 _ 8 c.loop-i.invariant (search rules)
-
-pub shape_of-out : goal.shape_of-out
-shape_of-out c = c.loop-i.invariant.lent

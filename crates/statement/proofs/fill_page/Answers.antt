@@ -1,15 +1,14 @@
 -- `statement::fill_page` meets its contract: 13, or the page.
-use mathlib.Core.Path.{◌≡◌, sym, ◌∙◌}
-use mathlib.Core.Bool.{false}
+use mathlib.Core.Path.{◌≡◌, ◌∙◌}
 use native.Mathlib.Omega.{arith}
 use lib.ListN.{length}
-use Rattle.ground.specs.Space.{breaks_space}
+use Rattle.ground.proofs.Verdicts.{passed-on}
 use Rattle.book.proofs.Accepted.{Sound, sound, trade-count-most}
-use Rattle.text.proofs.Fitting.{text-too-long, text-fits, text_in-front}
-use Rattle.statement.specs.Entry.{page_of}
+use Rattle.text.proofs.Fitting.{space-judged, text-too-long, text-fits, text_in-front}
+use Rattle.statement.specs.Entry.{page_of, page_verdict}
 use Rattle.statement.proofs.Limits.{length-page_of}
 use Rattle.statement.proofs.fill_page.Goals as goal
-use Rattle.statement.proofs.fill_page.Goals.{After-page_length-needed, Else-breaks_space, Start}
+use Rattle.statement.proofs.fill_page.Goals.{After-refuse_if, Start}
 
 here : (s : Start) → Sound s.args.book.now s.requires.used
 here s = sound s.args.book.now s.requires.used s.requires.accepted
@@ -30,31 +29,28 @@ page_length-needed-requires c =
     (omega (arith, c.trade_count.ensures, trade-count-most _ _ b), omega (arith, c.curve_count.ensures.value, b.most))
 
 -- the length is that of the page
-module _ (c : After-page_length-needed) where
+module _ (c : After-refuse_if) where
   needed : c.page_length-needed.result ≡ length (page_of c.args.book.now)
   needed =
       let e = length-page_of c.args.book.now _ (sound c.args.book.now c.requires.used c.requires.accepted) in
       rw (e, ← c.margin_of_book-m.ensures, ← c.trade_count.ensures, ← c.curve_count.ensures.value) c.page_length-needed.ensures
 
-pub returns-then-breaks_space : goal.returns-then-breaks_space
-returns-then-breaks_space c =
-    let a = c.args in
-    let p = text-too-long (page_of a.book.now) a.out.now (rw (needed (goal.at.returns-then-breaks_space c).After-page_length-needed) at (sym c.breaks_space.ensures ∙ c.if-breaks_space.true)) in
-    record { value = p.answer; out_after = p.bytes }
+  judged : page_verdict c.args.book.now (length c.args.out.now) ≡ c.refuse_if.result
+  judged = space-judged (page_of c.args.book.now) c.args.out.now c.refuse_if.ensures c.breaks_space.ensures needed
 
--- there is text-fits
-spacious : (c : Else-breaks_space) → let a = c.args in breaks_space (length (page_of a.book.now)) (length a.out.now) ≡ false
-spacious c =
-    let e = length-page_of c.args.book.now _ (sound c.args.book.now c.requires.used c.requires.accepted) in
-    let needed : c.page_length-needed.result ≡ length (page_of c.args.book.now) = rw (e, ← c.margin_of_book-m.ensures, ← c.trade_count.ensures, ← c.curve_count.ensures.value) c.page_length-needed.ensures in
-    rw needed at (sym c.breaks_space.ensures ∙ c.if-breaks_space.false)
+pub returns-in_err-refuse_if : goal.returns-in_err-refuse_if
+returns-in_err-refuse_if c =
+    let e = judged (goal.at.returns-in_err-refuse_if c).After-refuse_if ∙ c.in_err-refuse_if.was in
+    let p = text-too-long (page_of c.args.book.now) c.args.out.now e (passed-on c.from_residual.result c.from_residual.ensures.1) in
+    record { value = p.answer; out_after = p.bytes }
 
 pub write_page-requires : goal.write_page-requires
 write_page-requires c =
-    record { starts_with_book = (c.requires, c.margin_of_book-m.ensures); book_in_bounds = text-fits (page_of c.args.book.now) c.args.out.now (spacious (goal.at.write_page-requires c).Else-breaks_space) }
+    let e = judged (goal.at.write_page-requires c).After-refuse_if ∙ c.in_ok-refuse_if.was in
+    record { starts_with_book = (c.requires, c.margin_of_book-m.ensures); room = text-fits (page_of c.args.book.now) c.args.out.now e }
 
 pub returns : goal.returns
 returns c =
-    let a = c.args in
-    let p = text_in-front (page_of a.book.now) a.out.now (spacious (goal.at.returns c).Else-breaks_space) c.write_page.ensures.value c.write_page.ensures.out_after in
+    let e = judged (goal.at.returns c).After-refuse_if ∙ c.in_ok-refuse_if.was in
+    let p = text_in-front (page_of c.args.book.now) c.args.out.now e c.write_page.ensures.value c.write_page.ensures.out_after in
     record { value = p.answer; out_after = p.bytes }

@@ -21,11 +21,11 @@ use Rattle.statement.proofs.put_trades.Goals.{After-fields_of, In-loop-i, Start}
 here : (s : Start) → Sound s.args.book.now s.requires.starts_with_book.used
 here s = sound s.args.book.now s.requires.starts_with_book.used s.requires.starts_with_book.accepted
 
-pub trade_count-count-requires : goal.trade_count-count-requires
-trade_count-count-requires c = let b = here (goal.at.trade_count-count-requires c).Start in omega (arith, b.blocks, b.lent)
+pub trade_count-i-end-requires : goal.trade_count-i-end-requires
+trade_count-i-end-requires c = let b = here (goal.at.trade_count-i-end-requires c).Start in omega (arith, b.blocks, b.lent)
 
 pub loop-i-init : goal.loop-i-init
-loop-i-init c = (omega arith, text-all _ _ _)
+loop-i-init c = text-all _ _ _
 
 -- in the loop: the next trade's line is left
 module _ (c : In-loop-i) where
@@ -36,7 +36,7 @@ module _ (c : In-loop-i) where
   i = c.loop-i.i
 
   below : i < trade_count book
-  below = omega (arith, c.trade_count-count.ensures)
+  below = omega (arith, c.trade_count-i-end.ensures)
 
   abbrev rest : List ℕ
   rest = lines_of record_line (i + 1) (drop (i + 1) (records book))
@@ -63,25 +63,19 @@ pub put_trade-next-requires : goal.put_trade-next-requires
 put_trade-next-requires c =
     let limits = record-limits c.args.book.now _ (here (goal.at.put_trade-next-requires c).Start) c.loop-i.i (below (goal.at.put_trade-next-requires c).In-loop-i) in
     let long = length-trade-line c.loop-i.i (fields_of (record_at c.args.book.now c.loop-i.i)) limits in
-    let room = text-room (record_line c.loop-i.i (record_at c.args.book.now c.loop-i.i)) (rest (goal.at.put_trade-next-requires c).In-loop-i) (rw (next (goal.at.put_trade-next-requires c).In-loop-i) at c.loop-i.invariant.1) c.requires.book_in_bounds in
+    let room = text-room (record_line c.loop-i.i (record_at c.args.book.now c.loop-i.i)) (rest (goal.at.put_trade-next-requires c).In-loop-i) (rw (next (goal.at.put_trade-next-requires c).In-loop-i) at c.loop-i.invariant) c.requires.room in
     (omega (arith, long, room), rw (fields-is (goal.at.put_trade-next-requires c).After-fields_of) limits)
 
 pub loop-i-preserved : goal.loop-i-preserved
 loop-i-preserved c =
     let line = rw (fields-is (goal.at.loop-i-preserved c).After-fields_of) at c.put_trade-next.ensures in
-    (omega arith, text-next (rw (next (goal.at.loop-i-preserved c).In-loop-i) at c.loop-i.invariant.1) line)
+    text-next (rw (next (goal.at.loop-i-preserved c).In-loop-i) at c.loop-i.invariant) line
 
 pub returns : goal.returns
 returns c =
     let k = c.loop-i.i in
-    let e : k ≡ length (records c.args.book.now) = omega (arith, length-records c.args.book.now, c.trade_count-count.ensures) in
-    text-none (rw (lines_none record_line (records c.args.book.now) k k e) at c.loop-i.invariant.1)
-
-pub overflow_add-i : goal.overflow_add-i
-overflow_add-i c = omega arith
-
-pub loop-i-smaller : goal.loop-i-smaller
-loop-i-smaller c = omega arith
+    let e : k ≡ length (records c.args.book.now) = omega (arith, length-records c.args.book.now, c.trade_count-i-end.ensures) in
+    text-none (rw (lines_none record_line (records c.args.book.now) k k e) at c.loop-i.invariant)
 
 pub shape_of-out : goal.shape_of-out
-shape_of-out c = c.loop-i.invariant.1.lent
+shape_of-out c = c.loop-i.invariant.lent

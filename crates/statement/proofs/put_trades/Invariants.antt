@@ -1,5 +1,4 @@
 -- `statement::put_trades` meets its contract: what is written and what is left to write are together all.
-use Prim.Native.Nat.{◌-◌, ◌≤◌}
 use lib.ListN.{drop}
 use Rattle.book.specs.Parts.{records}
 use Rattle.text.specs.Text.{lines_of}
@@ -9,7 +8,4 @@ use Rattle.statement.proofs.put_trades.Given as goal
 
 abbrev pub invariant-loop-i : goal.invariant-loop-i
 invariant-loop-i l =
-    (l.i ≤ l.count) × TextLeft l.initial.out l.at (lines_of record_line 0 (records l.book)) l.out l.next (lines_of record_line l.i (drop l.i (records l.book)))
-
-abbrev pub decreases-loop-i : goal.decreases-loop-i
-decreases-loop-i l = l.count - l.i
+    TextLeft l.initial.out l.at (lines_of record_line 0 (records l.book)) l.out l.next (lines_of record_line l.i (drop l.i (records l.book)))

@@ -38,7 +38,7 @@ module _ (s : Start) where
 
   -- the parts have room
   room : length (title_line m.account) + length (lines_of record_line 0 (records book)) + length (lines_of curve_line 1 (take (curve_count book) m.curves)) + length (lines_of (currency_part_of (take (curve_count book) m.curves)) 1 m.currencies) ≤ length s.args.out.now
-  room = omega (arith, ap length whole, length-parts-of (curve_count book) m (records book), s.requires.book_in_bounds)
+  room = omega (arith, ap length whole, length-parts-of (curve_count book) m (records book), s.requires.room)
 
 pub curve_count-count-requires : goal.curve_count-count-requires
 curve_count-count-requires c = let b = here (goal.at.curve_count-count-requires c).Start in omega (arith, b.blocks, b.lent)
@@ -49,7 +49,7 @@ put_title-first-requires c =
 
 pub put_trades-second-requires : goal.put_trades-second-requires
 put_trades-second-requires c =
-    record { starts_with_book = c.requires.starts_with_book.0; book_in_bounds = omega (arith, room (goal.at.put_trades-second-requires c).Start, c.put_title-first.ensures.place) }
+    record { starts_with_book = c.requires.starts_with_book.0; room = omega (arith, room (goal.at.put_trades-second-requires c).Start, c.put_title-first.ensures.place) }
 
 pub put_curves-third-requires : goal.put_curves-third-requires
 put_curves-third-requires c =
@@ -68,5 +68,5 @@ returns c =
     let e = c.curve_count-count.ensures.value in
     let first = and_then (and_then c.put_title-first.ensures c.put_trades-second.ensures) (rw e at c.put_curves-third.ensures) in
     let parts = and_then first (rw e at c.put_currencies.ensures) in
-    let p = written_as (page_of (book (goal.at.returns c).Start)) parts (whole (goal.at.returns c).Start) c.requires.book_in_bounds in
+    let p = written_as (page_of (book (goal.at.returns c).Start)) parts (whole (goal.at.returns c).Start) c.requires.room in
     record { value = p.0; out_after = p.1 }

@@ -1,25 +1,16 @@
--- `text::digit_count` meets its contract: each turn takes the last digit off.
-use mathlib.Core.Path.{ap}
-use native.Mathlib.Omega.{arith}
-use borrow.Author.Rules.{rules}
-use lib.ListN.{length}
-use Rattle.text.proofs.Digits.{decimal-one, decimal-longer, length-decimal}
+-- `text::digit_count` meets its contract.
+use Rattle.std.proofs.Common.{◌≡◌, ℕ, zero, suc, max, length, sym, ◌∙◌, arith}
+use Rattle.text.specs.Text.{decimal_of}
+use Rattle.text.proofs.Digits.{length-between}
+use Rattle.text.proofs.Amounts.{one-digit}
 use Rattle.text.proofs.digit_count.Goals as goal
 
-pub overflow_add-count : goal.overflow_add-count
-overflow_add-count c =
-    let l = c.loop-rest in
-    omega (arith, l.invariant.0, length-decimal c.args.n)
-
-pub loop-rest-preserved : goal.loop-rest-preserved
-loop-rest-preserved c =
-    let l = c.loop-rest in
-    let s = c.before.before in
-    let longer = decimal-longer l.rest (search rules) (omega (arith, s.ranges.n.fits, l.invariant.1)) in
-    (omega (arith, longer, l.invariant.0), omega (arith, l.invariant.1))
+-- 0 has as many as 1
+as_one : (n : ℕ) → length (decimal_of (max n 1)) ≡ length (decimal_of n)
+as_one zero = one-digit 1 (omega arith) ∙ sym (one-digit 0 (omega arith))
+as_one (suc n) = let e : max (suc n) 1 ≡ suc n = omega arith in rw e
 
 pub returns : goal.returns
 returns c =
-    let l = c.loop-rest in
-    let one = ap length (decimal-one l.rest (search rules)) in
-    omega (arith, one, l.invariant.0)
+    let k = c.ilog10 in
+    sym (sym (as_one c.args.n) ∙ rw (← c.max.ensures) (length-between k.result c.max.result k.ensures.power_le k.ensures.next_power_gt k.ensures.bound))

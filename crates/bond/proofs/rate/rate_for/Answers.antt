@@ -1,15 +1,11 @@
 -- `bond::rate::rate_for` meets its contract.
 use native.Mathlib.Omega.{arith}
 use borrow.Author.Rules.{rules}
-use Rattle.bond.proofs.Halves.{left-all, left-low, left-high, left_one}
+use Rattle.bond.proofs.Halves.{left-all, left-high, left_one}
 use Rattle.bond.proofs.rate.rate_for.Goals as goal
 
 pub loop-low-init : goal.loop-low-init
 loop-low-init c = left-all c.requires.cash_value
-
-pub loop-low-preserved-then-value_at-cash : goal.loop-low-preserved-then-value_at-cash
-loop-low-preserved-then-value_at-cash c =
-    left-low c.loop-low.invariant _ (search rules) (search rules) (omega (arith, c.value_at.ensures))
 
 pub loop-low-preserved : goal.loop-low-preserved
 loop-low-preserved c =

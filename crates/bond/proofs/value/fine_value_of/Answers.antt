@@ -6,6 +6,3 @@ pub fine_value_at-requires : goal.fine_value_at-requires
 fine_value_at-requires c =
     let pre = c.requires in
     (pre.3, pre.1, rw c.rate_at.ensures (curve-rate-limit _ pre.0 _), pre.2)
-
-pub returns : goal.returns
-returns c = rw c.rate_at.ensures at c.fine_value_at.ensures.worth

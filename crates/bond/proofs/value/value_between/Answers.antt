@@ -2,67 +2,45 @@
 use mathlib.Core.Path.{◌≡◌}
 use Prim.Native.Nat.{◌+◌, ◌-◌, ◌*◌, ◌≤◌}
 use native.Mathlib.Omega.{arith}
-use borrow.Author.Rules.{rules}
 use Rattle.laws.specs.Walk.{table}
 use Rattle.decimal.specs.Product.{unit}
 use Rattle.curve.specs.Rates.{nodes_of}
 use Rattle.legs.specs.Runs.{flow_of}
 use Rattle.bond.specs.Value.{bond_value}
-use Rattle.bond.proofs.Values.{value-two, value-one, value_none, value-most, payment-kept}
+use Rattle.bond.proofs.Values.{value-two, value-one, value_none, value-most}
 use Rattle.bond.proofs.value.value_between.Goals as goal
-use Rattle.bond.proofs.value.value_between.Goals.{After-value_of, After-value_of_two-sum, At-loop-k, Start}
+use Rattle.bond.proofs.value.value_between.Goals.{Joined-k-to, then-k-to, else-k-to}
 
--- where the code begins
+module _ (c : Joined-k-to) where
+  -- the whole fits
+  whole : bond_value (nodes_of c.args.c) (table (flow_of c.args.l) c.args.from (c.args.to - c.args.from)) ≤ 120 * unit
+  unfolding unit
+  whole = let a = c.args in omega (arith, value-most a.l c.requires.1 (nodes_of a.c) a.from (a.to - a.from), c.requires.1.few)
 
--- the whole fits
-whole : (s : Start) → let a = s.args in bond_value (nodes_of a.c) (table (flow_of a.l) a.from (a.to - a.from)) ≤ 120 * unit
-unfolding unit
-whole s =
-    let a = s.args in
-    omega (arith, value-most a.l s.requires.1 (nodes_of a.c) a.from (a.to - a.from), s.requires.1.few)
-
-pub value_of_two-sum-requires : goal.value_of_two-sum-requires
-value_of_two-sum-requires c =
-    let f = payment-kept c.requires.1 c.payment-f.ensures (omega (arith, c.loop-k-test.true, c.requires.3)) in
-    let g = payment-kept c.requires.1 c.payment-g.ensures (omega (arith, c.loop-k-test.true, c.requires.3)) in
-    (c.requires.0, f.0, g.0, f.1, g.1, c.requires.4)
-
--- a turn: the value of the payments left is that of two, and of those behind them
-turn : (c : After-value_of_two-sum) → let in-loop = c.before.before.before in let k = in-loop.loop-k.k in let a = in-loop.args in
-    bond_value (nodes_of a.c) (table (flow_of a.l) k (a.to - k)) ≡ c.value_of_two-sum.result + bond_value (nodes_of a.c) (table (flow_of a.l) (k + 2) (a.to - (k + 2)))
-turn c =
-    let a = c.args in
-    rw (c.value_of_two-sum.ensures, c.payment-g.ensures, c.payment-f.ensures) (value-two (nodes_of a.c) a.l c.loop-k.k a.to c.loop-k-test.true)
+  -- a turn: the value of the payments left is that of two, or of the last, and of those behind them
+  turn : let a = c.args in let k = c.loop-k.k in
+      bond_value (nodes_of a.c) (table (flow_of a.l) k (a.to - k)) ≡ c.if-k-to.sum + bond_value (nodes_of a.c) (table (flow_of a.l) (k + 2) (a.to - (k + 2)))
+  turn =
+      let a = c.args in
+      let k = c.loop-k.k in
+      elim c.if-k-to.branch [
+        | then-k-to w ↦ rw (w.sum-is, w.value_of_two.ensures, w.payment.ensures, c.payment-f.ensures) (value-two (nodes_of a.c) a.l k a.to w.if-k-to.true)
+        | else-k-to w ↦
+            rw (w.sum-is, w.value_of.ensures, c.payment-f.ensures)
+            (omega (arith, value-one (nodes_of a.c) a.l k a.to c.loop-k-test.true w.if-k-to.false, value_none (nodes_of a.c) a.l (k + 2) a.to (omega arith)))
+      ]
 
 pub overflow_add-sum : goal.overflow_add-sum
 unfolding unit
-overflow_add-sum c =
-    omega (arith, turn c, whole (goal.at.overflow_add-sum c).Start)
+overflow_add-sum c = let at = (goal.at.overflow_add-sum c).Joined-k-to in omega (arith, turn at, whole at)
 
 pub loop-k-preserved : goal.loop-k-preserved
-loop-k-preserved c = (search rules, omega (arith, turn c))
-
-pub value_of-requires : goal.value_of-requires
-value_of-requires c =
-    let f = payment-kept c.requires.1 c.payment-f-then-k-to.ensures (omega (arith, c.if-k-to.true, c.requires.3)) in
-    (c.requires.0, f.0, f.1, c.requires.4)
-
--- the last payment alone
-last : (c : After-value_of) → let after-loop = c.before.before.before in let k = after-loop.loop-k.k in let a = after-loop.args in
-    bond_value (nodes_of a.c) (table (flow_of a.l) k (a.to - k)) ≡ c.value_of.result
-last c =
-    let a = c.args in
-    rw (c.value_of.ensures, c.payment-f-then-k-to.ensures) (value-one (nodes_of a.c) a.l c.loop-k.k a.to c.if-k-to.true c.loop-k-test.false)
-
-pub overflow_add-result : goal.overflow_add-result
-unfolding unit
-overflow_add-result c =
-    omega (arith, last c, whole (goal.at.overflow_add-result c).Start)
-
-pub returns-then-k-to : goal.returns-then-k-to
-returns-then-k-to c = omega (arith, last c)
+loop-k-preserved c = omega (arith, turn (goal.at.loop-k-preserved c).Joined-k-to)
 
 pub returns : goal.returns
-returns c =
-    let a = ((goal.at.returns c).At-loop-k).args in
-    omega (arith, value_none (nodes_of a.c) a.l c.loop-k.k a.to c.if-k-to.false)
+returns c = let a = c.args in omega (arith, value_none (nodes_of a.c) a.l c.loop-k.k a.to c.loop-k-test.false)
+
+pub returns-after-k-to : goal.returns-after-k-to
+returns-after-k-to c =
+    let a = c.args in
+    omega (arith, turn (goal.at.returns-after-k-to c).Joined-k-to, value_none (nodes_of a.c) a.l (c.loop-k.k + 2) a.to (omega arith))

@@ -2,12 +2,6 @@
 use Rattle.bond.proofs.Values.{rate-most}
 use Rattle.bond.proofs.value.value_of.Goals as goal
 
-pub returns-then-found : goal.returns-then-found
-returns-then-found c = c.fine_value_of-found.ensures c.if-found.true
-
 pub present_value-requires : goal.present_value-requires
 present_value-requires c =
     (c.requires.1, rw c.rate_at.ensures (rate-most _ _ c.requires.0))
-
-pub returns : goal.returns
-returns c = rw c.rate_at.ensures at c.present_value.ensures

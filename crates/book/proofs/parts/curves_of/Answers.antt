@@ -18,29 +18,26 @@ use Rattle.book.proofs.parts.curves_of.Goals as goal
 abbrev currency : List ℕ → ℕ → ℕ
 currency s k = currency_of (get_or (curve_blocks s) k [])
 
-pub loop-k-init : goal.loop-k-init
-loop-k-init c = (search rules, refl, λ j l. absurd (omega arith))
-
 pub loop-k-preserved : goal.loop-k-preserved
 loop-k-preserved c =
     let k = c.loop-k.k in
-    let held = c.loop-k.currency in (
-      search rules,
-      simp length-set c.loop-k.invariant.1,
-      below_more _ k
-          (λ j l. get_or-set_other held k j c.currency_at.result 0 (λ e. omega arith) ∙ c.loop-k.invariant.2 j l)
-          (get_or-set_same held k c.currency_at.result 0 (omega arith) ∙ c.currency_at.ensures),
-    )
+    let held = c.loop-k.currency in
+    record {
+      long = simp length-set c.loop-k.invariant.long;
+      read =
+          below_more _ k
+          (λ j l. get_or-set_other held k j c.currency_at.result 0 (λ e. omega arith) ∙ c.loop-k.invariant.read j l)
+          (get_or-set_same held k c.currency_at.result 0 (omega arith) ∙ c.currency_at.ensures);
+    }
 
 pub returns : goal.returns
 unfolding curves_in
 returns c =
     let s = c.args.book.now in
     let inv = c.loop-k.invariant in
-    let last : c.loop-k.k ≡ 8 = omega arith in
     rw (
-      c.curve_count-count.ensures.value,
+      c.curve_count.ensures.value,
       length-curve_blocks s,
-      ext_get_or 0 c.loop-k.currency (table (currency s) 0 8) (inv.1 ∙ sym (length-table (currency s) 0 8))
-          (λ j l. inv.2 j (omega arith) ∙ sym (get_d-table (currency s) 0 8 j 0 (omega arith) ∙ ap (currency s) (omega arith))),
+      ext_get_or 0 c.loop-k.currency (table (currency s) 0 8) (inv.long ∙ sym (length-table (currency s) 0 8))
+          (λ j l. inv.read j (omega arith) ∙ sym (get_d-table (currency s) 0 8 j 0 (omega arith) ∙ ap (currency s) (omega arith))),
     )

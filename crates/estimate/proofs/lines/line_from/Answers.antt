@@ -3,7 +3,7 @@ use Prim.Native.Nat.{ℕ, ◌+◌, ◌*◌, ◌≤◌}
 use native.Mathlib.Omega.{arith}
 use Rattle.laws.proofs.Signed.{fits, read_is, back}
 use Rattle.estimate.specs.Lines.{line_scale}
-use Rattle.estimate.proofs.LineCode.{moved-size, code-moved, code-start, start-size}
+use Rattle.estimate.proofs.LineCode.{code-start, start-size}
 use Rattle.estimate.proofs.lines.line_from.Goals as goal
 use Rattle.estimate.proofs.lines.line_from.Goals.{Start}
 
@@ -15,12 +15,6 @@ module _ (s : Start) where
   high-most : high ≤ 140000000000000
   unfolding line_scale
   high-most = omega (arith, s.requires.0.rate, s.requires.1)
-
-pub overflow_mul-result-2 : goal.overflow_mul-result-2
-overflow_mul-result-2 c =
-    let a = c.args in
-    rw (code-moved a.slope a.a.day c.requires.2 c.requires.0.day)
-    (fits _ (omega (arith, moved-size a.slope a.a.day c.requires.2 c.requires.0.day)))
 
 pub overflow_sub-result : goal.overflow_sub-result
 overflow_sub-result c =

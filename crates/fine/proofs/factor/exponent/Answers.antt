@@ -25,14 +25,8 @@ module _ (c : Start) (more : ℕ) (e : more ≡ step (1000000 + 2048 * (c.args.r
   product_le : (row + more) * c.args.day ≤ 1564789514502464 * 10950
   product_le = mul-le-mul sum-le c.requires.2
 
-pub bounds-tables-i : goal.bounds-tables-i
-bounds-tables-i c = omega (arith, c.requires.0.places, c.requires.1)
-
 pub overflow_add-result : goal.overflow_add-result
 overflow_add-result c = omega (arith, sum-le (goal.at.overflow_add-result c).Start _ c.step-more.ensures)
 
 pub overflow_mul-result : goal.overflow_mul-result
 overflow_mul-result c = omega (arith, product_le (goal.at.overflow_mul-result c).Start _ c.step-more.ensures)
-
-pub returns : goal.returns
-returns c = rw (log_is (goal.at.returns c).Start _ c.step-more.ensures) refl

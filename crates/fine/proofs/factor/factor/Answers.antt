@@ -1,14 +1,9 @@
 -- `fine::factor::factor` meets its contract.
-use mathlib.Core.Path.{ap, ◌∙◌}
 use Rattle.logarithm.proofs.Rows.{exponent-le}
-use Rattle.fine.specs.Fine.{log_at, antilog, fine_factor}
+use Rattle.fine.specs.Fine.{log_at}
 use Rattle.fine.proofs.Bound.{log-at-le}
 use Rattle.fine.proofs.factor.factor.Goals as goal
 
 pub antilog-requires : goal.antilog-requires
 antilog-requires c =
     (c.requires.0, rw c.exponent.ensures (exponent-le (log_at c.args.rate) c.args.day (log-at-le c.args.rate c.requires.1) c.requires.2))
-
-pub returns : goal.returns
-unfolding fine_factor
-returns c = (c.antilog.ensures.0 ∙ ap antilog c.exponent.ensures, c.antilog.ensures.1)

@@ -1,18 +1,9 @@
 -- `flows::trade_legs::indexed_payment` meets its contract.
-use mathlib.Core.Path.{sym, ◌∙◌}
-use Rattle.decimal.specs.Product.{unit}
 use Rattle.flows.specs.Amounts.{indexed_of}
-use Rattle.flows.proofs.Capped.{capped-within, capped-over}
+use Rattle.decimal.specs.Product.{unit}
+use Rattle.flows.proofs.Capped.{capped-scaled}
 use Rattle.flows.proofs.trade_legs.indexed_payment.Goals as goal
 
-pub returns-in-Within : goal.returns-in-Within
-unfolding indexed_of
-returns-in-Within c =
-    let a = c.args in
-    capped-within (indexed_of a.i a.payment) _ (sym c.in-Within.is ∙ c.indexed_by.ensures)
-
-pub returns-in-Over : goal.returns-in-Over
+pub returns : goal.returns
 unfolding indexed_of unit
-returns-in-Over c =
-    let a = c.args in
-    capped-over (indexed_of a.i a.payment) (sym c.in-Over.is ∙ c.indexed_by.ensures)
+returns c = rw (c.unwrap_or.ensures, c.indexed_by.ensures, capped-scaled (indexed_of c.args.i c.args.payment))

@@ -1,6 +1,5 @@
 -- `flows::trade_legs::payment_leg` meets its contract.
 use mathlib.Core.Path.{◌∙◌}
-use Rattle.laws.proofs.Signed.{back}
 use Rattle.flows.specs.Legs.{payments_of}
 use Rattle.flows.proofs.Capped.{signed-capped}
 use Rattle.flows.proofs.trade_legs.payment_leg.Goals as goal
@@ -8,4 +7,4 @@ use Rattle.flows.proofs.trade_legs.payment_leg.Goals as goal
 pub returns : goal.returns
 returns c =
     let a = c.args in
-    c.signed_leg.ensures ∙ rw (back a.sign c.ranges.sign.sfits, c.payments_of.ensures) (signed-capped a.sign (payments_of a.s))
+    c.signed_leg.ensures ∙ rw (c.payments_of.ensures) (signed-capped a.sign (payments_of a.s))

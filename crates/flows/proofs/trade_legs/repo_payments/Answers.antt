@@ -5,7 +5,6 @@ use native.Mathlib.Omega.{arith}
 use lib.Dec.{ltb}
 use borrow.Author.Tests.{ltb-true, not-true}
 use Rattle.laws.proofs.Bools.{both}
-use Rattle.laws.proofs.Signed.{back}
 use Rattle.flows.specs.Legs.{payments_of}
 use Rattle.legs.specs.Runs.{signed_leg}
 use Rattle.flows.proofs.Capped.{capped-none, counted-capped}
@@ -31,4 +30,4 @@ returns c =
     let a = c.args in
     let t = a.t in
     c.counted_leg.ensures
-    ∙ rw (c.payment_leg-payments.ensures, back a.sign c.ranges.sign.sfits) (counted-capped a.settled t.valueday1 t.valueday2 (signed_leg a.sign (payments_of t.security)))
+    ∙ rw (c.payment_leg-payments.ensures) (counted-capped a.settled t.valueday1 t.valueday2 (signed_leg a.sign (payments_of t.security)))

@@ -1,13 +1,11 @@
 -- `ladder::net::net_days` meets its contract, by the fold over the ladder's flows.
-use lib.ListN.{length}
 use Rattle.netting.specs.Netting.{net_with}
-use Rattle.ladder.proofs.LadderFlows.{flows_from}
 use Rattle.ladder.proofs.Folds.{Folded}
 use Rattle.ladder.proofs.Netting.{DaysRoom}
 use Rattle.ladder.proofs.net.net_days.Given as goal
 
-abbrev pub invariant-loop-rung : goal.invariant-loop-rung
-invariant-loop-rung l = Folded net_with DaysRoom l.curve l.ladder l.schedules l.initial.nets l.nets l.rung
+abbrev pub invariant-loop-i : goal.invariant-loop-i
+invariant-loop-i l = Folded net_with DaysRoom l.curve l.ladder l.schedules l.initial.nets l.nets l.i 0
 
-abbrev pub decreases-loop-rung : goal.decreases-loop-rung
-decreases-loop-rung l = length (flows_from l.curve l.ladder l.schedules l.rung)
+abbrev pub invariant-loop-k : goal.invariant-loop-k
+invariant-loop-k l = Folded net_with DaysRoom l.curve l.ladder l.schedules l.fn.nets l.nets l.i l.k

@@ -6,6 +6,3 @@ pub total_of-requires : goal.total_of-requires
 total_of-requires c =
     let p = c.requires in
     (p.0, p.1, p.2, kept-none _)
-
-pub returns : goal.returns
-returns c = c.total_of.ensures

@@ -3,7 +3,6 @@ use mathlib.Core.Path.{◌≡◌, ◌∙◌, ap}
 use mathlib.Core.List.{List}
 use Prim.Native.Nat.{ℕ}
 use native.Mathlib.Omega.{arith}
-use lib.ListN.{length-set}
 use Rattle.decimal.specs.Product.{unit}
 use Rattle.curve.specs.declared.Node.{Node}
 use Rattle.curve.specs.Rates.{nodes_of, rate_at}
@@ -46,9 +45,6 @@ pub overflow_mul-factors-2 : goal.overflow_mul-factors-2
 unfolding unit
 overflow_mul-factors-2 c = omega (arith, c.factors-both.ensures.3)
 
-pub bounds-factors-other : goal.bounds-factors-other
-bounds-factors-other c = simp length-set (omega (arith, c.requires.3.day, c.requires.4.places))
-
 -- the values added are those of the flows
 one : (c : After-discounted) → c.discounted.result ≡ flow_value (rate_at (nodes_of c.args.curve)) c.args.f
 one c =
@@ -60,15 +56,16 @@ other c =
     c.discounted-2.ensures
     ∙ at-factor _ c.args.g (c.factors-both.ensures.2 ∙ ap (λ (r : ℕ). factor r c.args.g.day) c.rate_at-2.ensures)
 
-pub with_flow-one-requires : goal.with_flow-one-requires
-with_flow-one-requires c =
-    (total-less (omega arith) c.requires.0, c.requires.2, rw (one c) (value-most _ c.args.f c.requires.2))
-
 pub with_flow-requires : goal.with_flow-requires
-with_flow-requires c = (
-  rw c.with_flow-one.ensures (total-next (rw (one (goal.at.with_flow-requires c).After-discounted) (value-most _ c.args.f c.requires.2)) c.requires.2 c.requires.0),
+with_flow-requires c =
+    let at = (goal.at.with_flow-requires c).After-discounted in
+    (total-less (omega arith) c.requires.0, c.requires.2, rw (one at) (value-most _ c.args.f c.requires.2))
+
+pub with_flow-requires-2 : goal.with_flow-requires-2
+with_flow-requires-2 c = (
+  rw c.with_flow.ensures (total-next (rw (one (goal.at.with_flow-requires-2 c).After-discounted) (value-most _ c.args.f c.requires.2)) c.requires.2 c.requires.0),
   c.requires.3,
-  rw (other c) (value-most _ c.args.g c.requires.3),
+  rw (other (goal.at.with_flow-requires-2 c).After-discounted-2) (value-most _ c.args.g c.requires.3),
 )
 
 -- a total with two values, as they are known
@@ -77,4 +74,4 @@ added t f g d e p q = rw (q, p, d, e)
 
 pub returns : goal.returns
 returns c =
-    let a = c.args in record { value = added a.total a.f a.g (one (goal.at.returns c).After-discounted) (other (goal.at.returns c).After-discounted-2) c.with_flow-one.ensures c.with_flow.ensures; kept_factors = kept-with _ _ (kept-with _ _ c.requires.4 (factor-kept _ _ (first (goal.at.returns c).After-factors-both))) (factor-kept _ _ (second (goal.at.returns c).After-factors-both)) }
+    let a = c.args in record { value = added a.total a.f a.g (one (goal.at.returns c).After-discounted) (other (goal.at.returns c).After-discounted-2) c.with_flow.ensures c.with_flow-2.ensures; kept_factors = kept-with _ _ (kept-with _ _ c.requires.4 (factor-kept _ _ (first (goal.at.returns c).After-factors-both))) (factor-kept _ _ (second (goal.at.returns c).After-factors-both)) }

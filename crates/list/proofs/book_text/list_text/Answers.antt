@@ -1,45 +1,52 @@
 -- `list::book_text::list_text` meets its contract: the text stands in a space of its own first.
 use mathlib.Core.Path.{◌≡◌, sym, ◌∙◌}
-use mathlib.Core.Bool.{Bool, false}
 use mathlib.Core.List.{List}
-use Prim.Native.Nat.{ℕ}
+use Prim.Native.Nat.{ℕ, ◌≤◌}
 use native.Mathlib.Omega.{arith}
 use borrow.Author.Rules.{rules}
-use lib.ListN.{length, drop, replicate, length-take}
+use lib.ListN.{length, drop, replicate}
 use lib.Seq.{length-take-le}
-use Rattle.ground.specs.Space.{breaks_space}
-use Rattle.text.proofs.Fitting.{text-too-long, text-fits, text_in-front, text-copied}
-use Rattle.list.specs.Text.{list_text, list_answer, list_bytes}
+use Rattle.std.specs.Prelude.{Ok}
+use Rattle.ground.proofs.Verdicts.{passed-on}
+use Rattle.text.proofs.Fitting.{space-judged, text-too-long, text-fits, text_in-front, text-copied}
+use Rattle.list.specs.Text.{list_text, list_verdict, list_answer, list_bytes}
 use Rattle.list.proofs.book_text.list_text.Goals as goal
+use Rattle.list.proofs.book_text.list_text.Goals.{In_ok-refuse_if}
 
-spacious : (text out : List ℕ) {n : ℕ} {b : Bool} → n ≡ length text → b ≡ breaks_space n (length out) → b ≡ false → breaks_space (length text) (length out) ≡ false
-spacious text out e q f = rw e at (sym q ∙ f)
-
-pub returns-then-breaks_space : goal.returns-then-breaks_space
+pub returns-in_err-refuse_if : goal.returns-in_err-refuse_if
 unfolding list_answer list_bytes
-returns-then-breaks_space c =
-    let e : c.put_listing-n.result ≡ length (list_text c.args.book.now c.args.used) = c.put_listing-n.ensures.value in
-    let p = text-too-long (list_text c.args.book.now c.args.used) c.args.out.now (rw e at (sym c.breaks_space.ensures ∙ c.if-breaks_space.true)) in
-    record { value = p.answer; out_after = p.bytes; used_len_bound = omega (arith, e, c.put_listing-n.ensures.upper_bound) }
-
-pub slice_bounds-copy_in-end : goal.slice_bounds-copy_in-end
-slice_bounds-copy_in-end c = sym (length-take-le _ _ (search rules))
-
-pub copy_in-requires : goal.copy_in-requires
-copy_in-requires c =
+returns-in_err-refuse_if c =
+    let n = c.put_listing-n.ensures in
     let whole = list_text c.args.book.now c.args.used in
-    let e : c.put_listing-n.result ≡ length whole = c.put_listing-n.ensures.value in
-    let free = spacious whole c.args.out.now e c.breaks_space.ensures c.if-breaks_space.false in
-    simp length-take (omega (arith, e, text-fits whole c.args.out.now free))
+    let judged = space-judged whole c.args.out.now c.refuse_if.ensures c.breaks_space.ensures n.value in
+    let p = text-too-long whole c.args.out.now (judged ∙ c.in_err-refuse_if.was) (passed-on c.from_residual.result c.from_residual.ensures.1) in
+    record { value = p.answer; out_after = p.bytes; bound = omega (arith, n.value, n.upper_bound) }
+
+-- the text fits the space lent for it
+module _ (c : In_ok-refuse_if) where
+  accepted : list_verdict c.args.book.now c.args.used (length c.args.out.now) ≡ Ok tt
+  accepted =
+      space-judged (list_text c.args.book.now c.args.used) c.args.out.now c.refuse_if.ensures c.breaks_space.ensures c.put_listing-n.ensures.value
+      ∙ c.in_ok-refuse_if.was
+
+  room : c.put_listing-n.result ≤ length c.args.out.now
+  room = omega (arith, c.put_listing-n.ensures.value, text-fits (list_text c.args.book.now c.args.used) c.args.out.now accepted)
+
+pub slice_bounds-copy_from_slice-end : goal.slice_bounds-copy_from_slice-end
+slice_bounds-copy_from_slice-end c = room c
+
+pub slice_bounds-copy_from_slice-end-2 : goal.slice_bounds-copy_from_slice-end-2
+slice_bounds-copy_from_slice-end-2 c = sym (length-take-le _ _ (room (goal.at.slice_bounds-copy_from_slice-end-2 c).In_ok-refuse_if))
+
+pub copy_from_slice-requires : goal.copy_from_slice-requires
+copy_from_slice-requires c =
+    length-take-le _ _ (room (goal.at.copy_from_slice-requires c).In_ok-refuse_if) ∙ sym (length-take-le _ _ (search rules))
 
 pub returns : goal.returns
 unfolding list_answer list_bytes
 returns c =
     let whole = list_text c.args.book.now c.args.used in
-    let out = c.args.out.now in
-    let e : c.put_listing-n.result ≡ length whole = c.put_listing-n.ensures.value in
-    let free = spacious whole out e c.breaks_space.ensures c.if-breaks_space.false in
+    let n = c.put_listing-n.ensures in
     let rest : List ℕ = drop c.put_listing-n.result (replicate 1481 0) in
-    let put = text-copied whole out rest e c.put_listing-n.ensures.out_after (text-fits whole out free) c.copy_in.ensures in
-    let p = text_in-front whole out free e put in
-    record { value = p.answer; out_after = p.bytes; used_len_bound = omega (arith, e, c.put_listing-n.ensures.upper_bound) }
+    let p = text_in-front whole c.args.out.now (accepted (goal.at.returns c).In_ok-refuse_if) n.value (text-copied whole c.args.out.now rest n.value n.out_after c.copy_from_slice.ensures.after) in
+    record { value = p.answer; out_after = p.bytes; bound = omega (arith, n.value, n.upper_bound) }

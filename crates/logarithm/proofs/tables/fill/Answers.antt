@@ -2,24 +2,18 @@
 use mathlib.Core.Path.{◌∙◌}
 use Prim.Native.Nat.{◌+◌}
 use native.Mathlib.Omega.{arith}
-use lib.Dec.{lit≤}
+use borrow.Author.Rules.{rules}
 use Rattle.logarithm.specs.Logarithms.{middle_base, upper_base}
 use Rattle.logarithm.proofs.Rows.{middle-le, upper-le}
 use Rattle.logarithm.proofs.tables.fill.Goals as goal
 
 pub powers-requires : goal.powers-requires
 unfolding middle_base
-powers-requires c =
-    (middle-le, lit≤ tt, lit≤ tt, rw (c.logs.ensures.kept, c.requires) (lit≤ tt))
+powers-requires c = search (rules, middle-le)
 
 pub powers-requires-2 : goal.powers-requires-2
 unfolding upper_base
-powers-requires-2 c =
-    (upper-le, lit≤ tt, lit≤ tt, rw (c.powers.ensures.kept, c.logs.ensures.kept, c.requires) (lit≤ tt))
-
-pub shape_of-tables : goal.shape_of-tables
-shape_of-tables c =
-    c.powers-2.ensures.kept ∙ c.powers.ensures.kept ∙ c.logs.ensures.kept
+powers-requires-2 c = search (rules, upper-le)
 
 pub returns : goal.returns
 unfolding middle_base upper_base
@@ -27,7 +21,7 @@ returns c =
     let later = c.powers-2.ensures in
     let earlier = c.powers.ensures in
     record {
-      places = c.powers-2.ensures.kept ∙ c.powers.ensures.kept ∙ c.logs.ensures.kept ∙ c.requires;
+      places = later.kept ∙ earlier.kept ∙ c.logs.ensures.kept ∙ c.requires;
       logs = λ k l. later.before k (omega arith) ∙ earlier.before k (omega arith) ∙ c.logs.ensures.rows k l;
       slopes = λ k l. later.before (489 + k) (omega arith) ∙ earlier.before (489 + k) (omega arith) ∙ c.logs.ensures.slopes k l;
       middles = λ k l. later.before (978 + k) (omega arith) ∙ earlier.rows k (omega arith);
@@ -35,6 +29,3 @@ returns c =
       short_middles = λ k l. later.between (2336 + k) (omega arith) (omega arith) ∙ earlier.shorts k (omega arith);
       short_uppers = λ k l. later.shorts k (omega arith);
     }
-
-pub logs-requires : goal.logs-requires
-logs-requires c = omega (arith, c.requires)

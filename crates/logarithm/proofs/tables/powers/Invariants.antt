@@ -8,11 +8,11 @@ use Rattle.logarithm.proofs.tables.powers.Given as goal
 
 abbrev pub invariant-loop-i : goal.invariant-loop-i
 invariant-loop-i l =
-    (l.from ≤ l.i) × (l.i ≤ l.to) × (length l.tables ≡ length l.initial.tables) × (l.x ≡ chain l.base (l.i - l.from))
-    × ((k : ℕ) → k < l.i → l.from ≤ k → get_or l.tables k 0 ≡ power_row l.base (k - l.from))
-    × ((k : ℕ) → k < l.i → l.from ≤ k → get_or l.tables (1358 + k) 0 ≡ short_row l.base (k - l.from))
-    × ((k : ℕ) → k < l.from → get_or l.tables k 0 ≡ get_or l.initial.tables k 0)
-    × ((k : ℕ) → l.to ≤ k → k < 1358 + l.from → get_or l.tables k 0 ≡ get_or l.initial.tables k 0)
-
-abbrev pub decreases-loop-i : goal.decreases-loop-i
-decreases-loop-i l = l.to - l.i
+    record {
+      kept : length l.tables ≡ length l.initial.tables;
+      next : l.x ≡ chain l.base (l.i - l.from);
+      rows : (k : ℕ) → k < l.i → l.from ≤ k → get_or l.tables k 0 ≡ power_row l.base (k - l.from);
+      shorts : (k : ℕ) → k < l.i → l.from ≤ k → get_or l.tables (1358 + k) 0 ≡ short_row l.base (k - l.from);
+      before : (k : ℕ) → k < l.from → get_or l.tables k 0 ≡ get_or l.initial.tables k 0;
+      between : (k : ℕ) → l.to ≤ k → k < 1358 + l.from → get_or l.tables k 0 ≡ get_or l.initial.tables k 0;
+    }

@@ -1,10 +1,8 @@
 -- `logarithm::tables::step` meets its contract: the parts fit (`Steps.antt`).
-use mathlib.Core.Path.{refl}
 use Prim.Native.Nat.{ℕ, ◌+◌, ◌*◌, ◌/◌, ◌≤◌}
 use native.Mathlib.Nat.{mul-le-mul, div-mul-le_self}
 use native.Mathlib.Omega.{arith}
-use borrow.Author.Rules.{rules}
-use Rattle.logarithm.specs.Logarithms.{scale, first_term, third_term, step}
+use Rattle.logarithm.specs.Logarithms.{scale, first_term}
 use Rattle.logarithm.proofs.Steps.{first-le, a-le, b-le}
 use Rattle.logarithm.proofs.tables.step.Goals as goal
 use Rattle.logarithm.proofs.tables.step.Goals.{Start}
@@ -35,18 +33,6 @@ module _ (c : Start) where
   product_le : b * a ≤ 1206453727172 * 8787095
   product_le = mul-le-mul b-few a-few
 
-pub overflow_mul-w : goal.overflow_mul-w
-overflow_mul-w c = search rules
-
-pub overflow_mul-w-2 : goal.overflow_mul-w-2
-overflow_mul-w-2 c = search rules
-
-pub overflow_add-w : goal.overflow_add-w
-overflow_add-w c = search rules
-
-pub nonzero_div-w : goal.nonzero_div-w
-nonzero_div-w c = search rules
-
 pub overflow_mul-b : goal.overflow_mul-b
 overflow_mul-b c = omega (arith, square_le c)
 
@@ -55,7 +41,3 @@ overflow_mul-result c = omega (arith, product_le c)
 
 pub overflow_add-result : goal.overflow_add-result
 overflow_add-result c = omega (arith, product_le c, w_le c)
-
-pub returns : goal.returns
-unfolding step third_term first_term scale
-returns c = refl

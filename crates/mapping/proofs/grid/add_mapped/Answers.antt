@@ -1,13 +1,8 @@
 -- `mapping::grid::add_mapped` meets its contract.
 use native.Mathlib.Omega.{arith}
-use Rattle.mapping.proofs.NetParts.{first-limits, last-limits, excess-limits, one-length, two-length, one-moved, two-moved}
+use Rattle.mapping.proofs.NetParts.{last-limits, excess-limits, one-length, two-length, one-moved, two-moved}
 use Rattle.mapping.proofs.grid.add_mapped.Goals as goal
 use Rattle.mapping.proofs.grid.add_mapped.Goals.{After-add_flow, Start}
-
-pub add_flow-requires : goal.add_flow-requires
-add_flow-requires c =
-    rw c.first_flow.ensures
-    (c.requires.0.places, first-limits c.args.f c.args.k c.requires.1 c.requires.2, omega (arith, c.requires.0.each c.args.k.first))
 
 -- what the nets are after the first flow, and after the second
 pub add_flow-requires-2 : goal.add_flow-requires-2
@@ -31,7 +26,3 @@ add_flow-requires-3 c =
     let nets = s.args.nets.now in
     rw (after-add2.add_flow-2.ensures, after_last.last_flow.ensures, after-add.add_flow.ensures, after-add.first_flow.ensures, c.excess_flow.ensures)
     (two-length f k s.requires.1 s.requires.2 nets s.requires.0.places, excess-limits f k s.requires.1 s.requires.2, omega (arith, two-moved f k s.requires.1 s.requires.2 nets s.requires.0.places k.first, s.requires.0.each k.first, s.requires.1.amount))
-
-pub returns : goal.returns
-returns c =
-    rw (c.add_flow-3.ensures, c.excess_flow.ensures, c.add_flow-2.ensures, c.last_flow.ensures, c.add_flow.ensures, c.first_flow.ensures)

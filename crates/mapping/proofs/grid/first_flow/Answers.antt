@@ -4,7 +4,4 @@ use Rattle.mapping.proofs.grid.first_flow.Goals as goal
 
 pub overflow_sub-result : goal.overflow_sub-result
 overflow_sub-result c =
-    rw c.last_flow-last.ensures (part-le c.args.f c.args.k c.requires.0 c.requires.1)
-
-pub returns : goal.returns
-returns c = rw c.last_flow-last.ensures
+    rw c.last_flow.ensures (part-le c.args.f c.args.k c.requires.0 c.requires.1)

@@ -1,38 +1,15 @@
--- `margin::choice::first_kept` meets its contract: the places passed are above the limit.
-use lib.IntN.{pos}
-use lib.ListN.{get_or}
-use Rattle.laws.proofs.Signed.{back, compared}
-use Rattle.laws.proofs.Integer.{int, le_z-no}
-use borrow.Author.Count.{below_more}
-use mathlib.Core.Path.{◌≡◌}
-use mathlib.Core.Bool.{true, false}
-use lib.Signed.{le_z}
-use borrow.Author.Rules.{rules}
-use native.Mathlib.Omega.{arith}
+-- `margin::choice::first_kept` meets its contract.
+use lib.IntN.{ℤ}
+use lib.ListN.{take}
+use lib.Signed.{◌≤ℤ◌, ◌<ℤ◌}
+use Rattle.std.proofs.Common.{rules, tests}
+use Rattle.std.proofs.lemmas.Int.{ints}
+use Rattle.std.proofs.lemmas.Iterator.{YieldsList-from_slice, IsFirst-from_position}
+use Rattle.margin.proofs.Discarding.{first-kept}
 use Rattle.margin.proofs.choice.first_kept.Goals as goal
 
-pub loop-s-init : goal.loop-s-init
-loop-s-init c = (omega arith, λ k h. absurd (omega arith))
-
-pub returns-then-values-s : goal.returns-then-values-s
-returns-then-values-s c =
-    let limit = c.args.limit in
-    let fl = c.ranges.limit.sfits in
-    let v = get_or c.args.values.now c.loop-s.s (pos 0) in
-    let e : le_z v limit ≡ true = compared le_z v limit true c.t9-1.given fl c.if-values-s.true in
-    (record { kept = record { le = rw e tt }; none = rw (back limit fl) at c.loop-s.invariant.1 }, search rules)
-
-pub loop-s-preserved : goal.loop-s-preserved
-loop-s-preserved c =
-    let limit = c.args.limit in
-    let fl = c.ranges.limit.sfits in
-    let v = get_or c.args.values.now c.loop-s.s (pos 0) in
-    let e : le_z v limit ≡ false = compared le_z v limit false c.t9-1.given fl c.if-values-s.false in
-    (search rules, below_more _ c.loop-s.s c.loop-s.invariant.1 (rw (back limit fl) (le_z-no v limit e)))
-
--- the one that is kept would have been passed
 pub returns : goal.returns
 returns c =
-    let some = c.requires.1 in
-    let none = rw (back c.args.limit c.ranges.limit.sfits) at (c.loop-s.invariant.1 some.place (omega (arith, some.within, c.loop-s-test.false))) in
-    absurd (omega (int, some.kept, none))
+    let a = c.args in
+    let first = IsFirst-from_position _ _ c.position.result (λ (v : ℤ). v ≤ℤ a.limit) (λ (v : ℤ). a.limit <ℤ v) c.position.ensures.ran (YieldsList-from_slice (take a.n a.values.now) cc) (λ x q k. search (rules, tests, ints)) (λ x q k. search (rules, tests, ints)) in
+    first-kept a.values.now a.limit a.n c.requires.0 c.unwrap.result (rw c.unwrap.ensures at first)

@@ -1,31 +1,18 @@
 -- `margin::choice::same_rates` meets its contract.
-use Rattle.laws.proofs.Every.{every-passed, every-failed, every-end}
-use Rattle.margin.specs.Choice.{same_rates}
-use mathlib.Core.Path.{◌≡◌, sym, ◌∙◌}
-use borrow.Author.Tests.{eq-eqb, ne_eqb}
-use borrow.Author.Rules.{rules}
+use mathlib.Core.Path.{◌∙◌}
+use lib.Dec.{eqb}
+use lib.ListN.{take}
 use native.Mathlib.Omega.{arith}
-use Prim.Native.Nat.{◌-◌}
-use Rattle.margin.proofs.choice.same_rates.Invariants.{equal_at}
+use Rattle.std.proofs.Common.{rules, tests}
+use Rattle.std.proofs.lemmas.Iterator.{YieldsList-from_slice, YieldsList-from_zip}
+use Rattle.std.proofs.lemmas.Iterator.Search.{all_from_yields_List}
+use Rattle.curve.specs.declared.Node.{Node}
+use Rattle.margin.proofs.Discarding.{same-rates}
 use Rattle.margin.proofs.choice.same_rates.Goals as goal
-
-pub loop-i-init : goal.loop-i-init
-unfolding same_rates
-loop-i-init c = let e : c.args.a.count - 0 ≡ c.args.a.count = omega arith in rw e
-
-pub returns-then-a-i : goal.returns-then-a-i
-returns-then-a-i c =
-    let a = c.args in
-    let i = c.loop-i.i in
-    sym (c.loop-i.invariant ∙ every-failed (equal_at a.a a.b) i a.a.count (search rules) (ne_eqb _ _ c.if-a-i.true))
-
-pub loop-i-preserved : goal.loop-i-preserved
-loop-i-preserved c =
-    let a = c.args in
-    let i = c.loop-i.i in
-    c.loop-i.invariant ∙ every-passed (equal_at a.a a.b) i a.a.count (search rules) (eq-eqb _ _ c.if-a-i.false)
 
 pub returns : goal.returns
 returns c =
-    let a = c.args in
-    sym (c.loop-i.invariant ∙ every-end (equal_at a.a a.b) c.loop-i.i a.a.count (search rules))
+    let a = c.args.a in
+    let b = c.args.b in
+    all_from_yields_List (λ (p : Node × Node). eqb p.0.rate p.1.rate) c.all.new.self _ c.all.result c.all.ensures.ran (YieldsList-from_zip (YieldsList-from_slice (take a.count a.nodes) cc) (YieldsList-from_slice (take a.count b.nodes) cc)) (λ x r q k. search (rules, tests))
+    ∙ same-rates a b (omega (arith, c.requires.0.places, c.requires.0.most)) (omega (arith, c.requires.1.places, c.requires.1.most, c.requires.2))

@@ -16,8 +16,6 @@ use Rattle.margin.proofs.estimates.estimate.Goals.{After-net_days, Start}
 abbrev flows : Start → List Flow
 flows s = let p = s.args.position in ladder_flows p.id s.args.ladder.now p.schedules
 
--- the entry's record
-
 pub net_days-requires : goal.net_days-requires
 net_days-requires c =
     let h = c.requires.0.schedules in
@@ -39,6 +37,3 @@ screen-requires c =
 pub returns : goal.returns
 returns c =
     estimates _ _ c.requires.0 _ _ _ c.net_days.ensures c.deviation_of.ensures (c.screen.ensures.kept ∙ c.requires.2) c.screen.ensures.each
-
-pub deviation_of-requires : goal.deviation_of-requires
-deviation_of-requires c = let v = c.before in let lent = v.before.before.before in lent.requires.0.schedules

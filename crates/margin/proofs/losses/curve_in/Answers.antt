@@ -6,6 +6,3 @@ pub stressed-requires : goal.stressed-requires
 stressed-requires c =
     let p = c.requires in
     (p.0, rw c.scenario.ensures (scenario-limits _ _ p.2 p.1))
-
-pub returns : goal.returns
-returns c = rw (c.stressed.ensures, c.scenario.ensures)

@@ -18,6 +18,6 @@ pub overflow_sub-result : goal.overflow_sub-result
 overflow_sub-result c =
     fits-less c.args.net c.args.f.amount c.requires.0 c.requires.1
 
-pub returns : goal.returns
-returns c =
+pub returns-else-f : goal.returns-else-f
+returns-else-f c =
     rw (read-less c.args.net c.args.f.amount c.requires.0 c.requires.1, c.if-f.false)

@@ -5,20 +5,9 @@ use Prim.Native.Nat.{◌+◌, ◌-◌, ◌*◌}
 use native.Mathlib.Omega.{arith}
 use lib.ListN.{length}
 use Rattle.text.specs.Text.{ascii, figure}
-use Rattle.text.proofs.Amounts.{length-blanks}
 use Rattle.page.specs.Line.{title_line}
 use Rattle.page.proofs.LineWritten.{line-written, no-amount}
 use Rattle.page.proofs.line.put_title.Goals as goal
-
-pub put_text-requires : goal.put_text-requires
-put_text-requires c =
-    omega (
-      arith,
-      c.requires,
-      c.put_number-left.ensures.upper_bound,
-      c.put_blanks-end.ensures.place,
-      length-blanks (c.args.at + 80 - c.put_number-left.result),
-    )
 
 pub returns : goal.returns
 unfolding title_line ascii

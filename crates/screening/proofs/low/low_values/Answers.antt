@@ -1,30 +1,20 @@
 -- `screening::low::low_values` meets its contract.
-use mathlib.Core.Path.{◌≡◌, refl, sym, ◌∙◌}
-use mathlib.Core.Bool.{false≢true}
+use mathlib.Core.Path.{◌≡◌}
 use mathlib.Core.List.{List}
-use Prim.Native.Nat.{ℕ, ◌≤◌, ◌<◌}
+use Prim.Native.Nat.{ℕ, ◌<◌}
 use native.Mathlib.Omega.{arith}
 use lib.IntN.{ℤ}
-use lib.ListN.{length, take, length-replicate}
-use lib.Seq.{length-take-le}
+use lib.ListN.{take}
 use Rattle.curve.proofs.Scenarios.{scenarios-most}
 use Rattle.estimate.specs.Values.{most_size, Listed}
 use Rattle.screening.proofs.Lowering.{filled-small, low-none-above, low_small, spare-most}
 use Rattle.screening.proofs.low.low_values.Goals as goal
 use Rattle.screening.proofs.low.low_values.Goals.{After-fill_values, After-list_days-count, After-map_nets, Start}
 
-pub returns-then-days-count : goal.returns-then-days-count
-returns-then-days-count c = record { kept = refl; low = λ e. absurd (false≢true e) }
-
 -- the grid's days as they are listed
 module _ (c : After-list_days-count) where
   abbrev mapped : List ℤ
   mapped = c.map_nets.new.mapped
-
-  room : c.list_days-count.result ≤ length c.list_days-count.new.days
-  room =
-      let e = c.list_days-count.ensures in
-      omega (arith, e.kept, e.list.0, c.map_nets.ensures.places, length-replicate {A = ℕ} 10951 0)
 
   grid-listed : Listed mapped (take c.list_days-count.result c.list_days-count.new.days)
   unfolding most_size
@@ -48,11 +38,8 @@ lower-requires c =
     counted : (n m : ℕ) {P : ℕ → Type 0} → n ≡ m → ((s : ℕ) → s < m → P s) → (s : ℕ) → s < n → P s
     counted n m e h s k = h s (omega arith)
 
-pub returns : goal.returns
-returns c =
+pub returns-clause-low : goal.returns-clause-low
+returns-clause-low c =
     let low = c.map_nets.ensures in
     let lowered = rw (c.scenario_count.ensures, c.requires.4) at c.lower.ensures.each in
-    record { kept = c.lower.ensures.kept ∙ c.fill_values.ensures.kept; low = λ e. (low-none-above c.args.curve c.args.components _ _ _ low _ _ c.fill_values.ensures.each lowered, low_small c.args.curve c.args.components _ _ _ low _ _ c.fill_values.ensures.each lowered (spare-most _ _ c.requires.2)) }
-
-pub slice_bounds-fill_values-end : goal.slice_bounds-fill_values-end
-slice_bounds-fill_values-end c = sym (length-take-le _ _ (room (goal.at.slice_bounds-fill_values-end c).After-list_days-count))
+    λ e. (low-none-above c.args.curve c.args.components _ _ _ low _ _ c.fill_values.ensures.each lowered, low_small c.args.curve c.args.components _ _ _ low _ _ c.fill_values.ensures.each lowered (spare-most _ _ c.requires.2))

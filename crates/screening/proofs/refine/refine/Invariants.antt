@@ -1,10 +1,6 @@
 -- `screening::refine::refine` meets its contract: the scenarios passed are refined.
-use Prim.Native.Nat.{◌-◌, ◌≤◌}
 use Rattle.screening.proofs.Refining.{Refining}
 use Rattle.screening.proofs.refine.refine.Given as goal
 
 abbrev pub invariant-loop-s : goal.invariant-loop-s
-invariant-loop-s l = (l.s ≤ l.n) × Refining l.curve l.components l.nets (l.limit) l.initial.values l.values l.s
-
-abbrev pub decreases-loop-s : goal.decreases-loop-s
-decreases-loop-s l = l.n - l.s
+invariant-loop-s l = Refining l.curve l.components l.nets l.limit l.initial.values l.values l.s

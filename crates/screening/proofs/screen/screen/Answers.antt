@@ -1,5 +1,5 @@
 -- `screening::screen::screen` meets its contract.
-use mathlib.Core.Path.{◌≡◌, sym}
+use mathlib.Core.Path.{◌≡◌}
 use mathlib.Core.List.{List}
 use Prim.Native.Nat.{ℕ, ◌≤◌}
 use native.Mathlib.Omega.{arith}
@@ -52,17 +52,5 @@ fill_values-requires c =
     let p = c.requires in
     (p.0, p.1, days-listed (goal.at.fill_values-requires c).After-list_days-count, p.2, omega (arith, p.5, scenarios-most _ p.1))
 
-pub returns : goal.returns
-returns c = let filled = c.fill_values.ensures in record { kept = filled.kept; each = filled-screened _ _ _ _ filled.each }
-
-pub slice_bounds-days-end : goal.slice_bounds-days-end
-slice_bounds-days-end c = room (goal.at.slice_bounds-days-end c).After-list_days-count
-
-pub slice_bounds-size_of-end : goal.slice_bounds-size_of-end
-slice_bounds-size_of-end c = sym (days-count (goal.at.slice_bounds-size_of-end c).After-list_days-count)
-
-pub slice_bounds-screen_mapped-end : goal.slice_bounds-screen_mapped-end
-slice_bounds-screen_mapped-end c = sym (days-count (goal.at.slice_bounds-screen_mapped-end c).After-list_days-count)
-
-pub slice_bounds-fill_values-end : goal.slice_bounds-fill_values-end
-slice_bounds-fill_values-end c = sym (days-count (goal.at.slice_bounds-fill_values-end c).After-list_days-count)
+pub returns-clause-each : goal.returns-clause-each
+returns-clause-each c = filled-screened _ _ _ _ c.fill_values.ensures.each

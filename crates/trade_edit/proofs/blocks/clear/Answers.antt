@@ -1,15 +1,11 @@
--- `trade_edit::blocks::clear` meets its contract: the bytes of 0 are zeros.
-use mathlib.Core.Path.{◌≡◌, refl, ◌∙◌, ap}
-use mathlib.Core.List.{List, ◌∷◌}
-use Prim.Native.Nat.{ℕ, zero, suc}
-use lib.ListN.{replicate}
-use Rattle.layout.specs.Field.{bytes_of}
+-- `trade_edit::blocks::clear` meets its contract.
+use Rattle.std.proofs.Common.{◌≡◌, ◌+◌, ◌-◌, replicate, arith}
+use lib.ListN.{length-replicate}
+use Rattle.layout.proofs.Bytes.{put-lent, length_part}
 use Rattle.trade_edit.proofs.blocks.clear.Goals as goal
 
-bytes-zero : (n : ℕ) → bytes_of n 0 ≡ replicate n 0
-unfolding bytes_of
-bytes-zero zero = refl
-bytes-zero (suc n) = ap (λ (l : List ℕ). 0 ∷ l) (bytes-zero n)
-
 pub returns : goal.returns
-returns c = c.put_le.ensures ∙ rw bytes-zero
+returns c =
+    let a = c.args in
+    let e : a.at + a.n - a.at ≡ a.n = omega arith in
+    rw (c.fill.ensures.after (λ y h. h), e, length_part a.s.now a.at a.n c.requires) (put-lent a.s.now a.at a.n (replicate a.n 0) c.requires (length-replicate a.n 0))

@@ -1,92 +1,69 @@
 -- `estimate::parts::Part::along` meets its contract: what is valued and what is left are together all.
-use mathlib.Core.Path.{◌≡◌, ap, ◌∙◌}
-use Prim.Native.Nat.{ℕ, ◌^◌, ◌<◌}
+use mathlib.Core.Path.{◌≡◌, ◌∙◌}
+use Prim.Native.Nat.{ℕ, ◌+◌, ◌^◌, ◌<◌}
 use native.Mathlib.Omega.{arith}
+use borrow.Author.Rules.{rules}
 use lib.IntN.{ℤ, pos, nat_abs, ◌+ℤ◌}
 use lib.ListN.{get_or}
+use mir.Syntax.{w64}
+use mir.Val.{SFits}
 use Rattle.laws.proofs.Signed.{cast, read, read_is, fits, back}
 use Rattle.netting.specs.Netting.{worth, cheap_on}
 use Rattle.estimate.specs.Lines.{rate_on}
 use Rattle.estimate.specs.Values.{most_size}
-use Rattle.estimate.proofs.LineDays.{cheap-worth, going-first, going_end, going-day, amount-most, sum-size, going_next}
+use Rattle.estimate.proofs.LineDays.{between-at, going_end, going-day, amount-most, worth-read, sum-size, going_next}
 use Rattle.estimate.proofs.parts.Part.along.Goals as goal
-use Rattle.estimate.proofs.parts.Part.along.Goals.{After-day_value-value, After-shared_slice_known-in-loop-i-1, After-struct_told-1, At-loop-i, In-loop-i, Start}
+use Rattle.estimate.proofs.parts.Part.along.Goals.{After-day_value-value, After-from-at}
 
--- the entry's record
+-- a turn's day and its amount
+module _ (c : After-from-at) where
+  abbrev at : ℕ
+  at = c.args.self.done + c.loop-day.day-index
 
--- the value of the part that comes in, read back from its bits
-value_read : (s : Start) → read s.args.self.value ≡ s.args.self.value
-unfolding most_size
-value_read s = read_is s.args.self.value (omega (arith, s.requires.0.size))
+  within : at < c.args.end
+  within = omega (arith, c.requires.0.from)
 
-pub loop-i-init : goal.loop-i-init
-loop-i-init c =
-    rw (value_read (goal.at.loop-i-init c).Start) (going-first _ _ _ _ _ c.requires.0)
+  day-is : c.from-at.result ≡ get_or c.args.days.now at 0
+  day-is = c.from-at.ensures ∙ between-at c.args.self.done c.args.end c.args.days.now c.loop-day.day-index (omega arith)
 
-pub bounds-days-i : goal.bounds-days-i
-bounds-days-i c = omega (arith, c.loop-i-test.true, c.loop-i.invariant.ready.most)
-
--- the day of a c
-module _ (c : After-shared_slice_known-in-loop-i-1) where
-  abbrev day : ℕ
-  day = get_or c.args.days.now c.loop-i.i 0
-
-  within : day < 10951
-  within = (going-day _ _ _ _ _ _ c.loop-i.invariant c.loop-i-test.true).0
-
-pub overflow_cast-day : goal.overflow_cast-day
-overflow_cast-day c = omega (arith, within c)
-
-pub offset_bounds-nets-at : goal.offset_bounds-nets-at
-offset_bounds-nets-at c = omega (arith, within c)
-
-pub bounds-nets-at : goal.bounds-nets-at
-bounds-nets-at c = omega (arith, within c, c.requires.0.places)
+  abbrev net : ℤ
+  net = get_or c.args.nets.now (get_or c.args.days.now at 0) (pos 0)
 
 pub day_value-value-requires : goal.day_value-value-requires
 day_value-value-requires c =
-    let k = c.loop-i-test.true in
-    let net = get_or c.args.nets.now (day (goal.at.day_value-value-requires c).After-shared_slice_known-in-loop-i-1) (pos 0) in (
-      (going-day _ _ _ _ _ _ c.loop-i.invariant k).1,
-      c.requires.1,
-      rw (back net c.day_value-arg-1.given) (amount-most _ _ _ _ _ _ c.loop-i.invariant k),
-    )
-
--- a result, read back from its bits
-read_as : (r z : ℤ) → r ≡ z → nat_abs z < 2 ^ 63 → read r ≡ z
-read_as r z e h = rw e (read_is z h)
+    let t = (goal.at.day_value-value-requires c).After-from-at in
+    let h = c.loop-day.invariant in
+    let f : SFits w64 (get_or c.args.nets.now c.from-at.result (pos 0)) = search rules in
+    let g : SFits w64 (net t) = rw (day-is t) at f in
+    rw (day-is t, back (net t) g.sfits) ((going-day _ _ _ _ _ _ h (within t)).1, c.requires.1, amount-most _ _ _ _ _ _ h (within t))
 
 -- what the day's amount is worth, and the sum with it, read back from their bits
 module _ (c : After-day_value-value) where
-  abbrev net : ℤ
-  net = get_or c.args.nets.now (get_or c.args.days.now c.loop-i.i 0) (pos 0)
-
-  abbrev worth_now : ℤ
-  worth_now = worth (cheap_on (rate_on c.args.line) (get_or c.args.days.now c.loop-i.i 0)) net
+  abbrev before : After-from-at
+  before = (goal.at.overflow_add-value c).After-from-at
 
   abbrev sum : ℤ
-  sum = cast c.loop-i.value-bits +ℤ worth_now
+  sum = cast c.loop-day.value-bits +ℤ worth (cheap_on (rate_on c.args.line) (get_or c.args.days.now (at before) 0)) (net before)
 
-  worth-read : read c.day_value-value.result ≡ worth_now
-  unfolding most_size
-  worth-read =
-      let most = amount-most _ _ _ _ _ _ c.loop-i.invariant c.loop-i-test.true in
-      let rate = rate_on c.args.line in
-      let is : c.day_value-value.result ≡ worth_now = c.day_value-value.ensures ∙ ap (worth (cheap_on rate (get_or c.args.days.now c.loop-i.i 0))) (back net c.day_value-arg-1.given) in
-      read_as _ worth_now is (omega (arith, most, cheap-worth rate (get_or c.args.days.now c.loop-i.i 0) net))
+  worth-is : read c.day_value-value.result ≡ worth (cheap_on (rate_on c.args.line) (get_or c.args.days.now (at before) 0)) (net before)
+  worth-is =
+      let f : SFits w64 (get_or c.args.nets.now c.from-at.result (pos 0)) = search rules in
+      let g : SFits w64 (net before) = rw (day-is before) at f in
+      worth-read _ _ _ _ _ _ c.loop-day.invariant (within before) _ (rw (day-is before) at c.day_value-value.ensures) g.sfits
 
   sum-most : nat_abs sum < 2 ^ 63
   unfolding most_size
-  sum-most = omega (arith, sum-size _ _ _ _ _ _ c.loop-i.invariant c.loop-i-test.true)
+  sum-most = omega (arith, sum-size _ _ _ _ _ _ c.loop-day.invariant (within before))
 
 pub overflow_add-value : goal.overflow_add-value
-overflow_add-value c = rw (worth-read c) (fits (sum c) (sum-most c))
+overflow_add-value c = rw (worth-is c) (fits (sum c) (sum-most c))
 
-pub loop-i-preserved : goal.loop-i-preserved
-loop-i-preserved c =
-    rw (worth-read c, read_is (sum c) (sum-most c)) (going_next _ _ _ _ _ _ c.loop-i.invariant c.loop-i-test.true)
+pub loop-day-preserved : goal.loop-day-preserved
+loop-day-preserved c =
+    let e : c.args.self.done + (c.loop-day.day-index + 1) ≡ at (before c) + 1 = omega arith in
+    rw (worth-is c, read_is (sum c) (sum-most c), e) (going_next _ _ _ _ _ _ c.loop-day.invariant (within (before c)))
 
 pub returns : goal.returns
 returns c =
-    let a = going_end _ _ _ _ _ _ c.loop-i.invariant c.loop-i-test.false in
-    rw (value_read (goal.at.returns c).Start) at a
+    let e : c.args.self.done + c.loop-day.day-index ≡ c.args.end = omega arith in
+    going_end _ _ _ _ _ _ (rw e at c.loop-day.invariant) (omega arith)
