@@ -4,7 +4,6 @@ ghost use Rattle.laws.specs.Walk.{table};
 ghost use Rattle.ground.specs.Limits.{last_day};
 ghost use Rattle.decimal.specs.Product.{unit};
 ghost use Rattle.discount.specs.Flows.{flow_value};
-ghost use Rattle.logarithm.specs.Logarithms.{Tables};
 ghost use Rattle.curve.specs.Limits.{highest_rate, ProperCurve};
 ghost use Rattle.curve.specs.Rates.{nodes_of, rate_at};
 ghost use Rattle.legs.specs.Runs.{flow_of, leg_flows};
@@ -18,19 +17,7 @@ use discount::pair::factors;
 use discount::value::present_value;
 use fine::value::fine_value_at;
 use legs::Leg;
-
-// Payment k of a leg.
-fn payment(l: Leg, k: u64) -> Flow
-    requires { PaymentLimits l × (k < l.count) }
-    ensures { result ≡ flow_of l k }
-{
-    Flow {
-        curve: l.curve,
-        day: l.first + k * l.period,
-        received: l.received,
-        amount: if k + 1 == l.count { l.last } else { l.each },
-    }
-}
+use logarithm::tables::Tables;
 
 // How many payments fall up to a day.
 fn payments_up_to(l: Leg, day: u64) -> u64
@@ -38,21 +25,21 @@ fn payments_up_to(l: Leg, day: u64) -> u64
     ensures { PaymentsUpTo l day result }
 {
     (0..l.count)
-        .find(|k| day < payment(l, *k).day)
+        .find(|k| day < l.flow(*k).day)
         .unwrap_or(l.count)
 }
 
 // The value of a payment where it is known from the tables.
-fn fine_value_of(c: Curve, f: Flow, tables: &[u64]) -> Option<u64>
-    requires { ProperCurve c × (f.amount ≤ unit) × (f.day ≤ last_day) × Tables tables.now }
+fn fine_value_of(c: Curve, f: Flow, tables: Tables<'_>) -> Option<u64>
+    requires { ProperCurve c × (f.amount ≤ unit) × (f.day ≤ last_day) }
     ensures { IfSome result (λ v. v ≡ flow_value (rate_at (nodes_of c)) f) }
 {
     fine_value_at(tables, f.amount, c.rate_at(f.day), f.day)
 }
 
 // The value of a payment.
-fn value_of(c: Curve, f: Flow, tables: &[u64]) -> u64
-    requires { ProperCurve c × (f.amount ≤ unit) × (f.day ≤ last_day) × Tables tables.now }
+fn value_of(c: Curve, f: Flow, tables: Tables<'_>) -> u64
+    requires { ProperCurve c × (f.amount ≤ unit) × (f.day ≤ last_day) }
     ensures { result ≡ flow_value (rate_at (nodes_of c)) f }
 {
     match fine_value_of(c, f, tables) {
@@ -71,8 +58,8 @@ fn value_by_factors(c: Curve, f: Flow, g: Flow) -> u64
 }
 
 // The value of two payments.
-fn value_of_two(c: Curve, f: Flow, g: Flow, tables: &[u64]) -> u64
-    requires { ProperCurve c × (f.amount ≤ unit) × (g.amount ≤ unit) × (f.day ≤ last_day) × (g.day ≤ last_day) × Tables tables.now }
+fn value_of_two(c: Curve, f: Flow, g: Flow, tables: Tables<'_>) -> u64
+    requires { ProperCurve c × (f.amount ≤ unit) × (g.amount ≤ unit) × (f.day ≤ last_day) × (g.day ≤ last_day) }
     ensures { result ≡ flow_value (rate_at (nodes_of c)) f + flow_value (rate_at (nodes_of c)) g }
 {
     match (fine_value_of(c, f, tables), fine_value_of(c, g, tables)) {
@@ -82,15 +69,15 @@ fn value_of_two(c: Curve, f: Flow, g: Flow, tables: &[u64]) -> u64
 }
 
 // The value of the payments from one up to, not including, another: two at a time, and the last alone where one is left.
-fn value_between(c: Curve, l: Leg, from: u64, to: u64, tables: &[u64]) -> u64
-    requires { ProperCurve c × PaymentLimits l × (from ≤ to) × (to ≤ l.count) × Tables tables.now }
+fn value_between(c: Curve, l: Leg, from: u64, to: u64, tables: Tables<'_>) -> u64
+    requires { ProperCurve c × PaymentLimits l × (from ≤ to) × (to ≤ l.count) }
     ensures { result ≡ bond_value (nodes_of c) (table (flow_of l) from (to - from)) }
 {
     let mut sum = 0;
     for k in (from..to).step_by(2) {
-        let f = payment(l, k);
+        let f = l.flow(k);
         sum += if k + 1 < to {
-            value_of_two(c, f, payment(l, k + 1), tables)
+            value_of_two(c, f, l.flow(k + 1), tables)
         } else {
             value_of(c, f, tables)
         };
@@ -110,8 +97,8 @@ pub struct Extension {
 }
 
 impl Extension {
-    pub fn new(c: Curve, n: Node, l: Leg, tables: &[u64]) -> Extension
-        requires { Extends c n l × Tables tables.now }
+    pub fn new(c: Curve, n: Node, l: Leg, tables: Tables<'_>) -> Extension
+        requires { Extends c n l }
         ensures { (result.curve ≡ c) × (result.node ≡ n) × (result.payments ≡ l) × Prepared result }
     {
         let within = payments_up_to(l, c.end_day());
@@ -126,8 +113,8 @@ impl Extension {
     }
 
     // What the bond is worth with the new node at a rate.
-    pub fn value_at(self, rate: u64, tables: &[u64]) -> u64
-        requires { Prepared self × (rate ≤ highest_rate) × Tables tables.now }
+    pub fn value_at(self, rate: u64, tables: Tables<'_>) -> u64
+        requires { Prepared self × (rate ≤ highest_rate) }
         ensures { result ≡ bond_value_at (nodes_of self.curve) self.node (leg_flows self.payments) rate }
     {
         let l = self.payments;

@@ -2,7 +2,6 @@
 ghost use Rattle.std.specs.Prelude.{◌≡◌};
 ghost use Rattle.ground.specs.declared.Ground.TheVariants.{RateRange};
 ghost use Rattle.ground.specs.Verdicts.{unless};
-ghost use Rattle.logarithm.specs.Logarithms.{Tables};
 ghost use Rattle.curve.specs.Lengthen.{at_rate};
 ghost use Rattle.curve.specs.Limits.{ProperCurve};
 ghost use Rattle.curve.specs.Rates.{nodes_of};
@@ -25,7 +24,7 @@ use curve::{Curve, Node};
 use curve_block::curve_of;
 use ground::{Ground, Refusal, refuse_if};
 use legs::Leg;
-use logarithm::tables::fill;
+use logarithm::tables::{Rows, Tables};
 
 // The node of a quote, its rate not yet found.
 fn open_node(q: Quote, l: Leg) -> Node
@@ -42,8 +41,8 @@ fn open_node(q: Quote, l: Leg) -> Node
 }
 
 // Of a bond on a curve where 17 does not apply: ground 18, or the node at the smallest rate.
-fn priced(c: Curve, n: Node, l: Leg, cash: u64, tables: &[u64]) -> Result<Node, Refusal>
-    requires { Extends c n l × Tables tables.now }
+fn priced(c: Curve, n: Node, l: Leg, cash: u64, tables: Tables<'_>) -> Result<Node, Refusal>
+    requires { Extends c n l }
     ensures { result ≡ decision_of (unless (breaks_rate_range (nodes_of c) n (leg_flows l) cash) RateRange 0 (Ok tt)) (at_rate n (rate_for (nodes_of c) n (leg_flows l) cash)) }
 {
     let e = Extension::new(c, n, l, tables);
@@ -60,9 +59,9 @@ fn extended(c: Curve, q: Quote) -> Result<Node, Refusal>
     let l = payments_of(q);
     let n = open_node(q, l);
     refuse_if(breaks_curve_end(c, n.day), Ground::CurveEnd, 0)?;
-    let mut tables = [0u64; 3694];
-    fill(&mut tables);
-    priced(c, n, l, q.cash, &tables)
+    let mut rows = Rows::ZEROS;
+    let tables = rows.fill();
+    priced(c, n, l, q.cash, tables)
 }
 
 // On an accepted book.

@@ -7,7 +7,7 @@ ghost use Rattle.curve_block.specs.Verdict.{curve_verdict};
 use crate::{components_of, currency_of, node_at, node_count, node_place};
 use curve::{Component, Node};
 use ground::{Ground, LAST_DAY, Refusal, refuse_if};
-use layout::check::{breaks_check, breaks_place};
+use layout::check::{Kind, breaks_check, breaks_place};
 use layout::{u16_at, wide, zeros};
 
 #[tactic(auto, unfolding(crate::specs::Rules::steps_sound))]
@@ -114,7 +114,7 @@ pub fn curve_verdict(b: &[u8], k: u64) -> Result<(), Refusal>
     ensures { result ≡ curve_verdict b.now k }
 {
     refuse_if(breaks_check(b), Ground::Check, k)?;
-    refuse_if(breaks_place(b, 2, k), Ground::Place, k)?;
+    refuse_if(breaks_place(b, Kind::Curve, k), Ground::Place, k)?;
     refuse_if(breaks_curve(b, k), Ground::Curve, k)?;
     refuse_if(breaks_node(b), Ground::Node, k)
 }

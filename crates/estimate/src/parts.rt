@@ -1,6 +1,5 @@
 // The listed days valued along a curve's lines.
 ghost use Rattle.std.specs.Prelude.{◌≡◌, ◌≤◌, nat_abs};
-ghost use Rattle.logarithm.specs.Logarithms.{Tables};
 ghost use Rattle.netting.specs.Netting.{worth, cheap_on};
 ghost use Rattle.estimate.specs.Lines.{line_of, rate_on, Ahead, Drawn};
 ghost use Rattle.estimate.specs.Values.{along_to, most_size, Ready};
@@ -8,6 +7,7 @@ ghost use Rattle.estimate.specs.Values.{along_to, most_size, Ready};
 use super::lines::{Line, line_of};
 use cheap::factor::factor;
 use curve::Node;
+use logarithm::tables::Tables;
 use netting::value::worth;
 
 // A first part of the listed days: how many they are, and what their net amounts are worth.
@@ -18,8 +18,8 @@ pub struct Part {
 }
 
 // What a net amount is worth on its day, at the line's rate.
-fn day_value(line: Line, day: u64, net: i64, tables: &[u64]) -> i64
-    requires { Drawn line day × Tables tables.now × (nat_abs net ≤ most_size) }
+fn day_value(line: Line, day: u64, net: i64, tables: Tables<'_>) -> i64
+    requires { Drawn line day × (nat_abs net ≤ most_size) }
     ensures { result ≡ worth (cheap_on (rate_on line) day) net }
 {
     worth(net, factor(tables, line.rate_on(day), day))
@@ -27,8 +27,15 @@ fn day_value(line: Line, day: u64, net: i64, tables: &[u64]) -> i64
 
 impl Part {
     // With the days before place `end` of the list, at a line's rates.
-    pub fn along(self, line: Line, end: usize, days: &[u16], nets: &[i64], tables: &[u64]) -> Part
-        requires { Ready line end nets.now days.now self × Tables tables.now }
+    pub fn along(
+        self,
+        line: Line,
+        end: usize,
+        days: &[u16],
+        nets: &[i64],
+        tables: Tables<'_>,
+    ) -> Part
+        requires { Ready line end nets.now days.now self }
         ensures { result ≡ along_to line end nets.now days.now self }
     {
         let mut value = self.value;
@@ -47,9 +54,9 @@ impl Part {
         end: usize,
         days: &[u16],
         nets: &[i64],
-        tables: &[u64],
+        tables: Tables<'_>,
     ) -> Part
-        requires { Ahead a b × Ready (line_of a b) end nets.now days.now self × Tables tables.now }
+        requires { Ahead a b × Ready (line_of a b) end nets.now days.now self }
         ensures { result ≡ along_to (line_of a b) end nets.now days.now self }
     {
         if self.done == end {

@@ -4,17 +4,17 @@ ghost use Rattle.curve.specs.Limits.{ProperCurve, ProperComponents, ScenarioLimi
 ghost use Rattle.curve.specs.Rates.{nodes_of};
 ghost use Rattle.curve.specs.Scenarios.{scenario_count};
 ghost use Rattle.curve.specs.Stress.{stressed};
-ghost use Rattle.logarithm.specs.Logarithms.{Tables};
 ghost use Rattle.estimate.specs.Values.{cheap_value, ScenarioValues, Ends, Listed};
 
 use super::ends::fill_ends;
 use super::lines::level;
 use super::parts::Part;
 use curve::{Components, Curve, Scenario};
+use logarithm::tables::Tables;
 
 // At the rates of a curve: along a level line to its first node, a line from each node to the next, and a level one from the last.
-fn value_on(curve: Curve, ends: &[usize], days: &[u16], nets: &[i64], tables: &[u64]) -> i64
-    requires { ProperCurve curve × Ends curve days.now ends.now × Listed nets.now days.now × Tables tables.now }
+fn value_on(curve: Curve, ends: &[usize], days: &[u16], nets: &[i64], tables: Tables<'_>) -> i64
+    requires { ProperCurve curve × Ends curve days.now ends.now × Listed nets.now days.now }
     ensures { result ≡ cheap_value (nodes_of curve) nets.now }
 {
     let mut p = Part { done: 0, value: 0 };
@@ -35,9 +35,9 @@ pub fn value_in(
     ends: &[usize],
     days: &[u16],
     nets: &[i64],
-    tables: &[u64],
+    tables: Tables<'_>,
 ) -> i64
-    requires { ProperCurve curve × ScenarioLimits scenario × Ends curve days.now ends.now × Listed nets.now days.now × Tables tables.now }
+    requires { ProperCurve curve × ScenarioLimits scenario × Ends curve days.now ends.now × Listed nets.now days.now }
     ensures { result ≡ cheap_value (map (stressed scenario) (nodes_of curve)) nets.now }
 {
     value_on(curve.stressed(scenario), ends, days, nets, tables)
@@ -49,10 +49,10 @@ pub fn fill_values(
     components: Components,
     days: &[u16],
     nets: &[i64],
-    tables: &[u64],
+    tables: Tables<'_>,
     values: &mut [i64],
 )
-    requires { ProperCurve curve × ProperComponents components × Listed nets.now days.now × Tables tables.now × (scenario_count components ≤ length values.old) }
+    requires { ProperCurve curve × ProperComponents components × Listed nets.now days.now × (scenario_count components ≤ length values.old) }
     ensures kept { length values.new ≡ length values.old }
     ensures each { ScenarioValues curve components nets.now values.new }
 {

@@ -5,7 +5,7 @@ ghost use Rattle.std.specs.Prelude.{◌≡◌};
 ghost use Rattle.figures.specs.Extension.{known_header, known_curve, coupon_bond, rate_found};
 
 use bootstrap::Quote;
-use layout::check::seal;
+use layout::check::{Kind, seal};
 use layout::{copy_in, put_le, u32_at};
 
 // One curve, and no trades.
@@ -13,7 +13,7 @@ fn header() -> [u8; 512]
     ensures { result ≡ known_header }
 {
     let mut b = [0u8; 512];
-    b[0] = 1;
+    b[0] = Kind::Header as u8;
     put_le(&mut b, 8, 2, 1);
     seal(&mut b);
     b
@@ -24,7 +24,7 @@ fn known_curve() -> [u8; 512]
     ensures { result ≡ known_curve }
 {
     let mut b = [0u8; 512];
-    b[0] = 2;
+    b[0] = Kind::Curve as u8;
     put_le(&mut b, 2, 2, 1);
     put_le(&mut b, 4, 1, 1);
     put_le(&mut b, 5, 1, 1);
@@ -55,6 +55,7 @@ pub fn found_rate() -> u64
     ensures { result ≡ rate_found }
 {
     let mut book = [0u8; 1024];
+    // By copy_from_slice into two parts of the array, its length as a slice stayed open in the proof.
     copy_in(&mut book, 0, &header());
     copy_in(&mut book, 512, &known_curve());
     let quote = Quote {

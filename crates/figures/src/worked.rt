@@ -11,17 +11,12 @@ use discount::value::present_value;
 use flows::amounts;
 use trade::price::Clean;
 
+#[tactic(auto, unfolding(crate::specs::Worked::brought))]
 fn within(least: u64, most: u64, n: u64) -> u64
     requires { least ≤ most }
     ensures { (result ≡ brought least most n) × (least ≤ result) × (result ≤ most) }
 {
-    if n < least {
-        return least;
-    }
-    if most < n {
-        return most;
-    }
-    n
+    n.clamp(least, most)
 }
 
 fn amount(n: u64) -> u64
@@ -66,7 +61,7 @@ fn present(sum: u64, at: u64, days: u64) -> u64
 fn difference(received: u64, paid: u64) -> u64
     ensures { result ≡ received - paid }
 {
-    if paid <= received { received - paid } else { 0 }
+    received.saturating_sub(paid)
 }
 
 fn interest(cash: u64, at: u64, term: u64) -> u64

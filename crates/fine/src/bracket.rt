@@ -1,10 +1,11 @@
 // The numbers between which document 01's factor lies, from the fine one.
 ghost use Rattle.std.specs.Prelude.{◌≡◌, ◌+◌, ◌-◌, ◌*◌, ◌/◌, ◌≤◌};
 ghost use Rattle.ground.specs.Limits.{last_day};
-ghost use Rattle.logarithm.specs.Logarithms.{fine_whole, Tables};
+ghost use Rattle.logarithm.specs.Logarithms.{fine_whole};
 ghost use Rattle.fine.specs.Fine.{lost, bracket_of, bracket_at, InBracket, BracketLimits};
 
 use super::factor::factor;
+use logarithm::tables::Tables;
 
 // In parts of 2^42.
 #[derive(Clone, Copy)]
@@ -43,8 +44,8 @@ fn bracket_of(rate: u64, day: u64, c: u64) -> Bracket
 
 // At a rate on a day.
 #[tactic(auto, unfolding(crate::specs::Fine::bracket_at))]
-pub fn bracket_at(tables: &[u64], rate: u64, day: u64) -> Bracket
-    requires { Tables tables.now × (rate ≤ 1_000_000) × (day ≤ last_day) }
+pub fn bracket_at(tables: Tables<'_>, rate: u64, day: u64) -> Bracket
+    requires { (rate ≤ 1_000_000) × (day ≤ last_day) }
     ensures same { result ≡ bracket_at rate day }
     ensures limits { BracketLimits result }
     ensures between { InBracket result rate day }

@@ -4,12 +4,12 @@ ghost use Rattle.ground.specs.Limits.{last_day};
 ghost use Rattle.decimal.specs.Product.{unit};
 ghost use Rattle.decimal.specs.HalfUp.{half_up};
 ghost use Rattle.discount.specs.Discount.{present_value};
-ghost use Rattle.logarithm.specs.Logarithms.{fine_whole, Tables};
+ghost use Rattle.logarithm.specs.Logarithms.{fine_whole};
 ghost use Rattle.fine.specs.Fine.{InBracket, BracketLimits};
 ghost use Rattle.fine.specs.FineValue.{fine_value_in, fine_value_at};
 
 use super::bracket::{Bracket, bracket_at};
-use logarithm::tables::scaled;
+use logarithm::tables::{Tables, scaled};
 
 // amount * c / 2^42, half up.
 #[tactic(auto, unfolding(decimal::specs::Product::unit, decimal::specs::HalfUp::half_up, logarithm::specs::Logarithms::fine_whole))]
@@ -34,8 +34,8 @@ pub fn fine_value_in(amount: u64, b: Bracket) -> Option<u64>
 
 // Of an amount at a rate on a day.
 #[tactic(auto, unfolding(crate::specs::FineValue::fine_value_at))]
-pub fn fine_value_at(tables: &[u64], amount: u64, rate: u64, day: u64) -> Option<u64>
-    requires { Tables tables.now × (amount ≤ unit) × (rate ≤ 1_000_000) × (day ≤ last_day) }
+pub fn fine_value_at(tables: Tables<'_>, amount: u64, rate: u64, day: u64) -> Option<u64>
+    requires { (amount ≤ unit) × (rate ≤ 1_000_000) × (day ≤ last_day) }
     ensures same { result ≡ fine_value_at amount rate day }
     ensures worth { IfSome result (λ v. v ≡ present_value amount rate day) }
 {

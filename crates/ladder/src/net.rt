@@ -6,7 +6,7 @@ ghost use Rattle.ground.specs.Limits.{day_count};
 ghost use Rattle.ladder.specs.Ladder.{ladder_flows, LadderLimits};
 ghost use Rattle.ladder.specs.Netted.{NetsRoom};
 
-use super::payments::{leg_at, payment};
+use super::payments::leg_at;
 use netting::net::net_with;
 use netting::value::deviation;
 
@@ -18,7 +18,7 @@ pub fn net_days(curve: u64, ladder: &[u64], schedules: usize, nets: &mut [i64])
     for i in 0..schedules {
         let leg = leg_at(curve, ladder, i);
         for k in 0..leg.count {
-            let f = payment(leg, k);
+            let f = leg.flow(k);
             let day = f.day as usize;
             nets[day] = net_with(nets[day], f);
         }
@@ -34,7 +34,7 @@ pub fn deviation_of(curve: u64, ladder: &[u64], schedules: usize) -> u64
     for i in 0..schedules {
         let leg = leg_at(curve, ladder, i);
         for k in 0..leg.count {
-            let f = payment(leg, k);
+            let f = leg.flow(k);
             off += deviation(f.amount, f.day);
         }
     }

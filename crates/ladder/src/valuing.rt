@@ -3,7 +3,6 @@ ghost use Rattle.std.specs.Prelude.{◌≡◌, IfSome};
 ghost use Rattle.curve.specs.Limits.{ProperCurve};
 ghost use Rattle.curve.specs.Rates.{nodes_of, rate_at};
 ghost use Rattle.discount.specs.Flows.{flow_value};
-ghost use Rattle.logarithm.specs.Logarithms.{Tables};
 ghost use Rattle.ladder.specs.Totals.{plus_flow, FlowLimits, TotalRoom};
 ghost use Rattle.ladder.specs.Kept.{KeptFactors};
 ghost use Rattle.ladder.specs.Held.{held, ValuingLimits, WithFlow};
@@ -11,7 +10,7 @@ ghost use Rattle.ladder.specs.Ladder.{ladder_flows, LadderLimits};
 ghost use Rattle.ladder.specs.Values.{total_on};
 
 use super::kept::{entry_of, kept_value};
-use super::payments::{leg_at, payment};
+use super::payments::leg_at;
 use super::total::Total;
 use curve::Curve;
 use decimal::round::discounted;
@@ -19,10 +18,11 @@ use discount::Flow;
 use discount::value::present_value;
 use fine::bracket::bracket_at;
 use fine::value::fine_value_in;
+use logarithm::tables::Tables;
 
 // The value of a flow at the curve's rate, where that can be told from what is kept of its day, or from the fine factor, whose bracket is kept then.
-fn known_value(curve: Curve, f: Flow, tables: &[u64], factors: &mut [u64]) -> Option<u64>
-    requires { ProperCurve curve × FlowLimits f × Tables tables.now × KeptFactors (nodes_of curve) factors.old }
+fn known_value(curve: Curve, f: Flow, tables: Tables<'_>, factors: &mut [u64]) -> Option<u64>
+    requires { ProperCurve curve × FlowLimits f × KeptFactors (nodes_of curve) factors.old }
     ensures value_value { IfSome result (λ v. v ≡ flow_value (rate_at (nodes_of curve)) f) }
     ensures kept_factors { KeptFactors (nodes_of curve) factors.new }
 {
@@ -60,8 +60,8 @@ pub struct Valuing {
 
 impl Valuing {
     // Adds one flow more.
-    fn add(&mut self, curve: Curve, f: Flow, tables: &[u64], factors: &mut [u64])
-        requires { ValuingLimits 1 self.old × ProperCurve curve × FlowLimits f × Tables tables.now × KeptFactors (nodes_of curve) factors.old }
+    fn add(&mut self, curve: Curve, f: Flow, tables: Tables<'_>, factors: &mut [u64])
+        requires { ValuingLimits 1 self.old × ProperCurve curve × FlowLimits f × KeptFactors (nodes_of curve) factors.old }
         ensures with_flow { WithFlow (nodes_of curve) self.old f self.new }
         ensures kept_factors { KeptFactors (nodes_of curve) factors.new }
     {
@@ -96,10 +96,10 @@ fn total_of(
     curve: Curve,
     ladder: &[u64],
     schedules: usize,
-    tables: &[u64],
+    tables: Tables<'_>,
     factors: &mut [u64],
 ) -> Total
-    requires { ProperCurve curve × LadderLimits id ladder.now schedules × Tables tables.now × KeptFactors (nodes_of curve) factors.old }
+    requires { ProperCurve curve × LadderLimits id ladder.now schedules × KeptFactors (nodes_of curve) factors.old }
     ensures { result ≡ total_on (nodes_of curve) (ladder_flows id ladder.now schedules) }
 {
     let mut valuing = Valuing {
@@ -112,15 +112,21 @@ fn total_of(
     for i in 0..schedules {
         let leg = leg_at(id, ladder, i);
         for k in 0..leg.count {
-            valuing.add(curve, payment(leg, k), tables, factors);
+            valuing.add(curve, leg.flow(k), tables, factors);
         }
     }
     valuing.finished(curve)
 }
 
 // The total of the first schedules at the rates of a curve.
-pub fn value_of(id: u64, curve: Curve, ladder: &[u64], schedules: usize, tables: &[u64]) -> Total
-    requires { ProperCurve curve × LadderLimits id ladder.now schedules × Tables tables.now }
+pub fn value_of(
+    id: u64,
+    curve: Curve,
+    ladder: &[u64],
+    schedules: usize,
+    tables: Tables<'_>,
+) -> Total
+    requires { ProperCurve curve × LadderLimits id ladder.now schedules }
     ensures { result ≡ total_on (nodes_of curve) (ladder_flows id ladder.now schedules) }
 {
     let mut factors = [0u64; 10951];

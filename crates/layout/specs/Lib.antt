@@ -2,3 +2,4 @@ pub mod Bytes
 pub mod Field
 pub mod Row
 pub mod Check
+pub mod Kinds

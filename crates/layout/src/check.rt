@@ -1,8 +1,18 @@
 // The check of a block of 512 bytes, and its place: one definition, specs/Check.antt, for whoever reads a block, writes one or makes a report.
 ghost use Rattle.std.specs.Prelude.{◌≡◌, length};
 ghost use Rattle.layout.specs.Check.{check_of, sealed, breaks_check, breaks_place};
+ghost use Rattle.layout.specs.Kinds.{kind_number};
 
-use crate::{put_le, u16_at, wide, word_at};
+use crate::{put_le, u16_at, word_at};
+
+// What a block holds, with the number that its first byte has.
+#[derive(Clone, Copy, Debug, PartialEq, Eq)]
+pub enum Kind {
+    Header = 1,
+    Curve = 2,
+    Trades = 3,
+    Report = 9,
+}
 
 #[tactic(auto, unfolding(crate::specs::Check::words))]
 pub fn check_of(b: &[u8]) -> u32
@@ -37,9 +47,9 @@ pub fn seal(b: &mut [u8])
 
 // Ground 3: the kind or the number is not the one that the place calls for.
 #[tactic(auto, unfolding(crate::specs::Check::breaks_place))]
-pub fn breaks_place(b: &[u8], kind: u64, number: u64) -> bool
+pub fn breaks_place(b: &[u8], kind: Kind, number: u64) -> bool
     requires { length b.now ≡ 512 }
-    ensures { result ≡ breaks_place b.now kind number }
+    ensures { result ≡ breaks_place b.now (kind_number kind) number }
 {
-    !((wide(b[0]) == kind) & (u16_at(b, 2) == number))
+    (b[0] != kind as u8) | (u16_at(b, 2) != number)
 }

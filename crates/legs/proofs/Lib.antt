@@ -1,4 +1,3 @@
-mod Table
 pub mod Numbered
 pub mod Counted
 pub mod Reach

@@ -1,5 +1,5 @@
 -- Logarithms and powers by tables. Logarithms are exponents of (scale - 1) / (scale + 1): a unit is 2 ^ -51 of a natural one.
-use Rattle.std.specs.Prelude.{ℕ, zero, suc, ◌+◌, ◌-◌, ◌*◌, ◌/◌, ◌<◌, ◌≡◌, List, length, get_or}
+use Rattle.std.specs.Prelude.{ℕ, zero, suc, ◌+◌, ◌-◌, ◌*◌, ◌/◌, ◌<◌, ◌≡◌, List, get_or}
 use Rattle.discount.specs.Discount.{million}
 
 -- 2 ^ 52; the base of the logarithms is base_numerator / base_denominator
@@ -65,13 +65,8 @@ middle_base = 1152851138010109269
 unfoldable pub upper_base : ℕ
 upper_base = 1083069521826238936
 
--- ---- the tables, one behind the other
+-- ---- the tables
 
-pub record Tables (tables : List ℕ) : Type 0 where
-  pub places : length tables ≡ 3694
-  pub logs : (k : ℕ) → k < 489 → get_or tables k 0 ≡ log_of k
-  pub slopes : (k : ℕ) → k < 489 → get_or tables (489 + k) 0 ≡ log_slope k
-  pub middles : (k : ℕ) → k < 1024 → get_or tables (978 + k) 0 ≡ power_row middle_base k
-  pub uppers : (k : ℕ) → k < 334 → get_or tables (2002 + k) 0 ≡ power_row upper_base k
-  pub short_middles : (k : ℕ) → k < 1024 → get_or tables (2336 + k) 0 ≡ short_row middle_base k
-  pub short_uppers : (k : ℕ) → k < 334 → get_or tables (3360 + k) 0 ≡ short_row upper_base k
+-- the first n places hold what f says of each
+abbrev pub Filled : (ℕ → ℕ) → ℕ → List ℕ → Type 0
+Filled f n rows = (k : ℕ) → k < n → get_or rows k 0 ≡ f k

@@ -13,6 +13,7 @@ use super::ValuedPosition;
 use super::estimates::estimate;
 use super::losses::{Loss, curve_in, loss_of};
 use curve::Curve;
+use logarithm::tables::Tables;
 use screening::least::least_of;
 
 // The first of n places whose value is at most the limit, where there is one.
@@ -39,8 +40,14 @@ fn same_rates(a: Curve, b: Curve) -> bool
 }
 
 // The worse of a loss and that of scenario s. Where both scenarios give the nodes the same rates, the losses are equal, and nothing is valued.
-fn worse_with(valued: ValuedPosition, ladder: &[u64], tables: &[u64], worst: Loss, s: u64) -> Loss
-    requires { Based valued ladder.now tables.now × ScenarioLoss (exposure_of valued.position ladder.now) worst × (s < scenario_count valued.position.components) }
+fn worse_with(
+    valued: ValuedPosition,
+    ladder: &[u64],
+    tables: Tables<'_>,
+    worst: Loss,
+    s: u64,
+) -> Loss
+    requires { Based valued ladder.now × ScenarioLoss (exposure_of valued.position ladder.now) worst × (s < scenario_count valued.position.components) }
     ensures { result ≡ worse_of worst (loss_of (exposure_of valued.position ladder.now) s) }
 {
     let stressed = curve_in(valued.position, s);
@@ -57,11 +64,11 @@ fn worse_with(valued: ValuedPosition, ladder: &[u64], tables: &[u64], worst: Los
 fn worst_kept(
     valued: ValuedPosition,
     ladder: &[u64],
-    tables: &[u64],
+    tables: Tables<'_>,
     values: &[i64],
     limit: i64,
 ) -> Loss
-    requires { Based valued ladder.now tables.now × (length values.now ≡ 343) × SomeKept values.now limit (scenario_count valued.position.components) }
+    requires { Based valued ladder.now × (length values.now ≡ 343) × SomeKept values.now limit (scenario_count valued.position.components) }
     ensures { WorstKept (loss_at flow_value (exposure_of valued.position ladder.now)) values.now limit (scenario_count valued.position.components) result }
 {
     let count = valued.position.components.scenario_count();
@@ -82,11 +89,11 @@ fn worst_kept(
 fn worst_estimated(
     valued: ValuedPosition,
     ladder: &[u64],
-    tables: &[u64],
+    tables: Tables<'_>,
     values: &[i64],
     deviation: u64,
 ) -> Loss
-    requires { Based valued ladder.now tables.now × Estimates (exposure_of valued.position ladder.now) values.now deviation }
+    requires { Based valued ladder.now × Estimates (exposure_of valued.position ladder.now) values.now deviation }
     ensures { result ≡ worst_of (exposure_of valued.position ladder.now) }
 {
     let least = least_of(values, valued.position.components.scenario_count());
@@ -95,8 +102,8 @@ fn worst_estimated(
 }
 
 // The first scenario with the largest loss.
-pub fn worst_of(valued: ValuedPosition, ladder: &[u64], tables: &[u64]) -> Loss
-    requires { Based valued ladder.now tables.now }
+pub fn worst_of(valued: ValuedPosition, ladder: &[u64], tables: Tables<'_>) -> Loss
+    requires { Based valued ladder.now }
     ensures { result ≡ worst_of (exposure_of valued.position ladder.now) }
 {
     let mut values = [0i64; 343];

@@ -15,7 +15,8 @@ pub struct ValuedPosition {
     pub base: i64,
 }
 
-// The figures of a curve.
+// The figures of a curve. Its currency stays a number, 1 to 3, and 0 in a place without a curve: the report has it in its bytes, and demand 3 (`Bounded`)
+// is said of the currencies by number.
 #[derive(Clone, Copy)]
 pub struct CurveMargin {
     pub base: i64,

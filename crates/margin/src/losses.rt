@@ -13,6 +13,7 @@ use super::ValuedPosition;
 use curve::Curve;
 use ladder::Position;
 use ladder::valuing::value_of;
+use logarithm::tables::Tables;
 
 // The curve of a position in scenario s.
 pub fn curve_in(position: Position, s: u64) -> Curve
@@ -23,8 +24,8 @@ pub fn curve_in(position: Position, s: u64) -> Curve
 }
 
 // The loss of scenario s: the base less the value at the stressed nodes.
-pub fn loss_of(valued: ValuedPosition, ladder: &[u64], tables: &[u64], s: u64) -> i64
-    requires { Based valued ladder.now tables.now × (s < scenario_count valued.position.components) }
+pub fn loss_of(valued: ValuedPosition, ladder: &[u64], tables: Tables<'_>, s: u64) -> i64
+    requires { Based valued ladder.now × (s < scenario_count valued.position.components) }
     ensures { result ≡ loss_at flow_value (exposure_of valued.position ladder.now) s }
 {
     let position = valued.position;

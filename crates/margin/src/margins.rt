@@ -7,25 +7,25 @@ use super::choice::worst_of;
 use super::{CurrencyMargin, CurveMargin, Margin, ValuedPosition};
 use ladder::Position;
 use ladder::valuing::value_of;
-use logarithm::tables::fill;
+use logarithm::tables::Rows;
 
 // The figures of a curve, with a position's ladder on it.
 pub fn curve_margin(position: Position, ladder: &[u64]) -> CurveMargin
     requires { PositionLimits position ladder.now }
     ensures { result ≡ curve_margin (exposure_of position ladder.now) }
 {
-    let mut tables = [0u64; 3694];
-    fill(&mut tables);
+    let mut rows = Rows::ZEROS;
+    let tables = rows.fill();
     let total = value_of(
         position.id,
         position.curve,
         ladder,
         position.schedules,
-        &tables,
+        tables,
     );
     let base = total.sum;
     let valued = ValuedPosition { position, base };
-    let worst = worst_of(valued, ladder, &tables);
+    let worst = worst_of(valued, ladder, tables);
     CurveMargin {
         base,
         worstloss: worst.amount,

@@ -11,7 +11,7 @@ use layout::copy_in;
 
 // Writes the report of a book's margin as it would be after the append of a record, or answers the first ground that applies, append's
 // first, and writes nothing, given the current day. The book is not written: the copy has room for the largest. Takes every input.
-#[tactic(auto, unfolding(crate::specs::Preview::preview_verdict, crate::specs::Preview::preview_bytes))]
+#[tactic(auto, unfolding(crate::specs::Preview::preview_verdict, crate::specs::Preview::preview_bytes), using(edit::proofs::Size::checked))]
 pub fn preview(
     book: &[u8],
     used: usize,

@@ -7,7 +7,8 @@ pub mod rules;
 // The largest amount.
 pub const LARGEST: u64 = 1_000_000_000_000;
 
-// What kind of trade it is, and the curves that it stands on; `blank` is bytes 6-7.
+// What kind of trade it is, and the curves that it stands on; `blank` is bytes 6-7. These are the numbers that stand in a record's bytes,
+// whatever they are: the rules 8 to 11 judge them, and a trade has enums in their place.
 #[derive(Clone, Copy)]
 pub struct Form {
     pub kind: u64,

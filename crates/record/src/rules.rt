@@ -32,6 +32,8 @@ fn asked(used: bool, rule: bool) -> bool
     !used | rule
 }
 
+// Kinds, phases and securities stay the numbers of a record's bytes: `breaks_form` is said of every number.
+
 fn is_outright(kind: u64) -> bool
     ensures { result ≡ is_outright kind }
 {

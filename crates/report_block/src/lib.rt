@@ -6,7 +6,7 @@ ghost use mathlib.Core.List.{◌++◌, flat_map};
 ghost use Rattle.layout.specs.Bytes.{put};
 ghost use Rattle.report_block.specs.Report.{curve_bytes, currency_bytes, field_bytes, report_bytes};
 
-use layout::check::seal;
+use layout::check::{Kind, seal};
 use layout::{put_le, put_signed};
 use margin::{CurrencyMargin, CurveMargin, Margin};
 
@@ -54,7 +54,7 @@ fn put_fields(out: &mut [u8], m: Margin)
     requires { 512 ≤ length out.old }
     ensures { out.new ≡ put out.old 0 (field_bytes m) }
 {
-    put_le(out, 0, 4, 9);
+    put_le(out, 0, 4, Kind::Report as u64);
     put_le(out, 4, 4, m.account);
     put_curves(out, m.curves);
     put_currencies(out, m.currencies);

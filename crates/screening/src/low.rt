@@ -2,13 +2,13 @@
 ghost use Rattle.std.specs.Prelude.{◌≡◌, true, ◌≤◌, pos, ◌-ℤ◌, length};
 ghost use Rattle.curve.specs.Limits.{ProperCurve, ProperComponents};
 ghost use Rattle.curve.specs.Scenarios.{scenario_count};
-ghost use Rattle.logarithm.specs.Logarithms.{Tables};
 ghost use Rattle.mapping.specs.Mapping.{spare_of, Mappable};
 ghost use Rattle.screening.specs.Screening.{NoneAbove, Lowered, Small, AllSmall};
 
 use curve::{Components, Curve};
 use estimate::days::list_days;
 use estimate::values::fill_values;
+use logarithm::tables::Tables;
 use mapping::grid::map_nets;
 
 // A value less the spare.
@@ -37,11 +37,11 @@ pub fn low_values(
     components: Components,
     days: &[u16],
     nets: &[i64],
-    tables: &[u64],
+    tables: Tables<'_>,
     spare: u64,
     values: &mut [i64],
 ) -> bool
-    requires { ProperCurve curve × ProperComponents components × Mappable nets.now days.now × Tables tables.now × (spare ≡ spare_of nets.now days.now) × (length values.old ≡ 343) }
+    requires { ProperCurve curve × ProperComponents components × Mappable nets.now days.now × (spare ≡ spare_of nets.now days.now) × (length values.old ≡ 343) }
     ensures kept { length values.new ≡ length values.old }
     ensures low { result ≡ true → NoneAbove curve components nets.now values.new × AllSmall values.new (scenario_count components) }
 {

@@ -2,7 +2,6 @@
 ghost use Rattle.std.specs.Prelude.{◌≡◌, ◌≤◌, length};
 ghost use Rattle.curve.specs.Limits.{ProperCurve, ProperComponents};
 ghost use Rattle.curve.specs.Scenarios.{scenario_count};
-ghost use Rattle.logarithm.specs.Logarithms.{Tables};
 ghost use Rattle.estimate.specs.Values.{Listed};
 ghost use Rattle.screening.specs.Screening.{NoneAbove, Screened, AllSmall};
 
@@ -10,6 +9,7 @@ use super::least::least_of;
 use curve::{Components, Curve};
 use estimate::ends::fill_ends;
 use estimate::values::value_in;
+use logarithm::tables::Tables;
 
 // The limit is the value, from every day, of the scenario with the least estimate: an estimate above it is above some scenario's value as it is.
 pub fn refine(
@@ -17,10 +17,10 @@ pub fn refine(
     components: Components,
     days: &[u16],
     nets: &[i64],
-    tables: &[u64],
+    tables: Tables<'_>,
     values: &mut [i64],
 )
-    requires { ProperCurve curve × ProperComponents components × Listed nets.now days.now × Tables tables.now × (scenario_count components ≤ length values.old) × NoneAbove curve components nets.now values.old × AllSmall values.old (scenario_count components) }
+    requires { ProperCurve curve × ProperComponents components × Listed nets.now days.now × (scenario_count components ≤ length values.old) × NoneAbove curve components nets.now values.old × AllSmall values.old (scenario_count components) }
     ensures kept { length values.new ≡ length values.old }
     ensures each { Screened curve components nets.now values.new }
 {

@@ -2,7 +2,6 @@
 ghost use Rattle.std.specs.Prelude.{◌≡◌, true, ◌≤◌, length};
 ghost use Rattle.ground.specs.Limits.{day_count};
 ghost use Rattle.curve.specs.Limits.{ProperCurve, ComponentLimits, ProperComponents};
-ghost use Rattle.logarithm.specs.Logarithms.{Tables};
 ghost use Rattle.netting.specs.Netting.{listed, net_size};
 ghost use Rattle.estimate.specs.Values.{Listed};
 ghost use Rattle.mapping.specs.Mapping.{spare_of, most_mapped, Mappable};
@@ -15,6 +14,7 @@ use curve::{Component, Components, Curve};
 use estimate::days::list_days;
 use estimate::ends::fill_ends;
 use estimate::values::{fill_values, value_in};
+use logarithm::tables::Tables;
 use mapping::grid::size_of;
 
 // A component with at most one step to each side: its outermost coefficients and 0.
@@ -56,11 +56,11 @@ fn pays(
     components: Components,
     days: &[u16],
     nets: &[i64],
-    tables: &[u64],
+    tables: Tables<'_>,
     spare: u64,
     values: &mut [i64],
 ) -> bool
-    requires { ProperCurve curve × ProperComponents components × Listed nets.now days.now × Mappable nets.now days.now × Tables tables.now × (spare ≡ spare_of nets.now days.now) × (length values.old ≡ 343) }
+    requires { ProperCurve curve × ProperComponents components × Listed nets.now days.now × Mappable nets.now days.now × (spare ≡ spare_of nets.now days.now) × (length values.old ≡ 343) }
     ensures { length values.new ≡ length values.old }
 {
     let few = outermost(components);
@@ -81,11 +81,11 @@ fn screen_mapped(
     components: Components,
     days: &[u16],
     nets: &[i64],
-    tables: &[u64],
+    tables: Tables<'_>,
     spare: u64,
     values: &mut [i64],
 )
-    requires { ProperCurve curve × ProperComponents components × Listed nets.now days.now × Mappable nets.now days.now × Tables tables.now × (spare ≡ spare_of nets.now days.now) × (length values.old ≡ 343) }
+    requires { ProperCurve curve × ProperComponents components × Listed nets.now days.now × Mappable nets.now days.now × (spare ≡ spare_of nets.now days.now) × (length values.old ≡ 343) }
     ensures kept { length values.new ≡ length values.old }
     ensures each { Screened curve components nets.now values.new }
 {
@@ -110,10 +110,10 @@ pub fn screen(
     curve: Curve,
     components: Components,
     nets: &[i64],
-    tables: &[u64],
+    tables: Tables<'_>,
     values: &mut [i64],
 )
-    requires { ProperCurve curve × ProperComponents components × Tables tables.now × (length nets.now ≡ day_count) × (net_size nets.now (listed nets.now) ≤ 140_000_000_000_000_000) × (length values.old ≡ 343) }
+    requires { ProperCurve curve × ProperComponents components × (length nets.now ≡ day_count) × (net_size nets.now (listed nets.now) ≤ 140_000_000_000_000_000) × (length values.old ≡ 343) }
     ensures kept { length values.new ≡ length values.old }
     ensures each { Screened curve components nets.now values.new }
 {

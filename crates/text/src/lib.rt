@@ -45,7 +45,7 @@ pub fn put_digits(out: &mut [u8], at: usize, n: u64) -> usize
     put_counted(out, at, digit_count(n), n)
 }
 
-// Without its sign.
+// Without its sign, and with the bound that its digits need.
 pub fn size_of(v: i64) -> u64
     ensures value { result ≡ nat_abs v }
     ensures upper_bound { result ≤ 9223372036854775808 }
@@ -99,6 +99,7 @@ fn letters_of(currency: u64) -> [u8; 3]
     }
 }
 
+// A currency stays a number, as in the bytes of a book: `letters` is said of every number.
 pub fn put_letters(out: &mut [u8], at: usize, currency: u64) -> usize
     requires { at + 3 ≤ length out.old }
     ensures text_written { TextWritten out.old at (letters currency) out.new result }

@@ -1,3 +1,4 @@
+pub mod Phases
 pub mod Prices
 pub mod Read
 pub mod Write

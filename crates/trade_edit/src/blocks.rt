@@ -3,7 +3,7 @@ ghost use Rattle.std.specs.Prelude.{◌≡◌, ◌+◌, ◌≤◌, ◌<◌, leng
 ghost use Rattle.layout.specs.Bytes.{put};
 ghost use Rattle.trade_edit.specs.Blocks.{with_record, bare_block, with_trade_blocks};
 
-use layout::check::seal;
+use layout::check::{Kind, seal};
 use layout::{copy_in, put_le};
 
 // Puts a record into place n of a block of trades, behind its others.
@@ -23,7 +23,7 @@ pub fn bare_block(number: usize) -> [u8; 512]
     ensures { result ≡ bare_block number }
 {
     let mut b = [0u8; 512];
-    b[0] = 3;
+    b[0] = Kind::Trades as u8;
     put_le(&mut b, 2, 2, number as u64);
     b
 }

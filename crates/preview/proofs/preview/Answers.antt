@@ -28,7 +28,7 @@ record-long c = search rules
 -- taken by append
 module _ (c : In_ok-append_verdict) where
   bytes : AreBytes c.args.book.now
-  bytes k = omega (arith, c.shared_slice_known-1.given k)
+  bytes k = search rules
 
   ok : append_verdict c.args.book.now c.args.used c.args.day c.args.r ≡ Ok tt
   ok = sym c.append_verdict.ensures ∙ c.in_ok-append_verdict.was
@@ -38,9 +38,6 @@ module _ (c : In_ok-append_verdict) where
 
   within : c.args.used ≤ length c.args.book.now
   within = (sound c.args.book.now c.args.used given.accepted).lent
-
-pub slice_bounds-copy_in-end : goal.slice_bounds-copy_in-end
-slice_bounds-copy_in-end c = omega (arith, within (goal.at.slice_bounds-copy_in-end c).In_ok-append_verdict)
 
 pub slice_bounds-copy_in-end-2 : goal.slice_bounds-copy_in-end-2
 slice_bounds-copy_in-end-2 c = sym (length-take-le c.args.used c.args.book.now (within (goal.at.slice_bounds-copy_in-end-2 c).In_ok-append_verdict))

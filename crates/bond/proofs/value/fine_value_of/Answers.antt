@@ -5,4 +5,4 @@ use Rattle.bond.proofs.value.fine_value_of.Goals as goal
 pub fine_value_at-requires : goal.fine_value_at-requires
 fine_value_at-requires c =
     let pre = c.requires in
-    (pre.3, pre.1, rw c.rate_at.ensures (curve-rate-limit _ pre.0 _), pre.2)
+    (pre.1, rw c.rate_at.ensures (curve-rate-limit _ pre.0 _), pre.2)

@@ -24,9 +24,9 @@ module _ (c : Joined-k-to) where
       let a = c.args in
       let k = c.loop-k.k in
       elim c.if-k-to.branch [
-        | then-k-to w ↦ rw (w.sum-is, w.value_of_two.ensures, w.payment.ensures, c.payment-f.ensures) (value-two (nodes_of a.c) a.l k a.to w.if-k-to.true)
+        | then-k-to w ↦ rw (w.sum-is, w.value_of_two.ensures, w.flow.ensures, c.flow-f.ensures) (value-two (nodes_of a.c) a.l k a.to w.if-k-to.true)
         | else-k-to w ↦
-            rw (w.sum-is, w.value_of.ensures, c.payment-f.ensures)
+            rw (w.sum-is, w.value_of.ensures, c.flow-f.ensures)
             (omega (arith, value-one (nodes_of a.c) a.l k a.to c.loop-k-test.true w.if-k-to.false, value_none (nodes_of a.c) a.l (k + 2) a.to (omega arith)))
       ]
 

@@ -15,19 +15,19 @@ module _ (c : Start) where
   rate = c.args.rate
 
   abbrev row : ℕ
-  row = get_or c.args.tables.now (rate / 2048) 0
+  row = get_or c.args.tables.rows.now.logs (rate / 2048) 0
 
   abbrev rise : ℕ
-  rise = rate % 2048 * get_or c.args.tables.now (489 + rate / 2048) 0
+  rise = rate % 2048 * get_or c.args.tables.rows.now.slopes (rate / 2048) 0
 
   abbrev part : ℕ
   part = rise / 2097152
 
   row_is : row ≡ log_of (rate / 2048)
-  row_is = c.requires.0.logs (rate / 2048) (omega (arith, c.requires.1))
+  row_is = c.args.tables.logs_are (rate / 2048) (omega (arith, c.requires.0))
 
-  slope-known : get_or c.args.tables.now (489 + rate / 2048) 0 ≡ log_slope (rate / 2048)
-  slope-known = c.requires.0.slopes (rate / 2048) (omega (arith, c.requires.1))
+  slope-known : get_or c.args.tables.rows.now.slopes (rate / 2048) 0 ≡ log_slope (rate / 2048)
+  slope-known = c.args.tables.slopes_are (rate / 2048) (omega (arith, c.requires.0))
 
   rise-few : rise ≤ 4609434217211
   rise-few = rw slope-known (rise-le (rate / 2048) (rate % 2048) (omega arith))
@@ -47,10 +47,10 @@ module _ (c : Start) where
   log_is = rw (row_is, slope-known) refl
 
   log-few : row + (rise - part * part / 1024) ≤ 1564789514502464
-  log-few = rw log_is (cheap-log-le rate c.requires.1)
+  log-few = rw log_is (cheap-log-le rate c.requires.0)
 
   product_le : (row + (rise - part * part / 1024)) * c.args.day ≤ 1564789514502464 * 10950
-  product_le = mul-le-mul log-few c.requires.2
+  product_le = mul-le-mul log-few c.requires.1
 
 pub overflow_mul-rise : goal.overflow_mul-rise
 overflow_mul-rise c = omega (arith, rise-few (goal.at.overflow_mul-rise c).Start)

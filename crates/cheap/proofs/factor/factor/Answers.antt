@@ -6,4 +6,4 @@ use Rattle.cheap.proofs.factor.factor.Goals as goal
 
 pub power-requires : goal.power-requires
 power-requires c =
-    (c.requires.0, rw c.exponent.ensures (exponent-le (cheap_log c.args.rate) c.args.day (cheap-log-le c.args.rate c.requires.1) c.requires.2))
+    rw c.exponent.ensures (exponent-le (cheap_log c.args.rate) c.args.day (cheap-log-le c.args.rate c.requires.0) c.requires.1)

@@ -1,6 +1,6 @@
 -- `cheap::factor::power` meets its contract: what it reads of the tables is what the definition has, and at most 2 ^ 31.
 use mathlib.Core.Path.{◌≡◌}
-use Prim.Native.Nat.{ℕ, ◌+◌, ◌-◌, ◌*◌, ◌/◌, ◌%◌, ◌≤◌}
+use Prim.Native.Nat.{ℕ, ◌-◌, ◌*◌, ◌/◌, ◌%◌, ◌≤◌}
 use native.Mathlib.Nat.{mul-le-mul}
 use native.Mathlib.Omega.{arith}
 use lib.ListN.{get_or}
@@ -14,16 +14,16 @@ module _ (c : Start) where
   x = c.args.x
 
   abbrev upper : ℕ
-  upper = get_or c.args.tables.now (3360 + x / 140737488355328) 0
+  upper = get_or c.args.tables.rows.now.short_uppers (x / 140737488355328) 0
 
   abbrev middle : ℕ
-  middle = get_or c.args.tables.now (2336 + x / 137438953472 % 1024) 0
+  middle = get_or c.args.tables.rows.now.short_middles (x / 137438953472 % 1024) 0
 
   upper_is : upper ≡ short_row upper_base (x / 140737488355328)
-  upper_is = c.requires.0.short_uppers (x / 140737488355328) (omega (arith, c.requires.1))
+  upper_is = c.args.tables.short_uppers_are (x / 140737488355328) (omega (arith, c.requires))
 
   middle-is : middle ≡ short_row middle_base (x / 137438953472 % 1024)
-  middle-is = c.requires.0.short_middles (x / 137438953472 % 1024) (omega arith)
+  middle-is = c.args.tables.short_middles_are (x / 137438953472 % 1024) (omega arith)
 
   rows-le : upper * middle ≤ 2147483648 * 2147483648
   rows-le =

@@ -11,4 +11,4 @@ use Rattle.estimate.proofs.parts.day_value.Goals.{After-factor, Start}
 pub worth-requires : goal.worth-requires
 unfolding whole most_size
 worth-requires c =
-    (rw (back c.args.net c.ranges.net.sfits) c.requires.2, rw c.factor.ensures (cheap-le _ _))
+    (rw (back c.args.net c.ranges.net.sfits) c.requires.1, rw c.factor.ensures (cheap-le _ _))

@@ -12,4 +12,4 @@ fill_ends-requires c =
 pub value_in-requires : goal.value_in-requires
 value_in-requires c =
     let p = c.requires in
-    (p.0, rw c.scenario-scenario.ensures (scenario-limits _ _ (omega (arith, c.loop-s-test.true, c.scenario_count-s-end.ensures)) p.1), c.fill_ends.ensures, p.2, p.3)
+    (p.0, rw c.scenario-scenario.ensures (scenario-limits _ _ (omega (arith, c.loop-s-test.true, c.scenario_count-s-end.ensures)) p.1), c.fill_ends.ensures, p.2)

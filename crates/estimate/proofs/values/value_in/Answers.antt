@@ -20,7 +20,7 @@ use Rattle.estimate.proofs.values.value_in.Goals.{After-stressed, Start}
 pub value_on-requires : goal.value_on-requires
 value_on-requires c =
     let p = c.requires in
-    (rw c.stressed.ensures (proper-stressed _ _ p.0), rw c.stressed.ensures (ends-stressed _ _ p.0 _ _ p.2), p.3, p.4)
+    (rw c.stressed.ensures (proper-stressed _ _ p.0), rw c.stressed.ensures (ends-stressed _ _ p.0 _ _ p.2), p.3)
 
 -- what is worth at the nodes of a stressed curve
 at-stressed : (s : Scenario) (c : Curve) → ProperCurve c → (e : Curve) (nets : List ℤ) (z : ℤ) → e ≡ stressed_curve s c → z ≡ cheap_value (nodes_of e) nets

@@ -8,7 +8,7 @@ use Rattle.estimate.proofs.values.value_on.Goals as goal
 pub along-p-requires : goal.along-p-requires
 along-p-requires c =
     let p = c.requires in
-    (ready-first _ p.0 _ _ _ p.2 p.1 _ c.level.ensures, p.3)
+    ready-first _ p.0 _ _ _ p.2 p.1 _ c.level.ensures
 
 pub loop-i-init : goal.loop-i-init
 loop-i-init c =
@@ -19,7 +19,7 @@ pub between-p-requires : goal.between-p-requires
 between-p-requires c =
     let p = c.requires in
     let h = c.loop-i.invariant in
-    (ahead _ p.0 _ h.some c.loop-i-test.true, ready-next _ p.0 _ _ _ p.2 p.1 _ _ h c.loop-i-test.true, p.3)
+    (ahead _ p.0 _ h.some c.loop-i-test.true, ready-next _ p.0 _ _ _ p.2 p.1 _ _ h c.loop-i-test.true)
 
 pub loop-i-preserved : goal.loop-i-preserved
 loop-i-preserved c =
@@ -30,7 +30,7 @@ pub along-requires : goal.along-requires
 along-requires c =
     let p = c.requires in
     let e : c.loop-i.i ≡ c.args.curve.count = omega (arith, c.loop-i.invariant.most) in
-    (ready-last _ p.0 _ _ _ p.2 p.1 _ (rw e at c.loop-i.invariant) _ c.level-last.ensures, p.3)
+    ready-last _ p.0 _ _ _ p.2 p.1 _ (rw e at c.loop-i.invariant) _ c.level-last.ensures
 
 pub returns : goal.returns
 returns c =

@@ -1,6 +1,6 @@
 -- `fine::factor::antilog` meets its contract: what it reads of the tables is what the definition has, and at most one.
 use mathlib.Core.Path.{◌≡◌, refl}
-use Prim.Native.Nat.{ℕ, ◌+◌, ◌/◌, ◌%◌, ◌≤◌}
+use Prim.Native.Nat.{ℕ, ◌/◌, ◌%◌, ◌≤◌}
 use native.Mathlib.Nat.{mul-le-mul}
 use native.Mathlib.Omega.{arith}
 use lib.ListN.{get_or}
@@ -13,16 +13,16 @@ use Rattle.fine.proofs.factor.antilog.Goals.{Start}
 
 module _ (c : Start) where
   abbrev upper : ℕ
-  upper = get_or c.args.tables.now (2002 + c.args.x / 140737488355328) 0
+  upper = get_or c.args.tables.rows.now.uppers (c.args.x / 140737488355328) 0
 
   abbrev middle : ℕ
-  middle = get_or c.args.tables.now (978 + c.args.x / 137438953472 % 1024) 0
+  middle = get_or c.args.tables.rows.now.middles (c.args.x / 137438953472 % 1024) 0
 
   upper_is : upper ≡ power_row upper_base (c.args.x / 140737488355328)
-  upper_is = c.requires.0.uppers _ (omega (arith, c.requires.1))
+  upper_is = c.args.tables.uppers_are _ (omega (arith, c.requires))
 
   middle-is : middle ≡ power_row middle_base (c.args.x / 137438953472 % 1024)
-  middle-is = c.requires.0.middles _ (omega arith)
+  middle-is = c.args.tables.middles_are _ (omega arith)
 
   upper-few : upper ≤ fine_whole
   upper-few = rw upper_is (power-row-le upper_base upper-le _)

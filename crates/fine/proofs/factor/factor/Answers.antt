@@ -6,4 +6,4 @@ use Rattle.fine.proofs.factor.factor.Goals as goal
 
 pub antilog-requires : goal.antilog-requires
 antilog-requires c =
-    (c.requires.0, rw c.exponent.ensures (exponent-le (log_at c.args.rate) c.args.day (log-at-le c.args.rate c.requires.1) c.requires.2))
+    rw c.exponent.ensures (exponent-le (log_at c.args.rate) c.args.day (log-at-le c.args.rate c.requires.0) c.requires.1)

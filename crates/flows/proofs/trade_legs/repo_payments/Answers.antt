@@ -1,10 +1,6 @@
 -- `flows::trade_legs::repo_payments` meets its contract.
 use mathlib.Core.Path.{◌∙◌}
-use mathlib.Core.Bool.{not}
 use native.Mathlib.Omega.{arith}
-use lib.Dec.{ltb}
-use borrow.Author.Tests.{ltb-true, not-true}
-use Rattle.laws.proofs.Bools.{both}
 use Rattle.flows.specs.Legs.{payments_of}
 use Rattle.legs.specs.Runs.{signed_leg}
 use Rattle.flows.proofs.Capped.{capped-none, counted-capped}
@@ -12,14 +8,12 @@ use Rattle.flows.proofs.Counted.{all-behind}
 use Rattle.flows.proofs.Reach.{payment-reach}
 use Rattle.flows.proofs.trade_legs.repo_payments.Goals as goal
 
-pub returns-then-settled-all_behind : goal.returns-then-settled-all_behind
-returns-then-settled-all_behind c =
+pub returns-then-t-first : goal.returns-then-t-first
+returns-then-t-first c =
     let a = c.args in
     let t = a.t in
-    let p = both (not a.settled) (ltb t.valueday2 c.first_payment_of.result) c.if-settled-all_behind.true in
-    let behind = ltb-true t.valueday2 c.first_payment_of.result p.1 in
     c.no_leg.ensures
-    ∙ rw (not-true a.settled p.0, all-behind a.sign t.security t.valueday1 t.valueday2 (omega (arith, behind, c.first_payment_of.ensures)), capped-none)
+    ∙ rw (c.if-not-settled.true, all-behind a.sign t.security t.valueday1 t.valueday2 (omega (arith, c.if-t-first.true, c.first_and_nominal-first.ensures)), capped-none)
 
 pub counted_leg-requires : goal.counted_leg-requires
 counted_leg-requires c =

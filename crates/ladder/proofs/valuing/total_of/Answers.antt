@@ -9,19 +9,19 @@ use Rattle.ladder.proofs.valuing.total_of.Goals as goal
 
 pub loop-i-init : goal.loop-i-init
 unfolding with_waiting
-loop-i-init c = record { held = folded-none _ _ _ _ _ _ (limits-none c.requires.1.few); kept = c.requires.3 }
+loop-i-init c = record { held = folded-none _ _ _ _ _ _ (limits-none c.requires.1.few); kept = c.requires.2 }
 
 pub add-requires : goal.add-requires
 add-requires c =
     let p = c.requires in
     let leg = c.leg_at-leg.ensures in
-    (limits-less (omega arith) (room-here p.1 c.loop-i-test.true leg c.loop-k.invariant.held c.loop-k-test.true), p.0, flow-limits p.1 c.loop-i-test.true leg c.loop-k-test.true c.payment.ensures, p.2, c.loop-k.invariant.kept)
+    (limits-less (omega arith) (room-here p.1 c.loop-i-test.true leg c.loop-k.invariant.held c.loop-k-test.true), p.0, flow-limits p.1 c.loop-i-test.true leg c.loop-k-test.true c.flow.ensures, c.loop-k.invariant.kept)
 
 pub loop-k-preserved : goal.loop-k-preserved
 loop-k-preserved c =
     let more = c.add.ensures in
     record {
-      held = folded-next c.requires.1 c.loop-i-test.true c.leg_at-leg.ensures c.loop-k.invariant.held c.loop-k-test.true c.payment.ensures more.with_flow.held more.with_flow.limits;
+      held = folded-next c.requires.1 c.loop-i-test.true c.leg_at-leg.ensures c.loop-k.invariant.held c.loop-k-test.true c.flow.ensures more.with_flow.held more.with_flow.limits;
       kept = more.kept_factors;
     }
 

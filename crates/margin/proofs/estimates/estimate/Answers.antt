@@ -28,12 +28,11 @@ screen-requires c =
     let e = c.net_days.ensures in (
       h.proper,
       h.stress,
-      c.requires.1,
       rw e (nets-length (flows (goal.at.screen-requires c).Start) (replicate 10951 (pos 0)) ∙ length-replicate {A = ℤ} 10951 (pos 0)),
       rw e (nets-size (flows (goal.at.screen-requires c).Start) (ladder-limits p.id c.args.ladder.now p.schedules h.schedules) h.schedules.few),
-      c.requires.2,
+      c.requires.1,
     )
 
 pub returns : goal.returns
 returns c =
-    estimates _ _ c.requires.0 _ _ _ c.net_days.ensures c.deviation_of.ensures (c.screen.ensures.kept ∙ c.requires.2) c.screen.ensures.each
+    estimates _ _ c.requires.0 _ _ _ c.net_days.ensures c.deviation_of.ensures (c.screen.ensures.kept ∙ c.requires.1) c.screen.ensures.each

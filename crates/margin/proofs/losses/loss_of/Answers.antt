@@ -13,7 +13,7 @@ use Rattle.margin.proofs.losses.loss_of.Goals.{After-value_of-total}
 pub value_of-total-requires : goal.value_of-total-requires
 value_of-total-requires c =
     let b = c.requires.0 in
-    (rw c.curve_in-stressed.ensures (proper-stressed _ _ b.limits.proper), b.limits.schedules, b.filled)
+    (rw c.curve_in-stressed.ensures (proper-stressed _ _ b.limits.proper), b.limits.schedules)
 
 -- the code's difference is the loss
 module _ (c : After-value_of-total) where

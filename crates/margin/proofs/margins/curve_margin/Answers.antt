@@ -2,7 +2,6 @@
 use Rattle.margin.specs.Margins.{curve_margin}
 use Rattle.margin.proofs.Stressing.{figures-are}
 use Rattle.margin.proofs.margins.curve_margin.Goals as goal
-use Rattle.margin.proofs.margins.curve_margin.Goals.{After-fill, Start}
 
 pub returns : goal.returns
 unfolding curve_margin

@@ -24,12 +24,12 @@ fill_ends-requires c =
 pub value_in-limit-requires : goal.value_in-limit-requires
 value_in-limit-requires c =
     let p = c.requires in
-    (p.0, rw c.scenario.ensures (scenario-limits _ _ (omega (arith, c.least_of-least.ensures.within, c.scenario_count-n.ensures)) p.1), c.fill_ends.ensures, p.2, p.3)
+    (p.0, rw c.scenario.ensures (scenario-limits _ _ (omega (arith, c.least_of-least.ensures.within, c.scenario_count-n.ensures)) p.1), c.fill_ends.ensures, p.2)
 
 pub value_in-requires : goal.value_in-requires
 value_in-requires c =
     let p = c.requires in
-    (p.0, rw c.scenario-then-values-at.ensures (scenario-limits _ _ (omega (arith, c.loop-s-test.true, c.scenario_count-n.ensures)) p.1), c.fill_ends.ensures, p.2, p.3)
+    (p.0, rw c.scenario-then-values-at.ensures (scenario-limits _ _ (omega (arith, c.loop-s-test.true, c.scenario_count-n.ensures)) p.1), c.fill_ends.ensures, p.2)
 
 pub loop-s-preserved : goal.loop-s-preserved
 loop-s-preserved c =
@@ -40,7 +40,7 @@ loop-s-preserved c =
     let f : SFits w64 v = search rules in
     elim c.if-values-at.branch [
       | then-values-at w ↦ (let found = scenario-read c.args.curve x nets _ c.loop-s.s c.requires.2 _ _ w.scenario-then-values-at.ensures w.value_in.ensures in
-          rw w.values-is (refining-next _ _ _ limit _ _ _ c.loop-s.invariant (omega (arith, c.requires.4, c.loop-s-test.true, c.scenario_count-n.ensures)) _ (found ∙ sym (refined-kept c.args.curve x nets limit c.loop-s.s v (rw (back v f.sfits) at w.if-values-at.true)))))
+          rw w.values-is (refining-next _ _ _ limit _ _ _ c.loop-s.invariant (omega (arith, c.requires.3, c.loop-s-test.true, c.scenario_count-n.ensures)) _ (found ∙ sym (refined-kept c.args.curve x nets limit c.loop-s.s v (rw (back v f.sfits) at w.if-values-at.true)))))
       | else-values-at w ↦ rw w.values-is (refining-left _ _ _ limit _ _ _ c.loop-s.invariant (rw (back v f.sfits) at w.if-values-at.false))
     ]
 
@@ -50,4 +50,4 @@ returns-clause-each c =
     let e : c.loop-s.s ≡ scenario_count c.args.components = omega arith in
     let m : c.least_of-least.result < scenario_count c.args.components = omega (arith, c.least_of-least.ensures.within) in
     let found = scenario-read c.args.curve c.args.components _ _ c.least_of-least.result c.requires.2 _ _ c.scenario.ensures c.value_in-limit.ensures in
-    refined-screened _ _ _ _ _ _ m found c.requires.5 _ (rw e at c.loop-s.invariant)
+    refined-screened _ _ _ _ _ _ m found c.requires.4 _ (rw e at c.loop-s.invariant)

@@ -12,4 +12,4 @@ fill_ends-requires c =
 pub value_in-limit-requires : goal.value_in-limit-requires
 value_in-limit-requires c =
     let p = c.requires in
-    (p.0, rw c.scenario.ensures (scenario-limits _ _ (omega (arith, c.least_of-least.ensures.within, c.scenario_count-n.ensures)) c.outermost-few.ensures), c.fill_ends.ensures, p.2, p.4)
+    (p.0, rw c.scenario.ensures (scenario-limits _ _ (omega (arith, c.least_of-least.ensures.within, c.scenario_count-n.ensures)) c.outermost-few.ensures), c.fill_ends.ensures, p.2)

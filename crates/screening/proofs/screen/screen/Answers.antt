@@ -24,14 +24,14 @@ module _ (c : After-list_days-count) where
   room : count ≤ length c.list_days-count.new.days
   room =
       let e = c.list_days-count.ensures in
-      omega (arith, e.kept, e.list.0, c.requires.3, length-replicate {A = ℕ} 10951 0)
+      omega (arith, e.kept, e.list.0, c.requires.2, length-replicate {A = ℕ} 10951 0)
 
   days-count : length days ≡ count
   days-count = length-take-le _ _ room
 
   days-listed : Listed c.args.nets.now days
   unfolding most_size
-  days-listed = record { places = c.requires.3; list = c.list_days-count.ensures.list.1; size = c.requires.4 }
+  days-listed = record { places = c.requires.2; list = c.list_days-count.ensures.list.1; size = c.requires.3 }
 
 pub size_of-size-requires : goal.size_of-size-requires
 size_of-size-requires c = days-listed (goal.at.size_of-size-requires c).After-list_days-count
@@ -42,15 +42,15 @@ pub screen_mapped-requires : goal.screen_mapped-requires
 unfolding spare_of
 screen_mapped-requires c =
     let p = c.requires in
-    let few : count (goal.at.screen_mapped-requires c).After-list_days-count ≤ 10951 = omega (arith, c.list_days-count.ensures.list.0, p.3) in
+    let few : count (goal.at.screen_mapped-requires c).After-list_days-count ≤ 10951 = omega (arith, c.list_days-count.ensures.list.0, p.2) in
     let size : net_size c.args.nets.now (days (goal.at.screen_mapped-requires c).After-list_days-count) ≤ 139000000000000000 =
     omega (arith, c.size_of-size.ensures, c.mappable.ensures c.if-mappable.true) in
-    (p.0, p.1, days-listed (goal.at.screen_mapped-requires c).After-list_days-count, record { places = p.3; list = c.list_days-count.ensures.list.1; few = omega (arith, days-count (goal.at.screen_mapped-requires c).After-list_days-count, few); size = size }, p.2, rw (c.size_of-size.ensures, days-count (goal.at.screen_mapped-requires c).After-list_days-count), p.5)
+    (p.0, p.1, days-listed (goal.at.screen_mapped-requires c).After-list_days-count, record { places = p.2; list = c.list_days-count.ensures.list.1; few = omega (arith, days-count (goal.at.screen_mapped-requires c).After-list_days-count, few); size = size }, rw (c.size_of-size.ensures, days-count (goal.at.screen_mapped-requires c).After-list_days-count), p.4)
 
 pub fill_values-requires : goal.fill_values-requires
 fill_values-requires c =
     let p = c.requires in
-    (p.0, p.1, days-listed (goal.at.fill_values-requires c).After-list_days-count, p.2, omega (arith, p.5, scenarios-most _ p.1))
+    (p.0, p.1, days-listed (goal.at.fill_values-requires c).After-list_days-count, omega (arith, p.4, scenarios-most _ p.1))
 
 pub returns-clause-each : goal.returns-clause-each
 returns-clause-each c = filled-screened _ _ _ _ c.fill_values.ensures.each

@@ -21,7 +21,7 @@ module _ (c : After-from-at) where
   at = c.args.self.done + c.loop-day.day-index
 
   within : at < c.args.end
-  within = omega (arith, c.requires.0.from)
+  within = omega (arith, c.requires.from)
 
   day-is : c.from-at.result ≡ get_or c.args.days.now at 0
   day-is = c.from-at.ensures ∙ between-at c.args.self.done c.args.end c.args.days.now c.loop-day.day-index (omega arith)
@@ -35,7 +35,7 @@ day_value-value-requires c =
     let h = c.loop-day.invariant in
     let f : SFits w64 (get_or c.args.nets.now c.from-at.result (pos 0)) = search rules in
     let g : SFits w64 (net t) = rw (day-is t) at f in
-    rw (day-is t, back (net t) g.sfits) ((going-day _ _ _ _ _ _ h (within t)).1, c.requires.1, amount-most _ _ _ _ _ _ h (within t))
+    rw (day-is t, back (net t) g.sfits) ((going-day _ _ _ _ _ _ h (within t)).1, amount-most _ _ _ _ _ _ h (within t))
 
 -- what the day's amount is worth, and the sum with it, read back from their bits
 module _ (c : After-day_value-value) where
