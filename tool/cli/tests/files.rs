@@ -28,7 +28,10 @@ fn run_unprivileged(desk: &Desk, arguments: &[&str]) -> Run {
     let reachable = tempfile::tempdir().unwrap();
     fs::set_permissions(reachable.path(), Permissions::from_mode(0o755)).unwrap();
     let copy = reachable.path().join("seddolki");
-    fs::copy(tool::tool(), &copy).unwrap();
+    // by another process: what this one writes may still be open in what another
+    // test starts at that moment, and a program that is open to be written does not run
+    let copied = finish(Command::new("cp").arg(tool::tool()).arg(&copy));
+    assert_eq!(copied.status, DONE, "{}", copied.err);
     let mut command = Command::new(copy);
     command.args(on_day(arguments)).current_dir(desk.path("."));
     finish(command.uid(NOBODY).gid(NOBODY))
