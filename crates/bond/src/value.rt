@@ -1,5 +1,5 @@
 // The present value of a bond's payments on a curve.
-ghost use Rattle.std.specs.Prelude.{◌≡◌, ◌+◌, ◌-◌, ◌≤◌, ◌<◌, IfSome};
+ghost use Rattle.std.specs.Prelude.{◌≡◌, ◌+◌, ◌-◌, ◌≤◌, ◌<◌, IfOk};
 ghost use Rattle.laws.specs.Walk.{table};
 ghost use Rattle.ground.specs.Limits.{last_day};
 ghost use Rattle.decimal.specs.Product.{unit};
@@ -30,9 +30,9 @@ fn payments_up_to(l: Leg, day: u64) -> u64
 }
 
 // The value of a payment where it is known from the tables.
-fn fine_value_of(c: Curve, f: Flow, tables: Tables<'_>) -> Option<u64>
+fn fine_value_of(c: Curve, f: Flow, tables: Tables<'_>) -> Result<u64, u64>
     requires { ProperCurve c × (f.amount ≤ unit) × (f.day ≤ last_day) }
-    ensures { IfSome result (λ v. v ≡ flow_value (rate_at (nodes_of c)) f) }
+    ensures { IfOk result (λ v. v ≡ flow_value (rate_at (nodes_of c)) f) }
 {
     fine_value_at(tables, f.amount, c.rate_at(f.day), f.day)
 }
@@ -43,8 +43,8 @@ fn value_of(c: Curve, f: Flow, tables: Tables<'_>) -> u64
     ensures { result ≡ flow_value (rate_at (nodes_of c)) f }
 {
     match fine_value_of(c, f, tables) {
-        Some(value) => value,
-        None => present_value(f.amount, c.rate_at(f.day), f.day),
+        Ok(value) => value,
+        Err(_) => present_value(f.amount, c.rate_at(f.day), f.day),
     }
 }
 
@@ -63,7 +63,7 @@ fn value_of_two(c: Curve, f: Flow, g: Flow, tables: Tables<'_>) -> u64
     ensures { result ≡ flow_value (rate_at (nodes_of c)) f + flow_value (rate_at (nodes_of c)) g }
 {
     match (fine_value_of(c, f, tables), fine_value_of(c, g, tables)) {
-        (Some(first), Some(second)) => first + second,
+        (Ok(first), Ok(second)) => first + second,
         _ => value_by_factors(c, f, g),
     }
 }

@@ -19,7 +19,7 @@ pub fn header_verdict(b: &[u8], blocks: usize) -> Result<(), Refusal>
     ensures { result ≡ header_verdict b.now blocks }
 {
     refuse_if(breaks_check(b), Ground::Check, 0)?;
-    refuse_if(breaks_place(b, Kind::Header, 0), Ground::Place, 0)?;
+    refuse_if(breaks_place(b, Kind::Header as u64, 0), Ground::Place, 0)?;
     refuse_if(breaks_header(b, blocks), Ground::Header, 0)
 }
 
@@ -41,7 +41,7 @@ fn trades_verdict(curves: Curves, b: &[u8], k: u64, last: bool) -> Result<(), Re
     ensures { result ≡ trades_verdict curves b.now k last }
 {
     refuse_if(breaks_check(b), Ground::Check, k)?;
-    refuse_if(breaks_place(b, Kind::Trades, k), Ground::Place, k)?;
+    refuse_if(breaks_place(b, Kind::Trades as u64, k), Ground::Place, k)?;
     refuse_if(breaks_trade_block(b, last), Ground::TradeBlock, k)?;
     records_verdict(curves, b, k)
 }

@@ -62,6 +62,9 @@ module _ (x : Components) where
       ∙ rw (length-coefficients x.first, mul_assoc)
 
   module _ (p : ProperComponents x) where
+    pub slow-most : slow x ≤ 49
+    slow-most = mul-le-mul {n₂ = 7} {m₂ = 7} (omega (arith, p.second)) (omega (arith, p.third))
+
     pub two-most : coefficient_count x.first * coefficient_count x.second ≤ 49
     two-most = mul-le-mul {n₂ = 7} {m₂ = 7} (omega (arith, p.first)) (omega (arith, p.second))
 

@@ -114,7 +114,7 @@ pub fn curve_verdict(b: &[u8], k: u64) -> Result<(), Refusal>
     ensures { result ≡ curve_verdict b.now k }
 {
     refuse_if(breaks_check(b), Ground::Check, k)?;
-    refuse_if(breaks_place(b, Kind::Curve, k), Ground::Place, k)?;
+    refuse_if(breaks_place(b, Kind::Curve as u64, k), Ground::Place, k)?;
     refuse_if(breaks_curve(b, k), Ground::Curve, k)?;
     refuse_if(breaks_node(b), Ground::Node, k)
 }

@@ -1,5 +1,5 @@
 // The present value of an amount, where it is known from the fine factor.
-ghost use Rattle.std.specs.Prelude.{◌≡◌, ℕ, ◌*◌, ◌≤◌, IfSome};
+ghost use Rattle.std.specs.Prelude.{◌≡◌, ℕ, ◌*◌, ◌≤◌, IfOk};
 ghost use Rattle.ground.specs.Limits.{last_day};
 ghost use Rattle.decimal.specs.Product.{unit};
 ghost use Rattle.decimal.specs.HalfUp.{half_up};
@@ -20,24 +20,28 @@ fn rounded(amount: u64, c: u64) -> u64
     (scaled::<41>(amount, c) + 1) / 2
 }
 
-// Of an amount at a factor between two numbers: that at both ends, where they agree.
+// Of an amount at a factor between two numbers: that at the lower end, Ok where it is known, since the upper one agrees, and Err where it is open.
 #[tactic(auto, unfolding(crate::specs::FineValue::fine_value_in))]
-pub fn fine_value_in(amount: u64, b: Bracket) -> Option<u64>
+pub fn fine_value_in(amount: u64, b: Bracket) -> Result<u64, u64>
     requires { (amount ≤ unit) × BracketLimits b }
     ensures same { result ≡ fine_value_in amount b }
-    ensures worth { (rate day : ℕ) → InBracket b rate day → IfSome result (λ v. v ≡ present_value amount rate day) }
+    ensures worth { (rate day : ℕ) → InBracket b rate day → IfOk result (λ v. v ≡ present_value amount rate day) }
 {
     let value = rounded(amount, b.low);
     let other = rounded(amount, b.high);
-    (value == other).then_some(value)
+    if value == other {
+        Ok(value)
+    } else {
+        Err(value)
+    }
 }
 
 // Of an amount at a rate on a day.
 #[tactic(auto, unfolding(crate::specs::FineValue::fine_value_at))]
-pub fn fine_value_at(tables: Tables<'_>, amount: u64, rate: u64, day: u64) -> Option<u64>
+pub fn fine_value_at(tables: Tables<'_>, amount: u64, rate: u64, day: u64) -> Result<u64, u64>
     requires { (amount ≤ unit) × (rate ≤ 1_000_000) × (day ≤ last_day) }
     ensures same { result ≡ fine_value_at amount rate day }
-    ensures worth { IfSome result (λ v. v ≡ present_value amount rate day) }
+    ensures worth { IfOk result (λ v. v ≡ present_value amount rate day) }
 {
     fine_value_in(amount, bracket_at(tables, rate, day))
 }

@@ -57,6 +57,7 @@ module _ {curves : Curves} (f : Fields) (r : SoundRecord curves f) where
 
   bought : f.form.kind ≡ 1 → OutrightLimits (outright_of f)
   bought e = record {
+    sides = record { low = r.form.sides.low; high = r.form.sides.high };
     valueday1 = r.days.bought (rw e);
     price = (r.amounts.bought (rw e)).1.1.1;
     accrued = r.amounts.accrued;
@@ -68,8 +69,10 @@ module _ {curves : Curves} (f : Fields) (r : SoundRecord curves f) where
   valueday1 o true e = omega (arith, r.amounts.settled e)
   valueday1 o false e = omega (arith, r.days.ahead o e, (r.days.lent o).1)
 
-  lent : is_outright f.form.kind ≡ false → RepoLimits (repo_of f)
-  lent o = record {
+  lent : is_outright f.form.kind ≡ false → f.form.phase ≤ 3 → RepoLimits (repo_of f)
+  lent o phases = record {
+    sides = record { low = r.form.sides.low; high = r.form.sides.high };
+    phases = phases;
     valueday1 = valueday1 o (has_settled f.form.kind f.form.phase) refl;
     valueday2 = (r.days.lent o).1;
     cash = r.amounts.cash;
@@ -78,14 +81,14 @@ module _ {curves : Curves} (f : Fields) (r : SoundRecord curves f) where
     security = security;
   }
 
-  pub by_kind : (kind : ℕ) → f.form.kind ≡ kind → pick_trade kind f.form.phase (outright_of f) (repo_of f) ≡ trade_of f
+  pub by_kind : (kind : ℕ) → f.form.kind ≡ kind → pick_trade kind (outright_of f) (repo_of f) ≡ trade_of f
   unfolding trade_of
-  by_kind kind e = ap (λ (k : ℕ). pick_trade k f.form.phase (outright_of f) (repo_of f)) (sym e)
+  by_kind kind e = ap (λ (k : ℕ). pick_trade k (outright_of f) (repo_of f)) (sym e)
 
   limits-at : Kind f.form → TradeLimits (trade_of f)
   limits-at (outright kind phase) = subst TradeLimits (by_kind 1 kind) (bought kind)
-  limits-at (pool kind phase) = subst TradeLimits (by_kind 2 kind) (lent (rw kind))
-  limits-at (specified kind phase) = subst TradeLimits (by_kind 3 kind) (lent (rw kind))
+  limits-at (pool kind phase) = subst TradeLimits (by_kind 2 kind) (lent (rw kind) phase.high)
+  limits-at (specified kind phase) = subst TradeLimits (by_kind 3 kind) (lent (rw kind) (omega (arith, phase.high)))
 
   pub trade-limits : TradeLimits (trade_of f)
   trade-limits = limits-at r.form.kinds

@@ -24,8 +24,7 @@ use Rattle.record.specs.declared.Fields.{Fields}
 use Rattle.record.specs.Rules.{breaks_form, breaks_days, breaks_amounts, breaks_currency}
 use Rattle.record.proofs.Limits.{InLimits}
 use Rattle.record.proofs.Facts.{Kind, outright, pool, specified}
-use Rattle.trade.specs.declared.Kind.TheVariants as kinds
-use Rattle.trade.specs.Read.{security_of, side_of, pool_phase_of, specified_phase_of, outright_of, repo_of, trade_of}
+use Rattle.trade.specs.Read.{security_of, outright_of, repo_of, trade_of}
 use Rattle.trade.specs.declared.Trade.{Trade}
 use Rattle.trade.specs.declared.Trade.TheVariants.{Outright, Pool, Specified}
 use Rattle.legs.specs.declared.signs.Signs.{Signs}
@@ -127,11 +126,11 @@ module _ {curves : Curves} (f : Fields) (r : SoundRecord curves f) where
 
   legs-held : Kind f.form → LegsHeld curves.count (legs_of (trade_of f))
   legs-held (outright kind phase) =
-      subst (λ (t : Trade). LegsHeld curves.count (legs_of t)) (by_kind f r 1 kind) (bought-held (signs_of kinds.Outright (side_of f.form.side)))
+      subst (λ (t : Trade). LegsHeld curves.count (legs_of t)) (by_kind f r 1 kind) (bought-held (signs_of 1 0 f.form.side))
   legs-held (pool kind phase) =
-      subst (λ (t : Trade). LegsHeld curves.count (legs_of t)) (by_kind f r 2 kind) (lent-held (signs_of (kinds.Pool (pool_phase_of f.form.phase)) (side_of f.form.side)))
+      subst (λ (t : Trade). LegsHeld curves.count (legs_of t)) (by_kind f r 2 kind) (lent-held (signs_of 2 f.form.phase f.form.side))
   legs-held (specified kind phase) =
-      subst (λ (t : Trade). LegsHeld curves.count (legs_of t)) (by_kind f r 3 kind) (lent-held (signs_of (kinds.Specified (specified_phase_of f.form.phase)) (side_of f.form.side)))
+      subst (λ (t : Trade). LegsHeld curves.count (legs_of t)) (by_kind f r 3 kind) (lent-held (signs_of 3 f.form.phase f.form.side))
 
 -- ---- all of it
 
@@ -167,8 +166,8 @@ signed-count (Some Out) l = omega arith
 cash-few : (t : Trade) → ((legs_of t).first.count ≤ 1) × ((legs_of t).second.count ≤ 1)
 unfolding outright_legs repo_legs
 cash-few (Outright t) = (signed-count _ _, omega arith)
-cash-few (Pool phase t) = (signed-count _ _, signed-count _ _)
-cash-few (Specified phase t) = (signed-count _ _, signed-count _ _)
+cash-few (Pool t) = (signed-count _ _, signed-count _ _)
+cash-few (Specified t) = (signed-count _ _, signed-count _ _)
 
 pub flows-few : {curves : Curves} (f : Fields) → AcceptedRecord curves f → length (flows_of (trade_of f)) ≤ 122
 unfolding flows_of

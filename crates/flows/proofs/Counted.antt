@@ -11,13 +11,12 @@ use Rattle.legs.specs.declared.signs.Direction.TheVariants.{In, Out}
 use Rattle.laws.specs.Select.{select}
 use Rattle.laws.proofs.Select.{select-both, select-whole}
 use Rattle.discount.specs.declared.Flow.{Flow}
-use Rattle.trade.specs.declared.Kind.TheVariants as kind
+use Rattle.record.specs.Uses.{has_settled}
 use Rattle.trade.specs.declared.Security.{Security}
 use Rattle.trade.specs.declared.Security.TheVariants.{Nothing, Single, Coupons, Indexed}
 use Rattle.trade.specs.declared.RepoTrade.{RepoTrade}
 use Rattle.trade.specs.declared.Trade.{Trade}
 use Rattle.trade.specs.declared.Trade.TheVariants.{Outright, Pool, Specified}
-use Rattle.trade.specs.Phases.{first_leg_settled}
 use Rattle.legs.specs.declared.Leg.{Leg}
 use Rattle.flows.specs.Window.{in_repo_window}
 use Rattle.legs.specs.Runs.{no_leg, directed, signed_leg, leg_flows, legs_flows}
@@ -40,12 +39,12 @@ unfolding legs_flows flows_of
 flows-counted (Outright t) =
     let l = legs_of (Outright t) in
     ap (λ (fs : List Flow). leg_flows l.first ++ leg_flows l.second ++ fs) (sym (select-whole (leg_flows l.payments)))
-flows-counted (Pool phase t) =
-    let l = legs_of (Pool phase t) in
-    ap (λ (fs : List Flow). leg_flows l.first ++ leg_flows l.second ++ fs) (counted-flows (first_leg_settled (kind.Pool phase)) t l.payments)
-flows-counted (Specified phase t) =
-    let l = legs_of (Specified phase t) in
-    ap (λ (fs : List Flow). leg_flows l.first ++ leg_flows l.second ++ fs) (counted-flows (first_leg_settled (kind.Specified phase)) t l.payments)
+flows-counted (Pool t) =
+    let l = legs_of (Pool t) in
+    ap (λ (fs : List Flow). leg_flows l.first ++ leg_flows l.second ++ fs) (counted-flows (has_settled 2 t.phase) t l.payments)
+flows-counted (Specified t) =
+    let l = legs_of (Specified t) in
+    ap (λ (fs : List Flow). leg_flows l.first ++ leg_flows l.second ++ fs) (counted-flows (has_settled 3 t.phase) t l.payments)
 
 -- ---- of payments that all come behind the term none counts before the first leg has settled
 

@@ -2,13 +2,12 @@
 use mathlib.Core.Bool.{Bool}
 use Rattle.std.proofs.Common.{Option}
 use Rattle.legs.specs.declared.signs.Direction.{Direction}
-use Rattle.trade.specs.declared.Kind.TheVariants as kind
+use Rattle.record.specs.Uses.{has_settled}
 use Rattle.trade.specs.declared.Security.{Security}
 use Rattle.trade.specs.declared.Security.TheVariants.{Nothing, Single, Coupons, Indexed}
 use Rattle.trade.specs.declared.RepoTrade.{RepoTrade}
 use Rattle.trade.specs.declared.Trade.{Trade}
 use Rattle.trade.specs.declared.Trade.TheVariants.{Outright, Pool, Specified}
-use Rattle.trade.specs.Phases.{first_leg_settled}
 use Rattle.legs.specs.declared.Leg.{Leg}
 use Rattle.legs.specs.declared.Legs.{Legs}
 use Rattle.legs.specs.Runs.{signed_leg}
@@ -32,12 +31,12 @@ trade-reach (Outright t) h = record {
   second = none-reach;
   payments = signed-reach _ _ (payments t.security h.security);
 }
-trade-reach (Pool phase t) h = record {
+trade-reach (Pool t) h = record {
   first = signed-reach _ _ (one-reach _ _ _ h.valueday1);
   second = signed-reach _ _ (one-reach _ _ _ h.valueday2);
   payments = signed-reach _ _ (payments t.security h.security);
 }
-trade-reach (Specified phase t) h = record {
+trade-reach (Specified t) h = record {
   first = signed-reach _ _ (one-reach _ _ _ h.valueday1);
   second = signed-reach _ _ (one-reach _ _ _ h.valueday2);
   payments = signed-reach _ _ (payments t.security h.security);
@@ -50,8 +49,8 @@ repo-reach settled t l h = record { first = h.first; second = h.second; payments
 
 pub counted-legs-reach : (t : Trade) → TradeLimits t → LegsLimits (counted_legs t)
 counted-legs-reach (Outright t) h = trade-reach (Outright t) h
-counted-legs-reach (Pool phase t) h = repo-reach (first_leg_settled (kind.Pool phase)) t (legs_of (Pool phase t)) (trade-reach (Pool phase t) h)
-counted-legs-reach (Specified phase t) h = repo-reach (first_leg_settled (kind.Specified phase)) t (legs_of (Specified phase t)) (trade-reach (Specified phase t) h)
+counted-legs-reach (Pool t) h = repo-reach (has_settled 2 t.phase) t (legs_of (Pool t)) (trade-reach (Pool t) h)
+counted-legs-reach (Specified t) h = repo-reach (has_settled 3 t.phase) t (legs_of (Specified t)) (trade-reach (Specified t) h)
 
 -- ---- with their amounts capped
 

@@ -1,10 +1,9 @@
 -- The payments that a trade counts as the code has them: those of the leg in the window of its kind and phase.
 use Rattle.std.specs.Prelude.{Bool}
-use Rattle.trade.specs.declared.Kind.TheVariants as kind
+use Rattle.record.specs.Uses.{has_settled}
 use Rattle.trade.specs.declared.RepoTrade.{RepoTrade}
 use Rattle.trade.specs.declared.Trade.{Trade}
 use Rattle.trade.specs.declared.Trade.TheVariants.{Outright, Pool, Specified}
-use Rattle.trade.specs.Phases.{first_leg_settled}
 use Rattle.legs.specs.declared.Legs.{Legs}
 use Rattle.legs.specs.Counted.{counted_leg}
 use Rattle.flows.specs.Legs.{legs_of}
@@ -19,5 +18,5 @@ counted_repo settled t l = record {
 
 abbrev pub counted_legs : Trade → Legs
 counted_legs (Outright t) = legs_of (Outright t)
-counted_legs (Pool phase t) = counted_repo (first_leg_settled (kind.Pool phase)) t (legs_of (Pool phase t))
-counted_legs (Specified phase t) = counted_repo (first_leg_settled (kind.Specified phase)) t (legs_of (Specified phase t))
+counted_legs (Pool t) = counted_repo (has_settled 2 t.phase) t (legs_of (Pool t))
+counted_legs (Specified t) = counted_repo (has_settled 3 t.phase) t (legs_of (Specified t))

@@ -9,7 +9,6 @@ use Rattle.trade.specs.declared.Security.{Security}
 use Rattle.trade.specs.declared.Security.TheVariants.{Nothing, Single, Coupons, Indexed}
 use Rattle.trade.specs.declared.OutrightTrade.{OutrightTrade}
 use Rattle.trade.specs.declared.RepoTrade.{RepoTrade}
-use Rattle.trade.specs.declared.Kind.TheVariants as kind
 use Rattle.trade.specs.declared.Trade.{Trade}
 use Rattle.trade.specs.declared.Trade.TheVariants.{Outright, Pool, Specified}
 use Rattle.legs.specs.declared.signs.Signs.{Signs}
@@ -74,9 +73,9 @@ repo_legs s t = record {
 }
 
 abbrev pub legs_of : Trade → Legs
-legs_of (Outright t) = outright_legs (signs_of kind.Outright t.side) t
-legs_of (Pool phase t) = repo_legs (signs_of (kind.Pool phase) t.side) t
-legs_of (Specified phase t) = repo_legs (signs_of (kind.Specified phase) t.side) t
+legs_of (Outright t) = outright_legs (signs_of 1 0 t.side) t
+legs_of (Pool t) = repo_legs (signs_of 2 t.phase t.side) t
+legs_of (Specified t) = repo_legs (signs_of 3 t.phase t.side) t
 
 -- ---- and its flows
 

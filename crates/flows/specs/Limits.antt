@@ -1,5 +1,5 @@
 -- What the numbers of a trade keep to, where the rules 8, 9 and 10 are not broken: none of its amounts then overflows.
-use Rattle.std.specs.Prelude.{◌≤◌, ◌<◌, ◌≡◌, false}
+use Rattle.std.specs.Prelude.{ℕ, ◌≤◌, ◌<◌, ◌≡◌, false}
 use Rattle.decimal.specs.Product.{unit}
 use Rattle.ground.specs.Limits.{last_day}
 use Rattle.record.specs.Uses.{last_payment_day}
@@ -37,13 +37,20 @@ SecurityLimits (Single p) = SingleLimits p
 SecurityLimits (Coupons b) = BondLimits b
 SecurityLimits (Indexed i) = IndexLimits i
 
+pub record Sides (side : ℕ) : Type 0 where
+  pub low : 1 ≤ side
+  pub high : side ≤ 2
+
 pub record OutrightLimits (t : OutrightTrade) : Type 0 where
+  pub sides : Sides t.side
   pub valueday1 : t.valueday1 ≤ last_day
   pub price : t.price.0 ≤ 4000000
   pub accrued : t.accrued ≤ 1000000
   pub security : SecurityLimits t.security
 
 pub record RepoLimits (t : RepoTrade) : Type 0 where
+  pub sides : Sides t.side
+  pub phases : t.phase ≤ 3
   pub valueday1 : t.valueday1 ≤ last_day
   pub valueday2 : t.valueday2 ≤ last_day
   pub cash : t.cash ≤ unit
@@ -53,8 +60,8 @@ pub record RepoLimits (t : RepoTrade) : Type 0 where
 
 abbrev pub TradeLimits : Trade → Type 0
 TradeLimits (Outright t) = OutrightLimits t
-TradeLimits (Pool phase t) = RepoLimits t
-TradeLimits (Specified phase t) = RepoLimits t
+TradeLimits (Pool t) = RepoLimits t
+TradeLimits (Specified t) = RepoLimits t
 
 -- and rule 12 is not broken either: none of its flows is above the largest amount
 pub record SoundTrade (t : Trade) : Type 0 where

@@ -1,10 +1,9 @@
 -- Which payments of its security a trade counts: those in a window of days, by kind and phase (document 02, wish 3).
 use Rattle.std.specs.Prelude.{ℕ, Bool, true, cond, ◌&&◌, leb, ltb}
-use Rattle.trade.specs.declared.Kind.TheVariants as kind
+use Rattle.record.specs.Uses.{has_settled}
 use Rattle.trade.specs.declared.RepoTrade.{RepoTrade}
 use Rattle.trade.specs.declared.Trade.{Trade}
 use Rattle.trade.specs.declared.Trade.TheVariants.{Outright, Pool, Specified}
-use Rattle.trade.specs.Phases.{first_leg_settled}
 
 -- "The security leaves on day 1 and returns on day 2, so payments after day 1 and up to day 2 remain"
 abbrev pub in_term : RepoTrade → ℕ → Bool
@@ -21,5 +20,5 @@ in_repo_window settled t day = cond settled (after_term t day) (in_term t day)
 -- an outright's are all counted
 abbrev pub in_window : Trade → ℕ → Bool
 in_window (Outright t) day = true
-in_window (Pool phase t) day = in_repo_window (first_leg_settled (kind.Pool phase)) t day
-in_window (Specified phase t) day = in_repo_window (first_leg_settled (kind.Specified phase)) t day
+in_window (Pool t) day = in_repo_window (has_settled 2 t.phase) t day
+in_window (Specified t) day = in_repo_window (has_settled 3 t.phase) t day

@@ -4,9 +4,8 @@ ghost use Rattle.decimal.specs.Product.{unit};
 ghost use Rattle.flows.specs.Amounts.{indexed_of};
 ghost use Rattle.legs.specs.Runs.{one_flow, signed_leg};
 ghost use Rattle.legs.specs.Signs.{signs_of};
-ghost use Rattle.trade.specs.Phases.{first_leg_settled};
+ghost use Rattle.record.specs.Uses.{has_settled};
 ghost use Rattle.flows.specs.Legs.{bond_leg, payments_of, first_payment_of, nominal_of, outright_legs, repo_legs};
-ghost use Rattle.trade.specs.declared.Kind.TheVariants as kind;
 ghost use Rattle.trade.specs.declared.Security.TheVariants.{Coupons, Indexed};
 ghost use Rattle.flows.specs.Capped.{capped, capped_leg, capped_legs};
 ghost use Rattle.legs.specs.Counted.{counted_leg};
@@ -17,8 +16,8 @@ use crate::amounts;
 use decimal::round::indexed_by;
 use legs::signs::Direction;
 use legs::{Leg, Legs, signs, simple_legs, window};
-use record::LARGEST;
-use trade::{CouponBond, IndexedBond, Kind, OutrightTrade, RepoTrade, Security, Trade};
+use record::{LARGEST, rules};
+use trade::{CouponBond, IndexedBond, OutrightTrade, RepoTrade, Security, Trade};
 
 #[tactic(auto, unfolding(crate::specs::Capped::capped, decimal::specs::Product::unit))]
 fn cap(amount: u64) -> u64
@@ -115,9 +114,9 @@ fn payment_leg(sign: Option<Direction>, s: Security) -> Leg
 #[tactic(auto, using(crate::proofs::Bounds::bounds), unfolding(crate::specs::Legs::outright_legs, crate::specs::Capped::capped, decimal::specs::Product::unit))]
 fn outright_legs(t: OutrightTrade) -> Legs
     requires { OutrightLimits t }
-    ensures { result ≡ capped_legs (outright_legs (signs_of kind.Outright t.side) t) }
+    ensures { result ≡ capped_legs (outright_legs (signs_of 1 0 t.side) t) }
 {
-    let s = signs::signs_of(Kind::Outright, t.side);
+    let s = signs::signs_of(1, 0, t.side);
     let dirty = t.price.dirty(t.accrued);
     let (_, nominal) = first_and_nominal(t.security);
     let cash = amounts::settlement_cash(nominal, dirty);
@@ -141,18 +140,19 @@ fn repo_payments(settled: bool, sign: Option<Direction>, t: RepoTrade) -> Leg
     window::counted_leg(settled, t.valueday1, t.valueday2, payments)
 }
 
-// The legs of a repo by its kind and phase.
+// The legs of a pool repo, of kind 2, or of a specified repo, of kind 3: `signs_of` and `has_settled` are asked by number.
 #[tactic(auto, unfolding(crate::specs::Legs::repo_legs))]
-fn repo_legs(of: Kind, t: RepoTrade) -> Legs
-    requires { RepoLimits t }
-    ensures { result ≡ capped_legs (counted_repo (first_leg_settled of) t (repo_legs (signs_of of t.side) t)) }
+fn repo_legs(kind: u64, t: RepoTrade) -> Legs
+    requires { RepoLimits t × (2 ≤ kind) × (kind ≤ 3) }
+    ensures { result ≡ capped_legs (counted_repo (has_settled kind t.phase) t (repo_legs (signs_of kind t.phase t.side) t)) }
 {
-    let s = signs::signs_of(of, t.side);
+    let s = signs::signs_of(kind, t.phase, t.side);
+    let settled = rules::has_settled(kind, t.phase);
     let back = amounts::second_leg_cash(t.cash, t.rate, t.term);
     Legs {
         first: cash_leg(s.first, t.cashcurve, t.valueday1, t.cash),
         second: cash_leg(s.second, t.cashcurve, t.valueday2, back),
-        payments: repo_payments(of.first_leg_settled(), s.payments, t),
+        payments: repo_payments(settled, s.payments, t),
     }
 }
 
@@ -162,7 +162,7 @@ pub fn capped_legs(t: Trade) -> Legs
 {
     match t {
         Trade::Outright(o) => outright_legs(o),
-        Trade::Pool(phase, r) => repo_legs(Kind::Pool(phase), r),
-        Trade::Specified(phase, r) => repo_legs(Kind::Specified(phase), r),
+        Trade::Pool(r) => repo_legs(2, r),
+        Trade::Specified(r) => repo_legs(3, r),
     }
 }

@@ -37,6 +37,33 @@ passes next h = rw h
 pub stops : {A : Type 0} {v : Verdict} {r : Refusal} (next : Result A Refusal) → v ≡ Err r → or_else v next ≡ Err r
 stops next h = rw h
 
+-- v, then the rules, each asked where those before it find nothing
+abbrev pub in_turn : Verdict → ℕ → List Rule → Verdict
+in_turn v k [] = v
+in_turn v k (r ∷ rules) = in_turn (or_else v (unless r.0 r.1 k (Ok tt))) k rules
+
+pub in-turn : (v : Verdict) (k : ℕ) (rules : List Rule) → in_turn v k rules ≡ or_else v (first_broken k rules)
+in-turn (Ok tt) k [] = refl
+in-turn (Err e) k [] = refl
+in-turn (Ok tt) k (r ∷ rules) = in-turn (unless r.0 r.1 k (Ok tt)) k rules ∙ go r.0
+  where
+    go : (broken : Bool) → or_else (unless broken r.1 k (Ok tt)) (first_broken k rules) ≡ unless broken r.1 k (first_broken k rules)
+    go true = refl
+    go false = refl
+in-turn (Err e) k (r ∷ rules) = in-turn (Err e) k rules
+
+-- a rule asked behind a verdict, by what the verdict and its test are
+pub also : {v w r : Verdict} {broken rule : Bool} (g : Ground) (k : ℕ) → v ≡ w → broken ≡ rule → r ≡ or_else v (unless broken g k (Ok tt)) → r ≡ or_else w (unless rule g k (Ok tt))
+also g k e f h = h ∙ rw (e, f)
+
+-- past a refusal no rule matters
+pub stopped : {v w : Verdict} {r : Refusal} (k : ℕ) (more : List Rule) → v ≡ w → v ≡ Err r → v ≡ in_turn w k more
+stopped {v} {w} k more e h = h ∙ sym (in-turn w k more ∙ stops (first_broken k more) (sym e ∙ h))
+
+-- and past an acceptance none was broken
+pub passed : {v : Verdict} (k : ℕ) (rules : List Rule) → v ≡ in_turn (Ok tt) k rules → v ≡ Ok tt → (i : ℕ) → (get_or rules i (false, Length)).0 ≡ false
+passed k rules e h = unbroken k rules (sym (in-turn (Ok tt) k rules) ∙ sym e ∙ h)
+
 -- what leaves a function by `?` is the refusal that was passed to it
 pub passed-on : {A : Type 0} (result : Result A Refusal) {e : Refusal} → IsErrAnd result (λ y. y ≡ e) → result ≡ Err e
 passed-on (Ok x) h = absurd h

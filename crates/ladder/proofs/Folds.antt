@@ -57,8 +57,8 @@ module _ {curve : ℕ} {ladder : List ℕ} {schedules i : ℕ} {leg : Leg} (h : 
       pub folded-next : {f : Flow} {b : A} {Left : ℕ → A → Type 0} → f ≡ flow_of leg k → b ≡ step a f → ((n : ℕ) → Room (suc n) a → Left n b) → Folded step Left curve ladder schedules a₀ b i (k + 1)
       folded-next e q more = rw add-one (record { fold = w.fold ∙ (rw (next m, q, e, same) refl); room = more _ room-here })
 
-pub folded-all : {A : Type 0} {step : A → Flow → A} {Room : ℕ → A → Type 0} {curve : ℕ} {ladder : List ℕ} {schedules i : ℕ} {a₀ a : A} → Folded step Room curve ladder schedules a₀ a i 0 → schedules ≤ i → a ≡ foldl step a₀ (ladder_flows curve ladder schedules)
-folded-all {curve = curve} {ladder = ladder} {schedules = schedules} {i = i} w l = sym (rw (flows-end curve ladder schedules i l) at w.fold)
+pub folded-all : {A : Type 0} {step : A → Flow → A} {Room : ℕ → A → Type 0} {curve : ℕ} {ladder : List ℕ} {schedules i k : ℕ} {a₀ a : A} → Folded step Room curve ladder schedules a₀ a i k → schedules ≤ i → a ≡ foldl step a₀ (ladder_flows curve ladder schedules)
+folded-all {curve = curve} {ladder = ladder} {schedules = schedules} {i = i} {k = k} w l = sym (rw (flows-end curve ladder schedules i k l) at w.fold)
 
 -- ---- the fold that adds
 

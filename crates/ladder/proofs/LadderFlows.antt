@@ -8,7 +8,7 @@ use native.Mathlib.Omega.{arith}
 use borrow.Author.Tests.{eqb-false}
 use lib.Dec.{eqb}
 use lib.ListN.{get_or, drop, length-append, get_or-append}
-use lib.Seq.{drop-cons, drop_at}
+use lib.Seq.{drop-nil, drop-cons, drop_at}
 use Rattle.laws.specs.Walk.{table}
 use Rattle.laws.proofs.All.{all_append, all-table}
 use Rattle.laws.proofs.Walk.{get_d-table}
@@ -73,9 +73,9 @@ module _ (curve : ℕ) (ladder : List ℕ) (schedules : ℕ) where
   unfolding flows_from ladder_flows
   flows-all = let e : schedules - 0 ≡ schedules = omega arith in rw e
 
-  pub flows-end : (i : ℕ) → schedules ≤ i → flows_from i 0 ≡ []
+  pub flows-end : (i k : ℕ) → schedules ≤ i → flows_from i k ≡ []
   unfolding flows_from flat_map
-  flows-end i h = rw (table-end (leg_at curve ladder) i schedules h)
+  flows-end i k h = rw (table-end (leg_at curve ladder) i schedules h) (drop-nil k)
 
   module _ (i : ℕ) (h : i < schedules) where
     abbrev l : Leg

@@ -37,7 +37,7 @@ pub fn kept_value(amount: u64, entry: u64) -> Option<u64>
     ensures { (rate day : ℕ) → KeptOn rate day entry → IfSome result (λ v. v ≡ present_value amount rate day) }
 {
     if entry % 2 == 1 {
-        return fine_value_in(amount, bracket_in(entry));
+        return fine_value_in(amount, bracket_in(entry)).ok();
     }
     Some(discounted(amount, entry / 2))
 }

@@ -33,7 +33,7 @@ fn known_value(curve: Curve, f: Flow, tables: Tables<'_>, factors: &mut [u64]) -
     }
     let b = bracket_at(tables, curve.rate_at(f.day), f.day);
     factors[day] = entry_of(b);
-    fine_value_in(f.amount, b)
+    fine_value_in(f.amount, b).ok()
 }
 
 // A total with two flows more, each at the factor of its day, which is kept.

@@ -15,6 +15,10 @@ pub put-none : (s : List ℕ) (at : ℕ) → put s at [] ≡ s
 unfolding put
 put-none s at = refl
 
+pub put-cons : (s : List ℕ) (at b : ℕ) (bs : List ℕ) → put s at (b ∷ bs) ≡ put (set s at b) (suc at) bs
+unfolding put
+put-cons s at b bs = refl
+
 pub put_byte : (s : List ℕ) (at b : ℕ) → put s at (b ∷ []) ≡ set s at b
 unfolding put
 put_byte s at b = refl

@@ -1,5 +1,5 @@
 -- The laws of fields, over the width.
-use Rattle.std.proofs.Common.{◌≡◌, ℕ, zero, suc, ◌+◌, ◌-◌, ◌*◌, ◌/◌, ◌%◌, ◌^◌, ◌<◌, ◌≤◌, Bool, true, false, cond, ltb, ◌⊎◌, List, [], ◌∷◌, ◌++◌, length, set, ℤ, pos, negsuc, ◌-ℤ◌, sym, refl, ap, ◌∙◌, inl, inr, add-zero, pow-suc, arith, drop-cons, get_or-append-add, pow-add, le-ltb, lt-ltb}
+use Rattle.std.proofs.Common.{◌≡◌, ℕ, zero, suc, ◌+◌, ◌-◌, ◌*◌, ◌/◌, ◌%◌, ◌^◌, ◌<◌, ◌≤◌, Bool, true, false, cond, ltb, ◌⊎◌, List, [], ◌∷◌, ◌++◌, length, set, ℤ, pos, negsuc, ◌-ℤ◌, sym, refl, ap, ◌∙◌, inl, inr, add-zero, zero-add, one-mul, pow-suc, arith, drop-cons, get_or-append-add, pow-add, le-ltb, lt-ltb}
 use native.Mathlib.Nat.{pow-zero, two-pow-succ, one-le-pow}
 use lib.Signed.{mag}
 use lib.ListN.{get_or-append}
@@ -33,6 +33,15 @@ field-determines (suc n) s at t place hs ht e (suc k) l =
 pub field-byte : (s : List ℕ) (at : ℕ) → number_at 1 s at ≡ byte_at s at
 unfolding number_at
 field-byte s at = omega arith
+
+-- a field of m + n bytes: the low m, and the n behind them
+pub field-add : (m n : ℕ) (s : List ℕ) (at : ℕ) → number_at (m + n) s at ≡ number_at m s at + 256 ^ m * number_at n s (at + m)
+unfolding number_at
+field-add zero n s at = simp (zero-add, pow-zero, add-zero, one-mul)
+field-add (suc m) n s at =
+    let e : suc m + n ≡ suc (m + n) = omega arith in
+    let f : at + suc m ≡ suc at + m = omega arith in
+    rw (e, f, pow-suc, field-add m n s (suc at)) (omega arith)
 
 pub field_bound : (n : ℕ) (s : List ℕ) (at : ℕ) → AreBytes s → number_at n s at < 256 ^ n
 unfolding number_at

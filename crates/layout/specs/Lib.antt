@@ -2,4 +2,3 @@ pub mod Bytes
 pub mod Field
 pub mod Row
 pub mod Check
-pub mod Kinds

@@ -1,9 +1,8 @@
 // The check of a block of 512 bytes, and its place: one definition, specs/Check.antt, for whoever reads a block, writes one or makes a report.
 ghost use Rattle.std.specs.Prelude.{◌≡◌, length};
 ghost use Rattle.layout.specs.Check.{check_of, sealed, breaks_check, breaks_place};
-ghost use Rattle.layout.specs.Kinds.{kind_number};
 
-use crate::{put_le, u16_at, word_at};
+use crate::{put_le, u16_at, wide, word_at};
 
 // What a block holds, with the number that its first byte has.
 #[derive(Clone, Copy, Debug, PartialEq, Eq)]
@@ -45,11 +44,11 @@ pub fn seal(b: &mut [u8])
     put_le(b, 508, 4, u64::from(sum));
 }
 
-// Ground 3: the kind or the number is not the one that the place calls for.
+// Ground 3: the kind or the number is not the one that the place calls for. Any number may be asked for: laws speak of every kind.
 #[tactic(auto, unfolding(crate::specs::Check::breaks_place))]
-pub fn breaks_place(b: &[u8], kind: Kind, number: u64) -> bool
+pub fn breaks_place(b: &[u8], kind: u64, number: u64) -> bool
     requires { length b.now ≡ 512 }
-    ensures { result ≡ breaks_place b.now (kind_number kind) number }
+    ensures { result ≡ breaks_place b.now kind number }
 {
-    (b[0] != kind as u8) | (u16_at(b, 2) != number)
+    (wide(b[0]) != kind) | (u16_at(b, 2) != number)
 }

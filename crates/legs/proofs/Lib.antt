@@ -1,3 +1,4 @@
+pub mod Table
 pub mod Numbered
 pub mod Counted
 pub mod Reach

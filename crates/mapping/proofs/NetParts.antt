@@ -19,12 +19,18 @@ use Rattle.mapping.specs.Mapping.{mapped_with, NetFlowLimits}
 -- ---- the parts of a flow in its bucket
 
 module _ (f : Flow) (k : Bucket) (s : NetFlowLimits f) (l : BucketLimits k) where
+  pub gone-bound : f.amount * k.gone ≤ 139000000000000000 * 32
+  gone-bound = mul-le-mul {n₂ = 139000000000000000} {m₂ = 32} s.amount (omega (arith, l.few))
+
   pub part-le : last_part k f.amount ≤ f.amount
   unfolding last_part
   part-le = div-le_of_le-mul (k.gone + k.left) (go k.left)
     where
       go : (v : ℕ) → f.amount * k.gone ≤ (k.gone + v) * f.amount
       go v = omega arith
+
+  pub first-limits : NetFlowLimits (first_flow k f)
+  first-limits = record { amount = omega (arith, s.amount); day = l.first }
 
   pub last-limits : NetFlowLimits (last_flow k f)
   last-limits = record { amount = omega (arith, part-le, s.amount); day = l.last }

@@ -8,7 +8,7 @@ pub mod rules;
 pub const LARGEST: u64 = 1_000_000_000_000;
 
 // What kind of trade it is, and the curves that it stands on; `blank` is bytes 6-7. These are the numbers that stand in a record's bytes,
-// whatever they are: the rules 8 to 11 judge them, and a trade has enums in their place.
+// whatever they are: the rules 8 to 11 judge them, and a trade keeps its side and phase as they stand.
 #[derive(Clone, Copy)]
 pub struct Form {
     pub kind: u64,

@@ -1,5 +1,5 @@
 -- The laws of a number in plain decimal.
-use mathlib.Core.Path.{◌≡◌, refl, ◌∙◌, ap}
+use mathlib.Core.Path.{◌≡◌, refl, sym, ◌∙◌, ap}
 use mathlib.Core.Bool.{Bool, true, false, cond}
 use mathlib.Core.List.{List, [], ◌∷◌, ◌++◌}
 use Prim.Native.Nat.{ℕ, zero, suc, ◌+◌, ◌*◌, ◌/◌, ◌%◌, ◌^◌, ◌≤◌, ◌<◌}
@@ -29,6 +29,27 @@ within_more k n h = rw (le-ltb n 10 h)
 pub decimal-one : (n : ℕ) → n < 10 → decimal_of n ≡ digit n ∷ []
 unfolding decimal_of
 decimal-one n h = within-one 19 n h
+
+-- a digit that is not needed changes nothing
+spare : (k n : ℕ) → n < 10 ^ suc k → digits_within (suc k) n ≡ digits_within (suc (suc k)) n
+spare zero n h =
+    let l : n < 10 = omega (arith, pow-suc 10 0, pow-zero 10) in
+    within-one 0 n l ∙ sym (within-one 1 n l)
+spare (suc k) n h = go (dec_lt n 10) (spare k (n / 10) (omega (arith, pow-suc 10 (suc k))))
+  where
+    go : Dec (n < 10) → digits_within (suc k) (n / 10) ≡ digits_within (suc (suc k)) (n / 10) → digits_within (suc (suc k)) n ≡ digits_within (suc (suc (suc k))) n
+    go (yes l) ih = within-one (suc k) n l ∙ sym (within-one (suc (suc k)) n l)
+    go (no l) ih =
+        within_more (suc k) n (omega arith)
+        ∙ ap (λ (s : List ℕ). s ++ (digit (n % 10) ∷ [])) ih
+        ∙ sym (within_more (suc (suc k)) n (omega arith))
+
+pub decimal-more : (n : ℕ) → 10 ≤ n → n < 2 ^ 64 → decimal_of n ≡ decimal_of (n / 10) ++ (digit (n % 10) ∷ [])
+unfolding decimal_of
+decimal-more n h l = within_more 19 n h ∙ ap (λ (s : List ℕ). s ++ (digit (n % 10) ∷ [])) (spare 18 (n / 10) (omega arith))
+
+pub decimal-longer : (n : ℕ) → 10 ≤ n → n < 2 ^ 64 → length (decimal_of n) ≡ length (decimal_of (n / 10)) + 1
+decimal-longer n h l = ap length (decimal-more n h l) ∙ length-append (decimal_of (n / 10)) (digit (n % 10) ∷ [])
 
 -- ---- how long it is
 

@@ -8,26 +8,17 @@ use lib.ListN.{length}
 use Rattle.layout.specs.Bytes.{AreBytes}
 use Rattle.record.specs.declared.Fields.{Fields}
 use Rattle.record.specs.declared.Curves.{Curves}
-use Rattle.record.specs.Uses.{is_outright, has_settled}
+use Rattle.record.specs.Uses.{is_outright}
 use Rattle.record.specs.Bytes.{fields_of, record_bytes}
 use Rattle.record.specs.Rules.{breaks_form, breaks_amounts}
 use Rattle.record.proofs.Facts.{Kind, outright, pool, specified, Formed, formed, Priced, priced}
-use Rattle.record.proofs.Limits.{InLimits}
 use Rattle.record.proofs.RoundTrip.{Narrow, bytes-fields-bytes, fields-bytes-fields}
 use Rattle.trade.specs.declared.Security.{Security}
 use Rattle.trade.specs.declared.Security.TheVariants.{Nothing, Single, Coupons, Indexed}
-use Rattle.trade.specs.declared.Side.{Side}
-use Rattle.trade.specs.declared.Side.TheVariants.{First, Second}
-use Rattle.trade.specs.declared.PoolPhase.{PoolPhase}
-use Rattle.trade.specs.declared.PoolPhase.TheVariants as in_pool
-use Rattle.trade.specs.declared.SpecifiedPhase.{SpecifiedPhase}
-use Rattle.trade.specs.declared.SpecifiedPhase.TheVariants as in_specified
 use Rattle.trade.specs.declared.Trade.{Trade}
 use Rattle.trade.specs.declared.Trade.TheVariants.{Outright, Pool, Specified}
-use Rattle.trade.specs.declared.Kind.TheVariants as kind
-use Rattle.trade.specs.Phases.{first_leg_settled}
-use Rattle.trade.specs.Read.{indexed_bond_of, pick_security, security_of, side_of, pool_phase_of, specified_phase_of, outright_of, repo_of, pick_trade, trade_of}
-use Rattle.trade.specs.Write.{security_number, filled_by, side_number, pool_phase_number, specified_phase_number, fields_of_outright, fields_of_repo, fields_of_trade}
+use Rattle.trade.specs.Read.{indexed_bond_of, pick_security, security_of, outright_of, repo_of, pick_trade, trade_of}
+use Rattle.trade.specs.Write.{security_number, filled_by, fields_of_outright, fields_of_repo, fields_of_trade}
 
 -- ---- from a trade to fields and back
 
@@ -37,49 +28,13 @@ security-back (Single p) = refl
 security-back (Coupons b) = refl
 security-back (Indexed i) = refl
 
-side-back : (s : Side) → side_of (side_number s) ≡ s
-side-back First = refl
-side-back Second = refl
-
-pool-phase-back : (p : PoolPhase) → pool_phase_of (pool_phase_number p) ≡ p
-pool-phase-back in_pool.Unallocated = refl
-pool-phase-back in_pool.Allocated = refl
-pool-phase-back in_pool.Settled = refl
-
-specified-phase-back : (p : SpecifiedPhase) → specified_phase_of (specified_phase_number p) ≡ p
-specified-phase-back in_specified.Allocated = refl
-specified-phase-back in_specified.Settled = refl
-
 pub trade-fields-trade : (t : Trade) → trade_of (fields_of_trade t) ≡ t
 unfolding trade_of security_of fields_of_outright fields_of_repo
-trade-fields-trade (Outright t) = rw (side-back t.side, security-back t.security)
-trade-fields-trade (Pool phase t) = rw (pool-phase-back phase, side-back t.side, security-back t.security)
-trade-fields-trade (Specified phase t) = rw (specified-phase-back phase, side-back t.side, security-back t.security)
+trade-fields-trade (Outright t) = rw (security-back t.security)
+trade-fields-trade (Pool t) = rw (security-back t.security)
+trade-fields-trade (Specified t) = rw (security-back t.security)
 
 -- ---- from fields to a trade and back
-
--- a side and a phase that rule 8 accepts are written as they were read, and the phase says as the numbers do whether the first leg has settled
-
-side-kept : (n : ℕ) → InLimits 1 n 2 → side_number (side_of n) ≡ n
-side-kept zero h = absurd (omega (arith, h.low))
-side-kept (suc zero) h = refl
-side-kept (suc (suc zero)) h = refl
-side-kept (suc (suc (suc n))) h = absurd (omega (arith, h.high))
-
-pub pool-phase-kept : (n : ℕ) → InLimits 1 n 3
-    → (pool_phase_number (pool_phase_of n) ≡ n) × (first_leg_settled (kind.Pool (pool_phase_of n)) ≡ has_settled 2 n)
-pool-phase-kept zero h = absurd (omega (arith, h.low))
-pool-phase-kept (suc zero) h = (refl, refl)
-pool-phase-kept (suc (suc zero)) h = (refl, refl)
-pool-phase-kept (suc (suc (suc zero))) h = (refl, refl)
-pool-phase-kept (suc (suc (suc (suc n)))) h = absurd (omega (arith, h.high))
-
-pub specified-phase-kept : (n : ℕ) → InLimits 1 n 2
-    → (specified_phase_number (specified_phase_of n) ≡ n) × (first_leg_settled (kind.Specified (specified_phase_of n)) ≡ has_settled 3 n)
-specified-phase-kept zero h = absurd (omega (arith, h.low))
-specified-phase-kept (suc zero) h = (refl, refl)
-specified-phase-kept (suc (suc zero)) h = (refl, refl)
-specified-phase-kept (suc (suc (suc n))) h = absurd (omega (arith, h.high))
 
 -- what the rules 8 and 10 leave
 pub record FormAndAmounts (curves : Curves) (f : Fields) : Type 0 where
@@ -115,10 +70,10 @@ module _ {curves : Curves} (f : Fields) (r : FormAndAmounts curves f) where
   unfolding fields_of_outright
   outright-back kind phase =
       let unused = r.amounts.bought (rw kind) in
-      λ i. let whole = filled.1 i in let b = whole.bond in record {
+      λ i. let p = filled.1 i in let b = p.bond in record {
         form = record {
           kind = sym kind i;
-          side = side-kept f.form.side r.form.sides i;
+          side = f.form.side;
           phase = sym phase i;
           securitycurve = b.curve;
           cashcurve = f.form.cashcurve;
@@ -139,19 +94,19 @@ module _ {curves : Curves} (f : Fields) (r : FormAndAmounts curves f) where
           cash = sym unused.1.1.0 i;
           price = f.amounts.price;
           accrued = f.amounts.accrued;
-          index = whole.index;
-          issue = whole.issue;
+          index = p.index;
+          issue = p.issue;
         };
       }
 
-  repo-back : (kind phase : ℕ) → f.form.kind ≡ kind → phase ≡ f.form.phase → is_outright f.form.kind ≡ false → fields_of_repo kind phase (repo_of f) ≡ f
+  repo-back : (kind : ℕ) → f.form.kind ≡ kind → is_outright f.form.kind ≡ false → fields_of_repo kind (repo_of f) ≡ f
   unfolding fields_of_repo
-  repo-back kind phase e p repo =
-      λ i. let whole = filled.1 i in let b = whole.bond in record {
+  repo-back kind e repo =
+      λ i. let p = filled.1 i in let b = p.bond in record {
         form = record {
           kind = sym e i;
-          side = side-kept f.form.side r.form.sides i;
-          phase = p i;
+          side = f.form.side;
+          phase = f.form.phase;
           securitycurve = b.curve;
           cashcurve = f.form.cashcurve;
           security = filled.0 i;
@@ -171,20 +126,20 @@ module _ {curves : Curves} (f : Fields) (r : FormAndAmounts curves f) where
           cash = f.amounts.cash;
           price = f.amounts.price;
           accrued = sym (r.amounts.lent repo).0 i;
-          index = whole.index;
-          issue = whole.issue;
+          index = p.index;
+          issue = p.issue;
         };
       }
 
   -- the trade by the record's kind
-  by_kind : (kind : ℕ) → f.form.kind ≡ kind → fields_of_trade (trade_of f) ≡ fields_of_trade (pick_trade kind f.form.phase (outright_of f) (repo_of f))
+  by_kind : (kind : ℕ) → f.form.kind ≡ kind → fields_of_trade (trade_of f) ≡ fields_of_trade (pick_trade kind (outright_of f) (repo_of f))
   unfolding trade_of
-  by_kind kind e = ap (λ (k : ℕ). fields_of_trade (pick_trade k f.form.phase (outright_of f) (repo_of f))) e
+  by_kind kind e = ap (λ (k : ℕ). fields_of_trade (pick_trade k (outright_of f) (repo_of f))) e
 
   trade-at : Kind f.form → fields_of_trade (trade_of f) ≡ f
   trade-at (outright kind phase) = by_kind 1 kind ∙ outright-back kind phase
-  trade-at (pool kind phase) = by_kind 2 kind ∙ repo-back 2 _ kind (pool-phase-kept f.form.phase phase).0 (rw kind)
-  trade-at (specified kind phase) = by_kind 3 kind ∙ repo-back 3 _ kind (specified-phase-kept f.form.phase phase).0 (rw kind)
+  trade-at (pool kind phase) = by_kind 2 kind ∙ repo-back 2 kind (rw kind)
+  trade-at (specified kind phase) = by_kind 3 kind ∙ repo-back 3 kind (rw kind)
 
 pub fields-trade-fields : (curves : Curves) (f : Fields) → breaks_form curves f.form ≡ false → breaks_amounts f.form f.days f.amounts ≡ false
     → fields_of_trade (trade_of f) ≡ f

@@ -1,4 +1,3 @@
-pub mod Phases
 pub mod Prices
 pub mod Read
 pub mod Write

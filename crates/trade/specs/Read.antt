@@ -7,12 +7,6 @@ use Rattle.trade.specs.declared.CouponBond.{CouponBond}
 use Rattle.trade.specs.declared.IndexedBond.{IndexedBond}
 use Rattle.trade.specs.declared.Security.{Security}
 use Rattle.trade.specs.declared.Security.TheVariants.{Nothing, Single, Coupons, Indexed}
-use Rattle.trade.specs.declared.Side.{Side}
-use Rattle.trade.specs.declared.Side.TheVariants.{First, Second}
-use Rattle.trade.specs.declared.PoolPhase.{PoolPhase}
-use Rattle.trade.specs.declared.PoolPhase.TheVariants as pool
-use Rattle.trade.specs.declared.SpecifiedPhase.{SpecifiedPhase}
-use Rattle.trade.specs.declared.SpecifiedPhase.TheVariants as specified
 use Rattle.trade.specs.declared.OutrightTrade.{OutrightTrade}
 use Rattle.trade.specs.declared.RepoTrade.{RepoTrade}
 use Rattle.trade.specs.declared.Trade.{Trade}
@@ -42,20 +36,9 @@ pick_security number single bond indexed =
 unfoldable pub security_of : Fields → Security
 security_of f = pick_security f.form.security (single_payment_of f) (coupon_bond_of f) (indexed_bond_of f)
 
--- "side (1 buyer or repo member, 2 seller or reverse-repo member)"
-abbrev pub side_of : ℕ → Side
-side_of number = cond (eqb number 1) First Second
-
--- "phase (0 outright, 1 to 3 pool, 1 to 2 specified)"
-abbrev pub pool_phase_of : ℕ → PoolPhase
-pool_phase_of number = cond (eqb number 1) pool.Unallocated (cond (eqb number 2) pool.Allocated pool.Settled)
-
-abbrev pub specified_phase_of : ℕ → SpecifiedPhase
-specified_phase_of number = cond (eqb number 1) specified.Allocated specified.Settled
-
 abbrev pub outright_of : Fields → OutrightTrade
 outright_of f = record {
-  side = side_of f.form.side;
+  side = f.form.side;
   cashcurve = f.form.cashcurve;
   valueday1 = f.days.valueday1;
   price = record { 0 = f.amounts.price };
@@ -65,7 +48,8 @@ outright_of f = record {
 
 abbrev pub repo_of : Fields → RepoTrade
 repo_of f = record {
-  side = side_of f.form.side;
+  side = f.form.side;
+  phase = f.form.phase;
   cashcurve = f.form.cashcurve;
   valueday1 = f.days.valueday1;
   valueday2 = f.days.valueday2;
@@ -76,9 +60,8 @@ repo_of f = record {
 }
 
 -- "kind (1 outright, 2 pool repo, 3 specified repo)"
-abbrev pub pick_trade : ℕ → ℕ → OutrightTrade → RepoTrade → Trade
-pick_trade kind phase outright repo =
-    cond (is_outright kind) (Outright outright) (cond (is_pool kind) (Pool (pool_phase_of phase) repo) (Specified (specified_phase_of phase) repo))
+abbrev pub pick_trade : ℕ → OutrightTrade → RepoTrade → Trade
+pick_trade kind outright repo = cond (is_outright kind) (Outright outright) (cond (is_pool kind) (Pool repo) (Specified repo))
 
 unfoldable pub trade_of : Fields → Trade
-trade_of f = pick_trade f.form.kind f.form.phase (outright_of f) (repo_of f)
+trade_of f = pick_trade f.form.kind (outright_of f) (repo_of f)

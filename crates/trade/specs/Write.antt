@@ -4,12 +4,6 @@ use Rattle.record.specs.declared.Fields.{Fields}
 use Rattle.trade.specs.declared.IndexedBond.{IndexedBond}
 use Rattle.trade.specs.declared.Security.{Security}
 use Rattle.trade.specs.declared.Security.TheVariants.{Nothing, Single, Coupons, Indexed}
-use Rattle.trade.specs.declared.Side.{Side}
-use Rattle.trade.specs.declared.Side.TheVariants.{First, Second}
-use Rattle.trade.specs.declared.PoolPhase.{PoolPhase}
-use Rattle.trade.specs.declared.PoolPhase.TheVariants as pool
-use Rattle.trade.specs.declared.SpecifiedPhase.{SpecifiedPhase}
-use Rattle.trade.specs.declared.SpecifiedPhase.TheVariants as specified
 use Rattle.trade.specs.declared.OutrightTrade.{OutrightTrade}
 use Rattle.trade.specs.declared.RepoTrade.{RepoTrade}
 use Rattle.trade.specs.declared.Trade.{Trade}
@@ -29,24 +23,9 @@ filled_by (Single p) = record { bond = record { curve = p.curve; first = p.first
 filled_by (Coupons b) = record { bond = b; index = 0; issue = 0 }
 filled_by (Indexed i) = i
 
--- "side (1 buyer or repo member, 2 seller or reverse-repo member)"
-abbrev pub side_number : Side → ℕ
-side_number First = 1
-side_number Second = 2
-
--- "phase (0 outright, 1 to 3 pool, 1 to 2 specified)"
-abbrev pub pool_phase_number : PoolPhase → ℕ
-pool_phase_number pool.Unallocated = 1
-pool_phase_number pool.Allocated = 2
-pool_phase_number pool.Settled = 3
-
-abbrev pub specified_phase_number : SpecifiedPhase → ℕ
-specified_phase_number specified.Allocated = 1
-specified_phase_number specified.Settled = 2
-
 unfoldable pub fields_of_outright : OutrightTrade → Fields
 fields_of_outright t = let i = filled_by t.security in let b = i.bond in record {
-  form = record { kind = 1; side = side_number t.side; phase = 0; securitycurve = b.curve; cashcurve = t.cashcurve; security = security_number t.security; blank = 0 };
+  form = record { kind = 1; side = t.side; phase = 0; securitycurve = b.curve; cashcurve = t.cashcurve; security = security_number t.security; blank = 0 };
   days = record { valueday1 = t.valueday1; valueday2 = 0; first = b.first; period = b.period; payments = b.payments; term = 0 };
   amounts = record {
     coupon = b.coupon;
@@ -59,9 +38,9 @@ fields_of_outright t = let i = filled_by t.security in let b = i.bond in record 
   };
 }
 
-unfoldable pub fields_of_repo : ℕ → ℕ → RepoTrade → Fields
-fields_of_repo kind phase t = let i = filled_by t.security in let b = i.bond in record {
-  form = record { kind = kind; side = side_number t.side; phase = phase; securitycurve = b.curve; cashcurve = t.cashcurve; security = security_number t.security; blank = 0 };
+unfoldable pub fields_of_repo : ℕ → RepoTrade → Fields
+fields_of_repo kind t = let i = filled_by t.security in let b = i.bond in record {
+  form = record { kind = kind; side = t.side; phase = t.phase; securitycurve = b.curve; cashcurve = t.cashcurve; security = security_number t.security; blank = 0 };
   days = record { valueday1 = t.valueday1; valueday2 = t.valueday2; first = b.first; period = b.period; payments = b.payments; term = t.term };
   amounts = record {
     coupon = b.coupon;
@@ -76,5 +55,5 @@ fields_of_repo kind phase t = let i = filled_by t.security in let b = i.bond in 
 
 abbrev pub fields_of_trade : Trade → Fields
 fields_of_trade (Outright t) = fields_of_outright t
-fields_of_trade (Pool phase t) = fields_of_repo 2 (pool_phase_number phase) t
-fields_of_trade (Specified phase t) = fields_of_repo 3 (specified_phase_number phase) t
+fields_of_trade (Pool t) = fields_of_repo 2 t
+fields_of_trade (Specified t) = fields_of_repo 3 t

@@ -1,9 +1,6 @@
 // A trade as an enum of its kinds, with the security inside, made from a record's fields.
 #![tactic(auto)]
 
-ghost use Rattle.std.specs.Prelude.{◌≡◌};
-ghost use Rattle.trade.specs.Phases.{first_leg_settled};
-
 pub mod price;
 pub mod read;
 
@@ -43,31 +40,10 @@ pub enum Security {
     Indexed(IndexedBond),
 }
 
-// Whose trade it is: the first side's, the buyer or repo member, or the second's, the seller or reverse-repo member.
-#[derive(Clone, Copy, PartialEq, Eq, Debug)]
-pub enum Side {
-    First,
-    Second,
-}
-
-// How far a pool repo is: with no security yet, with one before the first leg, or with the first leg settled.
-#[derive(Clone, Copy, PartialEq, Eq, Debug)]
-pub enum PoolPhase {
-    Unallocated,
-    Allocated,
-    Settled,
-}
-
-// How far a specified repo is: before its first leg, or with the first leg settled.
-#[derive(Clone, Copy, PartialEq, Eq, Debug)]
-pub enum SpecifiedPhase {
-    Allocated,
-    Settled,
-}
-
+// A trade's side and phase are the numbers of its record: `trade_of` takes every record, and `trade-fields-trade` is said of every number.
 #[derive(Clone, Copy)]
 pub struct OutrightTrade {
-    pub side: Side,
+    pub side: u64,
     pub cashcurve: u64,
     pub valueday1: u64,
     pub price: Clean,
@@ -77,7 +53,8 @@ pub struct OutrightTrade {
 
 #[derive(Clone, Copy)]
 pub struct RepoTrade {
-    pub side: Side,
+    pub side: u64,
+    pub phase: u64,
     pub cashcurve: u64,
     pub valueday1: u64,
     pub valueday2: u64,
@@ -90,27 +67,6 @@ pub struct RepoTrade {
 #[derive(Clone, Copy)]
 pub enum Trade {
     Outright(OutrightTrade),
-    Pool(PoolPhase, RepoTrade),
-    Specified(SpecifiedPhase, RepoTrade),
-}
-
-// A trade's kind, with the phase of a repo.
-#[derive(Clone, Copy, PartialEq, Eq, Debug)]
-pub enum Kind {
-    Outright,
-    Pool(PoolPhase),
-    Specified(SpecifiedPhase),
-}
-
-impl Kind {
-    // Whether a repo's first leg has settled.
-    pub fn first_leg_settled(self) -> bool
-        ensures { result ≡ first_leg_settled self }
-    {
-        match self {
-            Kind::Outright => false,
-            Kind::Pool(phase) => phase == PoolPhase::Settled,
-            Kind::Specified(phase) => phase == SpecifiedPhase::Settled,
-        }
-    }
+    Pool(RepoTrade),
+    Specified(RepoTrade),
 }

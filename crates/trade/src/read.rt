@@ -1,13 +1,10 @@
 // A trade from a record's fields.
 ghost use Rattle.std.specs.Prelude.{◌≡◌};
 ghost use Rattle.trade.specs.Read.{single_payment_of, coupon_bond_of, indexed_bond_of, pick_security, security_of};
-ghost use Rattle.trade.specs.Read.{side_of, pool_phase_of, specified_phase_of, outright_of, repo_of, pick_trade, trade_of};
+ghost use Rattle.trade.specs.Read.{outright_of, repo_of, pick_trade, trade_of};
 
 use crate::price::Clean;
-use crate::{
-    CouponBond, IndexedBond, OutrightTrade, PoolPhase, RepoTrade, Security, Side, SinglePayment,
-    SpecifiedPhase, Trade,
-};
+use crate::{CouponBond, IndexedBond, OutrightTrade, RepoTrade, Security, SinglePayment, Trade};
 use record::Fields;
 
 fn single_payment_of(f: Fields) -> SinglePayment
@@ -72,39 +69,11 @@ fn security_of(f: Fields) -> Security
     )
 }
 
-fn side_of(number: u64) -> Side
-    ensures { result ≡ side_of number }
-{
-    match number {
-        1 => Side::First,
-        _ => Side::Second,
-    }
-}
-
-fn pool_phase_of(number: u64) -> PoolPhase
-    ensures { result ≡ pool_phase_of number }
-{
-    match number {
-        1 => PoolPhase::Unallocated,
-        2 => PoolPhase::Allocated,
-        _ => PoolPhase::Settled,
-    }
-}
-
-fn specified_phase_of(number: u64) -> SpecifiedPhase
-    ensures { result ≡ specified_phase_of number }
-{
-    match number {
-        1 => SpecifiedPhase::Allocated,
-        _ => SpecifiedPhase::Settled,
-    }
-}
-
 fn outright_of(f: Fields) -> OutrightTrade
     ensures { result ≡ outright_of f }
 {
     OutrightTrade {
-        side: side_of(f.form.side),
+        side: f.form.side,
         cashcurve: f.form.cashcurve,
         valueday1: f.days.valueday1,
         price: Clean(f.amounts.price),
@@ -117,7 +86,8 @@ fn repo_of(f: Fields) -> RepoTrade
     ensures { result ≡ repo_of f }
 {
     RepoTrade {
-        side: side_of(f.form.side),
+        side: f.form.side,
+        phase: f.form.phase,
         cashcurve: f.form.cashcurve,
         valueday1: f.days.valueday1,
         valueday2: f.days.valueday2,
@@ -128,14 +98,14 @@ fn repo_of(f: Fields) -> RepoTrade
     }
 }
 
-// The trade of a kind and phase, from what it would be of each.
-fn pick_trade(kind: u64, phase: u64, outright: OutrightTrade, repo: RepoTrade) -> Trade
-    ensures { result ≡ pick_trade kind phase outright repo }
+// The trade of a kind, from what it would be of each.
+fn pick_trade(kind: u64, outright: OutrightTrade, repo: RepoTrade) -> Trade
+    ensures { result ≡ pick_trade kind outright repo }
 {
     match kind {
         1 => Trade::Outright(outright),
-        2 => Trade::Pool(pool_phase_of(phase), repo),
-        _ => Trade::Specified(specified_phase_of(phase), repo),
+        2 => Trade::Pool(repo),
+        _ => Trade::Specified(repo),
     }
 }
 
@@ -143,5 +113,5 @@ fn pick_trade(kind: u64, phase: u64, outright: OutrightTrade, repo: RepoTrade) -
 pub fn trade_of(f: Fields) -> Trade
     ensures { result ≡ trade_of f }
 {
-    pick_trade(f.form.kind, f.form.phase, outright_of(f), repo_of(f))
+    pick_trade(f.form.kind, outright_of(f), repo_of(f))
 }

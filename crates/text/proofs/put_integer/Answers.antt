@@ -16,4 +16,4 @@ pub returns-clause-text_written : goal.returns-clause-text_written
 returns-clause-text_written c =
     let v = c.ranges.v in
     let size_is = rw (code_read _ v) at c.size_of-size.ensures.value in
-    rw (sign-natural decimal_of _ (natural-of _ v c.if-v-lt0.false)) (rw size_is at c.put_digits-2.ensures)
+    rw (sign-natural decimal_of _ (natural-of _ v c.if-v-lt0.false).0) (rw size_is at c.put_digits-2.ensures)

@@ -8,4 +8,4 @@ use Rattle.bond.proofs.value.value_of_two.Goals as goal
 pub overflow_add-result : goal.overflow_add-result
 unfolding unit
 overflow_add-result c =
-    omega (arith, c.in-Some-Some.ensures, c.in-Some-Some.ensures', two-most (nodes_of c.args.c) c.args.f c.args.g c.requires.1 c.requires.2)
+    omega (arith, c.in-Ok-Ok.ensures, c.in-Ok-Ok.ensures', two-most (nodes_of c.args.c) c.args.f c.args.g c.requires.1 c.requires.2)

@@ -26,4 +26,4 @@ returns-clause-text_written c =
     let counted = c.digit_count-digits in
     let long : length (money_text (nat_abs c.args.v)) ≡ counted.result + 3 = omega (arith, ap (λ (n : ℕ). length (money_text n)) size_is, counted.ensures, length-money c.size_of-size.result) in
     let left : c.args.width - length (money_text (nat_abs c.args.v)) ≡ c.args.width - 3 - counted.result = omega (arith, long) in
-    rw (sign-natural money_text c.args.v (natural-of _ v c.if-v-lt0.false), left) (and_then c.put_blanks-first.ensures (rw size_is at c.put_money-2.ensures))
+    rw (sign-natural money_text c.args.v (natural-of _ v c.if-v-lt0.false).0, left) (and_then c.put_blanks-first.ensures (rw size_is at c.put_money-2.ensures))
